@@ -1,0 +1,146 @@
+//! A source and a sink in memory of which given calls fail, for tests of faults in mid-stream. Each is the steady
+//! one beside the numbers of those calls; calls are numbered from 0.
+ghost use Rattle.std.specs.Prelude.{◌≡◌, ◌≢◌, ◌≤◌, ◌<◌, ◌↔◌, [], ◌++◌, length, take, min, if◌then◌else◌, is_err, IfOk, OnErr, IsErr, Contains};
+ghost use Rattle.io_ports.specs.Counts.{next_count};
+
+use crate::sink::{Sink, SinkFault};
+use crate::source::{ReadFailed, Source};
+use crate::steady::{SteadySink, SteadySource};
+use std::alloc::{AllocError, Global};
+use std::marker::Model;
+
+/// Bytes in memory, of which some reads fail.
+#[derive(Drop, Debug)]
+pub struct MemorySource {
+    bytes: SteadySource,
+    fail_at: Vec<u64>,
+    calls: u64,
+    faults: u64,
+}
+
+impl Model for MemorySource {
+    ghost use Rattle.io_ports.specs.Scripts.{SourceScript};
+
+    ghost Value = { SourceScript };
+
+    ghost view = { λ s. record { left = s.bytes; fail_at = s.fail_at.items; calls = s.calls; faults = s.faults } };
+}
+
+impl MemorySource {
+    /// A source of these bytes, whose calls of these numbers fail.
+    pub fn new(alloc: Global, bytes: Vec<u8>, fail_at: Vec<u64>) -> Result<Self, AllocError>
+        ensures { IfOk result (λ source.
+            source ≡ record { left = bytes.items; fail_at = fail_at.items; calls = 0; faults = 0 }) }
+    {
+        Ok(MemorySource {
+            bytes: SteadySource::new(alloc, bytes)?,
+            fail_at,
+            calls: 0,
+            faults: 0,
+        })
+    }
+}
+
+impl Source for MemorySource {
+    ghost use Rattle.std.specs.declared.option.Option.TheVariants.{Some};
+
+    ghost left = { λ s. Some s.left };
+
+    ghost faults = { λ s. s.faults };
+
+    fn read(&mut self, buf: &mut [u8]) -> Result<usize, ReadFailed>
+        requires { 0 < length buf.old }
+
+        ensures count { IfOk result (λ count. count ≡ min (length self.old.left) (length buf.new)) }
+        ensures moved { IfOk result (λ count. self.old.left ≡ take count buf.new ++ self.new.left) }
+        ensures end { IfOk result (λ count. count ≡ 0 → self.new.left ≡ []) }
+        ensures kept { OnErr result (self.new.left ≡ self.old.left) }
+
+        // Which calls fail, and how they are counted.
+        ensures fails { IsErr result ↔ Contains self.old.fail_at self.old.calls }
+        ensures fail_at { self.new.fail_at ≡ self.old.fail_at }
+        ensures calls { self.new.calls ≡ next_count self.old.calls }
+        ensures faults { self.new.faults ≡
+            (if is_err result then next_count self.old.faults else self.old.faults) }
+        ensures never_falls { self.old.faults ≤ self.new.faults }
+    {
+        let fails = self.fail_at.contains(&self.calls);
+        self.calls = self.calls.saturating_add(1);
+        if fails {
+            self.faults = self.faults.saturating_add(1);
+            return Err(ReadFailed);
+        }
+        self.bytes.read(buf)
+    }
+}
+
+/// Bytes in memory that writes append to, of which some fail.
+#[derive(Drop, Debug)]
+pub struct MemorySink {
+    bytes: SteadySink,
+    fail_at: Vec<u64>,
+    calls: u64,
+    faults: u64,
+}
+
+impl Model for MemorySink {
+    ghost use Rattle.io_ports.specs.Scripts.{SinkScript};
+
+    ghost Value = { SinkScript };
+
+    ghost view = { λ s. record { held = s.bytes; fail_at = s.fail_at.items; calls = s.calls; faults = s.faults } };
+}
+
+impl MemorySink {
+    /// A sink that holds nothing, whose calls of these numbers fail.
+    pub fn new(alloc: Global, fail_at: Vec<u64>) -> Result<Self, AllocError>
+        ensures { IfOk result (λ sink.
+            sink ≡ record { held = []; fail_at = fail_at.items; calls = 0; faults = 0 }) }
+    {
+        Ok(MemorySink {
+            bytes: SteadySink::new(alloc)?,
+            fail_at,
+            calls: 0,
+            faults: 0,
+        })
+    }
+
+    /// The bytes written.
+    pub fn held(&self) -> &[u8]
+        ensures { result.now ≡ self.now.held }
+    {
+        self.bytes.held()
+    }
+}
+
+impl Sink for MemorySink {
+    ghost use Rattle.std.specs.declared.option.Option.TheVariants.{Some};
+
+    ghost held = { λ s. Some s.held };
+
+    ghost faults = { λ s. s.faults };
+
+    fn write(&mut self, alloc: Global, bytes: &[u8]) -> Result<usize, SinkFault>
+        requires { 0 < length bytes.now }
+
+        ensures all { IfOk result (λ count. count ≡ length bytes.now) }
+        ensures appended { IfOk result (λ _. self.new.held ≡ self.old.held ++ bytes.now) }
+        ensures kept { OnErr result (self.new.held ≡ self.old.held) }
+
+        // Which calls fail, and how they are counted.
+        ensures fails { (result ≡ Err SinkFault.Failed) ↔ Contains self.old.fail_at self.old.calls }
+        ensures fail_at { self.new.fail_at ≡ self.old.fail_at }
+        ensures calls { self.new.calls ≡ next_count self.old.calls }
+        ensures counted { result ≡ Err SinkFault.Failed → self.new.faults ≡ next_count self.old.faults }
+        ensures not_counted { result ≢ Err SinkFault.Failed → self.new.faults ≡ self.old.faults }
+        ensures never_falls { self.old.faults ≤ self.new.faults }
+    {
+        let fails = self.fail_at.contains(&self.calls);
+        self.calls = self.calls.saturating_add(1);
+        if fails {
+            self.faults = self.faults.saturating_add(1);
+            return Err(SinkFault::Failed);
+        }
+        self.bytes.write(alloc, bytes)
+    }
+}

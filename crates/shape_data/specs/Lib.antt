@@ -1,0 +1,6 @@
+pub mod Heap
+pub mod Machine
+pub mod Meaning
+pub mod Names
+pub mod Valid
+pub mod WellFormed

@@ -1,0 +1,14 @@
+pub mod Agree
+pub mod Atoms
+pub mod Cells
+pub mod Chains
+pub mod Changes
+pub mod Continued
+pub mod FrameRuns
+pub mod FrameSteps
+pub mod Meets
+pub mod Returning
+pub mod StepsKept
+pub mod StepsStacks
+pub mod Sums
+pub mod Unions

@@ -1,0 +1,1 @@
+int id(int a) { return a; }
