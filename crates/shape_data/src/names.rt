@@ -2,7 +2,7 @@
 //! pairwise in loops, since lists come from files and stores and may be long.
 ghost use Rattle.std.specs.Prelude.{◌≡◌, ◌≢◌, ◌↔◌, All, IsTrue};
 ghost use Rattle.std.specs.List.{list_all};
-ghost use Rattle.shape_data.specs.Names.{is_name_start as is_start, is_name_byte as is_inner, IsCName, HaveDifferentNames};
+ghost use Rattle.shape_data.specs.Names.{is_name_start, is_name_byte, IsCName, HaveDifferentNames};
 
 use shape_types::answer::Callee;
 use shape_types::name::Name;
@@ -18,20 +18,23 @@ pub trait Named {
         ensures { result.now ≡ name_of self.now };
 }
 
-fn is_name_start(byte: u8) -> bool
-    ensures { result ≡ is_start byte }
+/// Whether a C name may begin with the byte: a letter or an underscore.
+pub fn is_name_start(byte: u8) -> bool
+    ensures { result ≡ is_name_start byte }
 {
     byte.is_ascii_alphabetic() || byte == b'_'
 }
 
-fn is_name_byte(byte: u8) -> bool
-    ensures { result ≡ is_inner byte }
+/// Whether the byte may stand in a C name: a letter, an underscore or a digit.
+pub fn is_name_byte(byte: u8) -> bool
+    ensures { result ≡ is_name_byte byte }
 {
     is_name_start(byte) || byte.is_ascii_digit()
 }
 
-fn are_name_bytes(bytes: &[u8]) -> bool
-    ensures { result ≡ list_all is_inner bytes.now }
+/// Whether each byte may stand in a C name.
+pub fn are_name_bytes(bytes: &[u8]) -> bool
+    ensures { result ≡ list_all is_name_byte bytes.now }
 {
     bytes.iter().all(|byte| is_name_byte(*byte))
 }

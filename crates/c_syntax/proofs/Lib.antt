@@ -1,0 +1,14 @@
+pub mod Booleans
+pub mod DeclaredNames
+pub mod Different
+pub mod FindingLemmas
+pub mod Frames
+pub mod Fronts
+pub mod LexingLemmas
+pub mod NamesIn
+pub mod Numerals
+pub mod OneReading
+pub mod Units
+pub mod Values
+pub mod WellFormedUnits
+pub mod WholeFiles
