@@ -1,0 +1,46 @@
+//! The program. It hands the real words, standard input and standard output to the top call, and ends with the number
+//! of its status; what is promised of it is that call's contract.
+#![tactic(auto)]
+
+use heapan_top::run;
+use io_ports::{ReaderSource, WriterSink};
+use std::process::ExitCode;
+use std::rt::Env;
+use std::{env, io};
+
+/// What the process ends with where memory for the words is refused; nothing is written then.
+const NO_MEMORY: u8 = 8;
+
+/// The words behind the program's name.
+fn words<R: Env + AllocGlobal>(rt: &R) -> io::Result<Vec<String>> {
+    let mut all = Vec::new(rt.alloc());
+    for word in env::args(rt)?.skip(1) {
+        all.push(word)?;
+    }
+    Ok(all)
+}
+
+/// Runs the top call on the process's own words and streams. Words that are not text are other words than those that
+/// the program takes, as no words are.
+fn status<R: Env + AllocGlobal + Input + Print>(rt: &R) -> u8 {
+    let texts = match words(rt) {
+        Ok(texts) => texts,
+        Err(fault) if fault.kind() == io::ErrorKind::OutOfMemory => return NO_MEMORY,
+        Err(_) => Vec::new(rt.alloc()),
+    };
+    let mut words = Vec::new(rt.alloc());
+    for text in &texts {
+        if words.push(text.as_str()).is_err() {
+            return NO_MEMORY;
+        }
+    }
+    let mut source = ReaderSource::new(rt.reader());
+    let mut sink = WriterSink::new(io::writer(rt));
+    run(rt.alloc(), words.as_slice(), &mut source, &mut sink)
+        .status
+        .code()
+}
+
+fn main(rt: HostRuntime) -> ExitCode {
+    ExitCode::from(status(&rt))
+}

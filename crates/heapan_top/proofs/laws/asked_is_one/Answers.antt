@@ -1,0 +1,6 @@
+-- A stream is one request at most, and a file one procedure.
+use Rattle.heapan_top.proofs.Asking.{asked_once}
+use Rattle.heapan_top.proofs.laws.asked_is_one.Goals as goal
+
+pub returns : goal.returns
+returns c = asked_once

@@ -1,0 +1,13 @@
+-- The numbers that the process ends with.
+use Rattle.std.specs.Prelude.{ℕ}
+use Rattle.heapan_top.specs.declared.status.Status.{Status}
+use Rattle.heapan_top.specs.declared.status.Status.TheVariants as status
+
+-- the number of a status; 1, 5 and 7 are not used
+abbrev pub code_of : Status → ℕ
+code_of status.Done = 0
+code_of (status.Refused command offset) = 2
+code_of status.ReadFault = 3
+code_of status.WriteFault = 4
+code_of status.Usage = 6
+code_of status.NoMemory = 8

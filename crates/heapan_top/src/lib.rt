@@ -1,0 +1,14 @@
+//! The one call that does everything: it reads commands, analyses what they put, and writes the replies.
+#![tactic(auto)]
+
+pub mod laws;
+mod replies;
+mod requests;
+mod session;
+mod status;
+#[cfg(test)]
+mod tests;
+mod texts;
+
+pub use session::run;
+pub use status::{Outcome, Status};

@@ -1,0 +1,43 @@
+//! How a call of the program ended.
+
+/// How it ended, with the number that the process ends with.
+#[derive(Clone, Copy, PartialEq, Eq, Debug)]
+pub enum Status {
+    /// All was read and answered.
+    Done,
+    /// A command is malformed: its number, from 1, and the offset of its first byte in the stream.
+    Refused { command: u32, offset: u64 },
+    /// The words are not those that the program takes.
+    Usage,
+    /// A read failed.
+    ReadFault,
+    /// A write failed.
+    WriteFault,
+    /// No memory was left.
+    NoMemory,
+}
+
+impl Status {
+    ghost use Rattle.std.specs.Prelude.{◌≡◌};
+    ghost use Rattle.heapan_top.specs.Codes.{code_of};
+
+    /// The number that the process ends with.
+    pub fn code(&self) -> u8
+        ensures { result ≡ code_of self.now }
+    {
+        match self {
+            Status::Done => 0,
+            Status::Refused { .. } => 2,
+            Status::ReadFault => 3,
+            Status::WriteFault => 4,
+            Status::Usage => 6,
+            Status::NoMemory => 8,
+        }
+    }
+}
+
+/// What a call of the program answers.
+#[derive(Clone, Copy, PartialEq, Eq, Debug)]
+pub struct Outcome {
+    pub status: Status,
+}

@@ -1,0 +1,319 @@
+//! The program over memory: the rows of its first path. The bytes that are wanted are those of the task.
+use crate::{Outcome, Status, run};
+use io_ports::{
+    InPieces, MemorySink, MemorySource, ReadEnd, Sink, Source, SteadySink, SteadySource, read_up_to,
+};
+use std::alloc::{AllocError, Global};
+use std::process::Abort;
+use std::test::Fail;
+
+/// The first example: what is read, and what is written.
+const IDENTITY: &[u8] = b"put a.c 24\nint id(int a){return a;}report\n";
+
+const IDENTITY_REPLY: &[u8] = b"ok\nid a.c 1\n pre emp\n post emp ret=a\ntotal 1 1 0\n";
+
+/// What a file that isn't analysed is answered.
+const REFUSED: &[u8] = b"ok\nrefused a.c 1 190\n";
+
+/// What a stream that is no request is answered.
+const MALFORMED: &[u8] = b"malformed 1 0\n";
+
+/// What other words are answered.
+const USAGE: &[u8] = b"usage: heapan session\n";
+
+/// A refusal of the first command, at the first byte.
+const FIRST_REFUSED: Status = Status::Refused {
+    command: 1,
+    offset: 0,
+};
+
+/// A source of these bytes that never fails.
+fn steady(alloc: Global, bytes: &[u8]) -> Result<SteadySource, AllocError> {
+    SteadySource::new(alloc, Vec::from_slice(alloc, bytes)?)
+}
+
+/// Runs the right words over any source and sink.
+fn session<S: Source, K: Sink>(alloc: Global, source: &mut S, sink: &mut K) -> Status {
+    let Outcome { status } = run(alloc, &["session"], source, sink);
+    status
+}
+
+/// The stream is answered with these bytes and this status.
+fn answers(
+    rt: &impl Abort,
+    alloc: Global,
+    stream: &[u8],
+    want: &[u8],
+    status: Status,
+) -> Result<(), Fail> {
+    let mut source = steady(alloc, stream)?;
+    let mut sink = SteadySink::new(alloc)?;
+    assert_eq!(rt;
+        session(alloc, &mut source, &mut sink),
+        status,
+        "the status at {stream:?}"
+    );
+    assert_eq!(rt; sink.held(), want, "the bytes at {stream:?}");
+    Ok(())
+}
+
+/// The stream that puts a file as `a.c` and asks for a report.
+fn put(alloc: Global, file: &[u8]) -> Result<Vec<u8>, AllocError> {
+    let mut stream = Vec::from_slice(alloc, b"put a.c ")?;
+    stream.extend_from_slice(format!(in alloc; "{}\n", file.len())?.as_bytes())?;
+    stream.extend_from_slice(file)?;
+    stream.extend_from_slice(b"report\n")?;
+    Ok(stream)
+}
+
+#[test]
+fn the_example_is_answered_whatever_the_pieces(rt: HostRuntime) -> Result<(), Fail> {
+    let alloc = rt.alloc();
+    answers(&rt, alloc, IDENTITY, IDENTITY_REPLY, Status::Done)?;
+    for size in [1, 2, 7, 41, 4096] {
+        let mut source = InPieces::new(steady(alloc, IDENTITY)?, size);
+        let mut sink = InPieces::new(SteadySink::new(alloc)?, size);
+        assert_eq!(&rt; session(alloc, &mut source, &mut sink), Status::Done);
+        assert_eq!(&rt; sink.inner.held(), IDENTITY_REPLY, "in pieces of {size}");
+    }
+    Ok(())
+}
+
+#[test]
+fn a_procedure_is_reported_by_what_it_returns(rt: HostRuntime) -> Result<(), Fail> {
+    let alloc = rt.alloc();
+    let rows: [(&[u8], &[u8]); 8] = [
+        (
+            b"int second(int a, int b) { return b; }",
+            b"ok\nsecond a.c 1\n pre emp\n post emp ret=b\ntotal 1 1 0\n",
+        ),
+        (
+            b"int first(int a, int b) { return a; }",
+            b"ok\nfirst a.c 1\n pre emp\n post emp ret=a\ntotal 1 1 0\n",
+        ),
+        (
+            b"int most(int a) { return 2147483647; }",
+            b"ok\nmost a.c 1\n pre emp\n post emp ret=2147483647\ntotal 1 1 0\n",
+        ),
+        (
+            b"int zero(void) { return 0; }",
+            b"ok\nzero a.c 1\n pre emp\n post emp ret=0\ntotal 1 1 0\n",
+        ),
+        (
+            b"int ten() { return 10; }",
+            b"ok\nten a.c 1\n pre emp\n post emp ret=10\ntotal 1 1 0\n",
+        ),
+        (
+            b"int\tf\n(\tint a\r\n,\tint\nb)\x0c{\treturn\nb\n;}\n",
+            b"ok\nf a.c 1\n pre emp\n post emp ret=b\ntotal 1 1 0\n",
+        ),
+        (
+            b"\n\n  int third(int x){return x;}",
+            b"ok\nthird a.c 3\n pre emp\n post emp ret=x\ntotal 1 1 0\n",
+        ),
+        (
+            b"int e(int a,int b,int c,int d,int e,int f,int g,int h){return h;}",
+            b"ok\ne a.c 1\n pre emp\n post emp ret=h\ntotal 1 1 0\n",
+        ),
+    ];
+    for (file, want) in rows {
+        answers(&rt, alloc, put(alloc, file)?.as_slice(), want, Status::Done)?;
+    }
+    Ok(())
+}
+
+#[test]
+fn other_files_are_refused(rt: HostRuntime) -> Result<(), Fail> {
+    let alloc = rt.alloc();
+    answers(&rt, alloc, b"put a.c 5\nhelloreport", REFUSED, Status::Done)?;
+    answers(&rt, alloc, b"put a.c 0\nreport\n", REFUSED, Status::Done)?;
+    let rows: [&[u8]; 11] = [
+        b"int f(int a) { return -1; }",
+        b"int f(int a) { return -a; }",
+        b"int f(int a) { return 2147483648; }",
+        b"int f(int a) { return 01; }",
+        b"int f(int a) { return b; }",
+        b"int f(int a,int b,int c,int d,int e,int g,int h,int i,int j){return a;}",
+        b"int f(int a, int a) { return a; }",
+        b"int while(int a) { return a; }",
+        b"int f(int return) { return 1; }",
+        b"/* one */ int f(int a) { return a; }",
+        b"int f(int a) { return a; } int g(int a) { return a; }",
+    ];
+    for file in rows {
+        answers(
+            &rt,
+            alloc,
+            put(alloc, file)?.as_slice(),
+            REFUSED,
+            Status::Done,
+        )?;
+    }
+    Ok(())
+}
+
+#[test]
+fn other_streams_are_malformed(rt: HostRuntime) -> Result<(), Fail> {
+    let alloc = rt.alloc();
+    let rows: [&[u8]; 18] = [
+        b"",
+        b"report",
+        b"report\n",
+        b"put a.c 5\nhello",
+        b"put a.c 4\nhelloreport",
+        b"put a.c 6\nhelloreport",
+        b"put a.c  5\nhelloreport",
+        b"put  a.c 5\nhelloreport",
+        b"put a.c 05\nhelloreport",
+        b"put a.c +5\nhelloreport",
+        b"put a.c 5 \nhelloreport",
+        b"put a.c \nhelloreport",
+        b"put  5\nhelloreport",
+        b"put a;c 5\nhelloreport",
+        b"put a.c 5\nhelloreport\nreport",
+        b"put a.c 5\nhelloreport\n\n",
+        b"put a.c 5\nhelloreports",
+        b"put aaaaaaaaaaaaaaaaaaaaaaaaaaaaaaaaaaaaaaaaaaaaaaaaaaaaaaaaaaaaaaaaa 5\nhelloreport",
+    ];
+    for stream in rows {
+        answers(&rt, alloc, stream, MALFORMED, FIRST_REFUSED)?;
+    }
+    // A name of 64 bytes, of every kind that may stand in it.
+    answers(
+        &rt,
+        alloc,
+        b"put aZ09._-/aaaaaaaaaaaaaaaaaaaaaaaaaaaaaaaaaaaaaaaaaaaaaaaaaaaaaaaa 5\nhelloreport",
+        b"ok\nrefused aZ09._-/aaaaaaaaaaaaaaaaaaaaaaaaaaaaaaaaaaaaaaaaaaaaaaaaaaaaaaaa 1 190\n",
+        Status::Done,
+    )
+}
+
+#[test]
+fn a_stream_may_be_long_but_not_too_long(rt: HostRuntime) -> Result<(), Fail> {
+    let alloc = rt.alloc();
+    let file = vec![in alloc; b' '; 1_048_576]?;
+    answers(
+        &rt,
+        alloc,
+        put(alloc, file.as_slice())?.as_slice(),
+        REFUSED,
+        Status::Done,
+    )?;
+    for size in [1_048_577, 1_048_800, 2_000_000] {
+        let file = vec![in alloc; b' '; size]?;
+        answers(
+            &rt,
+            alloc,
+            put(alloc, file.as_slice())?.as_slice(),
+            MALFORMED,
+            FIRST_REFUSED,
+        )?;
+    }
+    Ok(())
+}
+
+#[test]
+fn other_words_meet_the_usage_line(rt: HostRuntime) -> Result<(), Fail> {
+    let alloc = rt.alloc();
+    let rows: [&[&str]; 6] = [
+        &[],
+        &["run"],
+        &["session", "x"],
+        &["session", "session"],
+        &["Session"],
+        &[""],
+    ];
+    for words in rows {
+        let mut source = steady(alloc, IDENTITY)?;
+        let mut sink = SteadySink::new(alloc)?;
+        assert_eq!(&rt;
+            run(alloc, words, &mut source, &mut sink).status,
+            Status::Usage
+        );
+        assert_eq!(&rt; sink.held(), USAGE, "at {words:?}");
+        let left = read_up_to(alloc, &mut source, 1000);
+        assert_eq!(&rt; left.end, ReadEnd::End);
+        assert_eq!(&rt;
+            left.bytes.as_slice(),
+            IDENTITY,
+            "nothing is read at {words:?}"
+        );
+    }
+    Ok(())
+}
+
+#[test]
+fn a_failed_read_is_a_read_fault(rt: HostRuntime) -> Result<(), Fail> {
+    let alloc = rt.alloc();
+    for call in [0, 1, 20] {
+        let fail_at = Vec::from_slice(alloc, &[call])?;
+        let inner = MemorySource::new(alloc, Vec::from_slice(alloc, IDENTITY)?, fail_at)?;
+        let mut source = InPieces::new(inner, 1);
+        let mut sink = SteadySink::new(alloc)?;
+        assert_eq!(&rt;
+            session(alloc, &mut source, &mut sink),
+            Status::ReadFault,
+            "at {call}"
+        );
+        assert!(&rt; sink.held().is_empty());
+    }
+    Ok(())
+}
+
+#[test]
+fn a_failed_write_is_a_write_fault_and_leaves_a_front(rt: HostRuntime) -> Result<(), Fail> {
+    let alloc = rt.alloc();
+    for size in [3, 1000] {
+        let mut done = false;
+        for call in 0..100usize {
+            let inner = MemorySink::new(alloc, Vec::from_slice(alloc, &[call as u64])?)?;
+            let mut sink = InPieces::new(inner, size);
+            let mut source = steady(alloc, IDENTITY)?;
+            let status = session(alloc, &mut source, &mut sink);
+            let held = sink.inner.held();
+            if status == Status::Done {
+                assert!(&rt; call > 0);
+                assert_eq!(&rt; held, IDENTITY_REPLY);
+                done = true;
+                break;
+            }
+            assert_eq!(&rt; status, Status::WriteFault, "at {call}");
+            assert_eq!(&rt; held.len(), size.saturating_mul(call), "at {call}");
+            assert!(&rt; IDENTITY_REPLY.starts_with(held));
+        }
+        assert!(&rt; done);
+    }
+    Ok(())
+}
+
+#[test]
+fn want_of_memory_is_told_and_leaves_a_front(rt: HostRuntime) -> Result<(), Fail> {
+    let alloc = rt.alloc();
+    let mut source = steady(alloc, IDENTITY)?;
+    let mut sink = InPieces::new(SteadySink::new(alloc)?, 16);
+    let status = session(alloc, &mut source, &mut sink);
+    let held = sink.inner.held();
+    // `rt try --test --fail-alloc N` lets the Nth allocation fail.
+    if status == Status::NoMemory {
+        assert!(&rt; IDENTITY_REPLY.starts_with(held));
+    } else {
+        assert_eq!(&rt; status, Status::Done);
+        assert_eq!(&rt; held, IDENTITY_REPLY);
+    }
+    Ok(())
+}
+
+#[test]
+fn a_status_has_its_number(rt: HostRuntime) {
+    let rows = [
+        (Status::Done, 0),
+        (FIRST_REFUSED, 2),
+        (Status::ReadFault, 3),
+        (Status::WriteFault, 4),
+        (Status::Usage, 6),
+        (Status::NoMemory, 8),
+    ];
+    for (status, code) in rows {
+        assert_eq!(&rt; status.code(), code);
+    }
+}
