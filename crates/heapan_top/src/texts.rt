@@ -9,11 +9,8 @@ ghost use Rattle.heapan_top.specs.Text.{block, exp_text, heap_text, line_of, pos
 use itoa::Buffer;
 use shape_data::name::Name;
 use shape_data::program::{Proc, Ty};
-use shape_data::symbolic::Exp;
+use shape_data::symbolic::{Exp, FIRST_EXISTENTIAL};
 use std::alloc::AllocError;
-
-/// The first variable that is existential.
-const FIRST_EXISTENTIAL: u32 = 65_536;
 
 /// Appends a number in decimal.
 fn push_decimal(text: &mut Vec<u8>, number: u64) -> Result<(), AllocError>
