@@ -20,8 +20,8 @@ fn words<R: Env + AllocGlobal>(rt: &R) -> io::Result<Vec<String>> {
     Ok(all)
 }
 
-/// Runs the top call on the process's own words and streams. Words that are not text are other words than those that
-/// the program takes, as no words are.
+/// Runs the top call on the process's own words and streams. Where a word, or the program's own name, is not text, the
+/// words are other words than those that the program takes, as no words are.
 fn status<R: Env + AllocGlobal + Input + Print>(rt: &R) -> u8 {
     let texts = match words(rt) {
         Ok(texts) => texts,

@@ -13,7 +13,7 @@ use Rattle.c_syntax.specs.Layout.{Token}
 use Rattle.c_syntax.specs.Unit.{Denotes, IsUnit, line_at, node_at}
 use Rattle.c_syntax.proofs.WellFormedUnits.{spelled-is_program}
 use Rattle.heapan_top.specs.Headline.{PrintsValid}
-use Rattle.heapan_top.specs.Replies.{FirstReturns, program_of, spec_of}
+use Rattle.heapan_top.specs.Replies.{Asked, Asks, FirstReturns, Nothing, One, Other, program_of, spec_of}
 use Rattle.heapan_top.proofs.Asking.{first_once}
 
 -- a procedure of a file returns its value first of all
@@ -53,3 +53,13 @@ printed-Valid stream proc value (name, file, is, spells, first) =
 pub left_prints : (left : Option (List ℕ)) → IfSome left PrintsValid
 left_prints None = tt
 left_prints (Some stream) = printed-Valid stream
+
+-- it cannot be that a stream asks for nothing at all
+pub asked_some : (stream : List ℕ) → ((asked : Asked) → Asks stream asked → ⊥) → ⊥
+asked_some stream never =
+    never Nothing (λ name file is. never (Other name) (
+      file,
+      is,
+      (λ proc spells.
+          let u = spells.is_unit in never (One proc u.value) (name, file, is, spells, unit_first name spells.tokens proc u)),
+    ))

@@ -54,3 +54,12 @@ module _ (old new : Option (List ℕ)) where
       (λ asked asks. rw (asked_once bytes asked Nothing asks nothing) nothing_at_all)
       (λ asked asks. rw (asked_once (bytes ++ rest) asked Nothing asks nothing_at_all) nothing)
       answers)
+
+-- what is answered in full is no front of a longer stream
+pub done_is_short : (old new : Option (List ℕ)) (bytes : List ℕ) (ended : Status) → Answers bytes old new ended → ended ≡ status.Done → length bytes ≡ 1048800 → ⊥
+done_is_short old new bytes status.Done (asked, asks, some, all) is size = some (asked_once bytes asked Nothing asks (long_asks bytes (omega arith)))
+done_is_short old new bytes (status.Refused command offset) answers is size = cc
+done_is_short old new bytes status.Usage answers is size = answers
+done_is_short old new bytes status.ReadFault answers is size = cc
+done_is_short old new bytes status.WriteFault answers is size = cc
+done_is_short old new bytes status.NoMemory answers is size = cc

@@ -1,12 +1,12 @@
 -- What the one call that does everything promises: which bytes are written, and which status comes when.
-use Rattle.std.specs.Prelude.{◌≡◌, ◌≢◌, ℕ, List, [], ◌∷◌, ◌⊎◌, codes, map, take}
+use Rattle.std.specs.Prelude.{◌≡◌, ◌≢◌, ◌≤◌, ℕ, length, List, [], ◌∷◌, ◌⊎◌, codes, map, take}
 use Rattle.std.specs.Borrow.{Bor}
 use Rattle.std.specs.declared.option.Option.{Option}
 use Rattle.shape_data.specs.declared.program.Operand.{Operand}
 use Rattle.shape_data.specs.declared.program.Proc.{Proc}
 use Rattle.shape_data.specs.Valid.{Valid}
 use Rattle.shape_data.specs.WellFormed.{IsProgram}
-use Rattle.io_ports.specs.Bytes.{after_held}
+use Rattle.io_ports.specs.Bytes.{after_held, before_left, IsNothingLeft}
 use Rattle.heapan_top.specs.declared.status.Status.{Status}
 use Rattle.heapan_top.specs.declared.status.Status.TheVariants as status
 use Rattle.heapan_top.specs.Replies.{Asked, Asks, Nothing, One, program_of, spec_of, reply_to}
@@ -54,6 +54,17 @@ AnswersOtherWords old new status.Usage = Appends old new usage_line
 AnswersOtherWords old new status.ReadFault = ⊥
 AnswersOtherWords old new status.WriteFault = AppendsSome old new usage_line
 AnswersOtherWords old new status.NoMemory = AppendsSome old new usage_line
+
+-- the stream was answered in full
+abbrev pub IsAnswered : Status → Type 0
+IsAnswered status.Done = Unit {0}
+IsAnswered (status.Refused command offset) = Unit {0}
+IsAnswered _ = ⊥
+
+-- a front of the bytes left was read, of at most 1,048,800 bytes; where the stream was answered, that many or all
+abbrev pub Reads : Option (List ℕ) → Option (List ℕ) → Status → Type 0
+Reads old new ended =
+    (bytes : List ℕ) × (old ≡ before_left bytes new) × (length bytes ≤ 1048800) × (IsAnswered ended → IsNothingLeft new ⊎ (length bytes ≡ 1048800))
 
 -- what is spelled is a well-formed program, in which the summary that is printed of its procedure is valid
 abbrev pub PrintsValid : List ℕ → Type 0

@@ -30,6 +30,7 @@ abbrev pub exp_text : List (List ℕ) → Exp → List ℕ
 exp_text params (Var x) = variable_text params x
 exp_text params (Const n) = signed_decimal n
 
+-- `EXP=EXP` or `EXP!=EXP`
 abbrev pub fact_text : List (List ℕ) → Fact → List ℕ
 fact_text params (Eq left right) = exp_text params left ++ codes "=" ++ exp_text params right
 fact_text params (Ne left right) = exp_text params left ++ codes "!=" ++ exp_text params right
@@ -67,6 +68,7 @@ ret_text params Int ret = codes " ret=" ++ exp_text params ret
 ret_text params (Ptr kind) ret = codes " ret=" ++ exp_text params ret
 ret_text params Void ret = []
 
+-- the atom is `junk`
 abbrev pub is_junk : Atom → Bool
 is_junk Junk = true
 is_junk _ = false

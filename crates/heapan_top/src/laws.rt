@@ -8,6 +8,11 @@ pub fn asked_is_one()
     ensures { (stream : List ℕ) (one other : Asked) → Asks stream one → Asks stream other → one ≡ other }
 {}
 
+/// A stream asks for one thing at least: that none fits cannot be.
+pub fn asked_is_some()
+    ensures { (stream : List ℕ) → ((asked : Asked) → Asks stream asked → ⊥) → ⊥ }
+{}
+
 /// What a file spells is a well-formed program, in which the summary that is printed of its procedure is valid.
 pub fn printed_is_valid()
     ensures { (stream : List ℕ) → PrintsValid stream }

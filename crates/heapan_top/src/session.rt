@@ -1,8 +1,9 @@
 //! The top call: words, a source and a sink in, and the replies and a status out. Its contract is the headline:
 //! the bytes written answer the bytes read, and each status has its cause.
 ghost use Rattle.std.specs.Prelude.{◌≡◌, ◌≢◌, ◌↔◌, ℕ, IsTrue, IfSome};
+ghost use Rattle.io_ports.specs.Bytes.{IsNothingLeft};
 ghost use Rattle.io_ports.specs.Counts.{Rose};
-ghost use Rattle.heapan_top.specs.Headline.{Answers, AnswersOtherWords, AreRightWords, Completes, PrintsValid, word_bytes};
+ghost use Rattle.heapan_top.specs.Headline.{Answers, AnswersOtherWords, AreRightWords, Completes, PrintsValid, Reads, word_bytes};
 ghost use Rattle.heapan_top.specs.Parts.{Ends};
 
 use crate::replies::reply_for;
@@ -59,6 +60,9 @@ fn answer_bytes<K: Sink>(alloc: Global, sink: &mut K, bytes: &[u8]) -> Status
 /// Answers the stream that the source holds.
 fn answer_stream<S: Source, K: Sink>(alloc: Global, source: &mut S, sink: &mut K) -> Status
     ensures answers { IfSome (S.left source.old) (λ stream. Answers stream (K.held sink.old) (K.held sink.new) result) }
+    ensures reads { Reads (S.left source.old) (S.left source.new) result }
+    ensures to_the_end { result ≡ Status.Done → IsNothingLeft (S.left source.new) }
+    ensures silent { result ≡ Status.ReadFault → sink.new ≡ sink.old }
     ensures usage { result ≢ Status.Usage }
     ensures refused { (command offset : ℕ) → result ≡ Status.Refused command offset → (command ≡ 1) × (offset ≡ 0) }
     ensures read_fault { result ≡ Status.ReadFault → Rose (S.faults source.old) (S.faults source.new) }
@@ -81,6 +85,8 @@ pub fn run<S: Source, K: Sink>(
 ) -> Outcome
     ensures replies { AreRightWords (word_bytes words.now)
         → IfSome (S.left source.old) (λ stream. Answers stream (K.held sink.old) (K.held sink.new) result.status) }
+    ensures reads { AreRightWords (word_bytes words.now)
+        → Reads (S.left source.old) (S.left source.new) result.status }
     ensures valid { IfSome (S.left source.old) PrintsValid }
     ensures other_words { (AreRightWords (word_bytes words.now) → ⊥)
         → AnswersOtherWords (K.held sink.old) (K.held sink.new) result.status }
@@ -88,10 +94,12 @@ pub fn run<S: Source, K: Sink>(
 
     // Which status comes when. Want of memory may come at any time.
     ensures done { result.status ≡ Status.Done → AreRightWords (word_bytes words.now) }
+    ensures to_the_end { result.status ≡ Status.Done → IsNothingLeft (S.left source.new) }
     ensures refused { (command offset : ℕ) → result.status ≡ Status.Refused command offset
         → AreRightWords (word_bytes words.now) × (command ≡ 1) × (offset ≡ 0) }
     ensures usage { result.status ≡ Status.Usage → AreRightWords (word_bytes words.now) → ⊥ }
     ensures read_fault { result.status ≡ Status.ReadFault → Rose (S.faults source.old) (S.faults source.new) }
+    ensures silent { result.status ≡ Status.ReadFault → sink.new ≡ sink.old }
     ensures write_fault { result.status ≡ Status.WriteFault → Rose (K.faults sink.old) (K.faults sink.new) }
     ensures complete { (Rose (S.faults source.old) (S.faults source.new) → ⊥)
         → (Rose (K.faults sink.old) (K.faults sink.new) → ⊥)
