@@ -1,0 +1,15 @@
+pub mod Booleans
+pub mod Fronts
+pub mod BlockComments
+pub mod LineComments
+pub mod LexemeLemmas
+pub mod TokenLemmas
+pub mod PieceLemmas
+pub mod Directives
+pub mod DirectiveCuts
+pub mod Texts
+pub mod TextLaws
+pub mod GapLaw
+pub mod SmallTexts
+pub mod Digits
+pub mod Readings

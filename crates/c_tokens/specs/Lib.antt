@@ -1,0 +1,13 @@
+pub mod Places
+pub mod Words
+pub mod Gaps
+pub mod Headers
+pub mod Lexemes
+pub mod Grammar
+pub mod TokenLists
+pub mod Laws
+pub mod Examples
+pub mod Scan
+pub mod Pieces
+pub mod Reading
+pub mod Steps

@@ -1,0 +1,18 @@
+//! Cuts a C text into tokens. Which tokens a text has, or where and why it has none, is said in `specs/Grammar`; the
+//! tokenizer gives exactly that, by the middle layer of `specs/Reading`.
+#![tactic(auto)]
+
+mod comments;
+pub mod laws;
+mod pieces;
+mod places;
+mod reading;
+#[cfg(test)]
+mod tests;
+mod token;
+mod words;
+
+pub use places::{Place, Refusal};
+pub use reading::tokens;
+pub use token::{Token, TokenFault, TokenKind};
+pub use words::is_reserved;
