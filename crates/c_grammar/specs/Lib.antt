@@ -1,0 +1,10 @@
+pub mod Classes
+pub mod Words
+pub mod Trees
+pub mod Spelling
+pub mod Nesting
+pub mod Forms
+pub mod Matching
+pub mod Refusals
+pub mod Laws
+pub mod Readers
