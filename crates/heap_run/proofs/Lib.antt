@@ -1,0 +1,4 @@
+pub mod Accesses
+pub mod Addresses
+pub mod Scans
+pub mod Stacks
