@@ -1,0 +1,5 @@
+use Rattle.heap_laws.proofs.MappedLemmas.{mapped_holds}
+use Rattle.heap_laws.proofs.mapping.mapped_holds.Goals as goal
+
+pub returns : goal.returns
+returns c = mapped_holds

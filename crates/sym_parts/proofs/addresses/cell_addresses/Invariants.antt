@@ -1,0 +1,6 @@
+use Rattle.std.proofs.Common.{◌≡◌, ◌++◌, drop}
+use Rattle.heap_laws.specs.Addresses.{addresses}
+use Rattle.sym_parts.proofs.addresses.cell_addresses.Given as goal
+
+abbrev pub invariant-loop-atom : goal.invariant-loop-atom
+invariant-loop-atom l = addresses l.atoms ≡ l.cells.items ++ addresses (drop l.atom-index l.atoms)

@@ -1,0 +1,16 @@
+pub mod EachLaws
+pub mod EmptyingLaws
+pub mod EquationPlaces
+pub mod EquationsLaws
+pub mod FormFactsLaws
+pub mod FormLaws
+pub mod ItselfLaws
+pub mod JunkSteps
+pub mod MeaningLaws
+pub mod PartsLaws
+pub mod RedundancyLaws
+pub mod SolutionLaws
+pub mod SolvingLaws
+pub mod SourcesLaws
+pub mod TurnSteps
+pub mod WellFormedLaws

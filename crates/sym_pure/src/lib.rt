@@ -1,0 +1,21 @@
+//! The pure part of the symbolic core: the normal form of a state, whether a state is normal, and what is known to
+//! differ. It stands on the laws of `heap_laws` and the shared code of `sym_parts`; that the meaning is kept, and
+//! what a form is, is said by the laws in [`laws`].
+#![tactic(auto)]
+
+mod contradictions;
+mod emptying;
+pub mod laws;
+mod normality;
+mod normals;
+mod parts;
+mod redundancy;
+mod solving;
+mod sources;
+#[cfg(test)]
+mod tests;
+
+pub use normality::{is_normal, is_normal_heap};
+pub use normals::normal;
+pub use parts::{Normal, Settled, Solved};
+pub use sources::differs;
