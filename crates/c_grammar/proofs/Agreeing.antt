@@ -11,6 +11,7 @@ use Rattle.c_grammar.specs.Classes.{number_of, numbered}
 use Rattle.c_grammar.specs.Words.{Word, classes}
 use Rattle.c_grammar.specs.Spelling.{Rule, word, open_paren, name, each, maybe}
 use Rattle.c_grammar.specs.Readers.{Halt, Got, ◌>>=◌, wrong, too_deep, class_at, behind, is_class, take, name_here, read_name, is_open, take_open, read_more, read_each, read_maybe}
+use Rattle.c_grammar.proofs.Parts.{length-classes}
 
 -- each word's class is one of the grammar's
 abbrev pub AreProper : List Word → Type 0
@@ -162,10 +163,6 @@ open_by_agrees _ first others e proper = wrong_agrees (λ (x : List Word). x) (�
 pub open_agrees : (words : List Word) → AreProper words → AgreesOn (λ to. open_paren words to) words (take_open words) (reads (Either (AWord 3) (AWord 4)) (classes words))
 unfolding open_by open_form
 open_agrees words proper = by_class (λ (x : List Word). x) (λ w to. open_paren w to) open_by open_form (refl, itself []) open_by_agrees words proper
-
-length-classes : (words : List Word) → length (classes words) ≡ length words
-length-classes [] = refl
-length-classes (first ∷ others) = ap suc (length-classes others)
 
 -- a reader agrees with a form where a test of the first word holds
 abbrev pub ReadsWhere : {A : Type 0} → (Class → Bool) → (A → Rule) → (List Word → Got A) → Form → Type 0

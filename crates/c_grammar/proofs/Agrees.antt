@@ -1,5 +1,5 @@
 -- The readers agree with the grammar's forms: types, declarators, fields, parameters.
-use Rattle.std.proofs.Common.{◌≡◌, ℕ, zero, suc, Bool, true, false, cond, List, [], ◌∷◌, ◌++◌, length, refl, sym, ap, ◌∙◌, subst}
+use Rattle.std.proofs.Common.{◌≡◌, ℕ, zero, suc, Bool, true, false, cond, List, [], ◌∷◌, ◌++◌, length, refl, sym, ◌∙◌, subst}
 use Rattle.std.proofs.lemmas.Bool.{eqb-true}
 use Rattle.std.specs.Prelude.{Option, Some, None, Ok}
 use Rattle.grammar_laws.specs.Form.{Form, Word as AWord, Both, Many, is_in, begins_in, starts}
@@ -14,6 +14,7 @@ use Rattle.c_grammar.specs.Trees.{Name, Specifier, Declarator, Param, Params}
 use Rattle.c_grammar.specs.Spelling.{Rule, word, word_at, name, each, maybe, specifier, stars, declarator, fields, struct_body, is_void, is_void_alone, param, params}
 use Rattle.c_grammar.specs.Readers.{Got, ◌>>=◌, class_at, is_class, read_name, read_more, read_each, read_maybe, specifier_by, read_specifier, begins_specifier, read_stars, read_declarator, read_fields, read_struct_body, read_param, place_of_specifier, listed, read_params}
 use Rattle.c_grammar.proofs.Agreeing.{AreProper, IsBehind, itself, one_behind, further, proper_behind, AgreesAs, ReadsAs, agree_behind, agree_map, test_class, test_classes, name_agrees, AgreesBy, by_class, wrong_agrees, each_agrees, more_agrees, maybe_agrees, step, over, at_word, at_last}
+use Rattle.c_grammar.proofs.Parts.{length-classes}
 
 specifier_by_agrees : AgreesBy (λ (x : Specifier × List Word). x.1) (λ words x. specifier x.0 words x.1) specifier_by Forms.specifier_form
 specifier_by_agrees class.Int first others e proper = (refl, (e, refl, refl), one_behind first others)
@@ -37,10 +38,6 @@ specifier_starts _ = refl
 
 pub begins_specifier_same : (words : List Word) → AreProper words → begins_specifier (class_at words) ≡ begins_in (starts Forms.specifier_form) (classes words)
 begins_specifier_same words proper = test_classes begins_specifier (starts Forms.specifier_form) specifier_starts refl words proper
-
-length-classes : (words : List Word) → length (classes words) ≡ length words
-length-classes [] = refl
-length-classes (first ∷ others) = ap suc (length-classes others)
 
 -- stars and the words behind them
 abbrev StarsRead : ℕ × List Word → List Word → Read → Type 0

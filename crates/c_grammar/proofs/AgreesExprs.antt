@@ -16,6 +16,7 @@ use Rattle.c_grammar.proofs.Numbers.{numbered-number_of}
 use Rattle.c_grammar.proofs.Found.{tighter}
 use Rattle.c_grammar.proofs.Agreeing.{AreProper, itself, one_behind, proper_behind, AgreesAs, ReadsAs, ReadsWhere, agree_then, agree_behind, agree_as, agree_map, test_class, test_classes, name_agrees, AgreesBy, by_class, wrong_agrees, deep_agrees, each_agrees, behind_word, step, over, over_open, at_word, at_last}
 use Rattle.c_grammar.proofs.Agrees.{specifier_agrees}
+use Rattle.c_grammar.proofs.Parts.{length-classes}
 
 pub proper_first : (c : Class) (first : Word) (others : List Word) → first.class ≡ number_of c → AreProper others → AreProper (first ∷ others)
 proper_first c first others e proper = (ap (λ n. number_of (numbered n)) e ∙ ap number_of (numbered-number_of c) ∙ sym e, proper)
@@ -102,10 +103,6 @@ expr_starts _ = refl
 
 pub begins_expr_same : (words : List Word) → AreProper words → begins_expr (class_at words) ≡ begins_in (starts (Forms.expr_form zero)) (classes words)
 begins_expr_same words proper = test_classes begins_expr (starts (Forms.expr_form zero)) expr_starts refl words proper
-
-length-classes : (words : List Word) → length (classes words) ≡ length words
-length-classes [] = refl
-length-classes (first ∷ others) = ap suc (length-classes others)
 
 abbrev comma_form : ℕ → Form
 comma_form n = Both (AWord Classes.COMMA) (Forms.expr_form n)

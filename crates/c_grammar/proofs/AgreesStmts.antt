@@ -1,5 +1,5 @@
 -- The readers agree with the grammar's forms: statements.
-use Rattle.std.proofs.Common.{◌≡◌, ℕ, zero, suc, Bool, true, false, cond, List, [], ◌∷◌, length, refl, sym, ap, subst}
+use Rattle.std.proofs.Common.{◌≡◌, ℕ, zero, suc, Bool, true, false, cond, List, [], ◌∷◌, length, refl, sym, subst}
 use Rattle.std.specs.Prelude.{◌==◌, ◌||◌, Option, Some, None, Ok}
 use Rattle.std.proofs.lemmas.Bool.{eq-eqb}
 use Rattle.grammar_laws.specs.Form.{Form, Word as AWord, Both, Many, Nearest, is_in, begins_in, starts}
@@ -17,6 +17,7 @@ use Rattle.c_grammar.specs.Readers.{Got, ◌>>=◌, too_deep, class_at, place_at
 use Rattle.c_grammar.proofs.Agreeing.{AreProper, IsBehind, itself, one_behind, further, proper_behind, Agrees, AgreesAs, AgreesOn, ReadsAs, ReadsWhere, agree_then, agree_behind, agree_as, agree_map, agree_skip, test_class, test_classes, take_agrees, AgreesBy, by_class, wrong_agrees, deep_agrees, open_agrees, maybe_agrees, step, over, over_open, at_word, at_last, at_end}
 use Rattle.c_grammar.proofs.AgreesExprs.{proper_first, begins_expr_same, expr_agrees}
 use Rattle.c_grammar.proofs.AgreesClauses.{simple_agrees, begins_simple_same, clause_rule, clause_by_agrees, clause_agrees, begins_clause_same}
+use Rattle.c_grammar.proofs.Parts.{length-classes}
 
 abbrev pub test_rule : Expr → Rule
 test_rule e = λ from to. (a : List Word) × open_paren from a × ((b : List Word) × expr_at 0 e a b × word Classes.CLOSE b to)
@@ -94,10 +95,6 @@ stmt_starts _ = refl
 
 begins_stmt_same : (words : List Word) → AreProper words → begins_stmt (class_at words) ≡ begins_in (starts (Forms.stmt_form zero)) (classes words)
 begins_stmt_same words proper = test_classes begins_stmt (starts (Forms.stmt_form zero)) stmt_starts refl words proper
-
-length-classes : (words : List Word) → length (classes words) ≡ length words
-length-classes [] = refl
-length-classes (first ∷ others) = ap suc (length-classes others)
 
 stmts_times : (n : ℕ) → StmtReads n → (times : ℕ) (words : List Word) → AreProper words
     → AgreesAs stmts words (read_stmts times (read_stmt n) words) (repeat times (reads (Forms.stmt_form n)) (starts (Forms.stmt_form zero)) (classes words))

@@ -20,3 +20,8 @@ pub mod Refused
 pub mod Synced
 pub mod UniqueExprs
 pub mod Grouping
+pub mod UniqueChains
+pub mod UniqueSimples
+pub mod UniqueStmts
+pub mod UniqueFiles
+pub mod OneTree

@@ -1,10 +1,14 @@
 -- How the words of a form are put together of the words of its parts, and taken apart.
-use Rattle.std.proofs.Common.{◌≡◌, ◌⊎◌, inl, inr, ℕ, false, List, [], ◌∷◌, ◌++◌, refl, sym, ap, ◌∙◌, subst, append_assoc}
+use Rattle.std.proofs.Common.{◌≡◌, ◌⊎◌, inl, inr, ℕ, suc, false, List, [], ◌∷◌, ◌++◌, length, refl, sym, ap, ◌∙◌, subst, append_assoc}
 use Rattle.grammar_laws.specs.Form.{Facts, Form, Word as AWord, Nothing, Both, Either, Many, Nearest, Known, begins_in, joined, Repeats, Derives}
 use Rattle.c_tokens.specs.declared.places.Place.{Place}
 use Rattle.c_grammar.specs.Words.{Word, classes}
 use Rattle.c_grammar.specs.Matching.{IsForm}
 use Rattle.c_grammar.specs.Spelling.{word, word_at}
+
+pub length-classes : (words : List Word) → length (classes words) ≡ length words
+length-classes [] = refl
+length-classes (first ∷ others) = ap suc (length-classes others)
 
 pub classes-append : (front back : List Word) → classes (front ++ back) ≡ classes front ++ classes back
 classes-append [] back = refl

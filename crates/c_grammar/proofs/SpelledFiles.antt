@@ -48,13 +48,13 @@ is_target n from mid to target assign = let (a, primary, members) = both_parts t
     by_primary a members (inl named) = let (b, first, call) = both_parts named in by_call b a first members (either_part call)
     by_primary a members (inr closed) = is_second (is_second (is_both closed (is_both members assign)))
 
-is_assign : (op : AssignOp) (from to : List Word) → word (class_of_assign op) from to → IsForm (Either (AWord Classes.SET) (Either (AWord Classes.ADD_TO) (Either (AWord Classes.SUBTRACT_FROM) (AWord Classes.MULTIPLY_BY)))) from to
+pub is_assign : (op : AssignOp) (from to : List Word) → word (class_of_assign op) from to → IsForm (Either (AWord Classes.SET) (Either (AWord Classes.ADD_TO) (Either (AWord Classes.SUBTRACT_FROM) (AWord Classes.MULTIPLY_BY)))) from to
 is_assign AssignOp.Set from to h = is_first (is_word from to h)
 is_assign AssignOp.AddTo from to h = is_second (is_first (is_word from to h))
 is_assign AssignOp.SubtractFrom from to h = is_second (is_second (is_first (is_word from to h)))
 is_assign AssignOp.MultiplyBy from to h = is_second (is_second (is_second (is_word from to h)))
 
-is_step : (op : StepOp) (n : ℕ) (from to : List Word) → word (class_of_step op) from to → IsForm (Forms.assign_form (Forms.expr_form n)) from to
+pub is_step : (op : StepOp) (n : ℕ) (from to : List Word) → word (class_of_step op) from to → IsForm (Forms.assign_form (Forms.expr_form n)) from to
 is_step StepOp.Increment n from to h = is_second (is_first (is_word from to h))
 is_step StepOp.Decrement n from to h = is_second (is_second (is_word from to h))
 
@@ -75,7 +75,7 @@ is_simple (Simple.Free place pointer) n from to fits (a, h, (b, i, (c, j, k))) =
     is_second (is_first (is_both (is_word_at place from a h) (is_both (is_open a b i) (is_both (is_whole pointer n b c (omega arith) j) (is_word c to k)))))
 
 -- a simple statement is a clause
-simple_clause : (n : ℕ) (from to : List Word) → IsForm (Forms.simple_body n) from to → IsForm (Forms.clause_form n) from to
+pub simple_clause : (n : ℕ) (from to : List Word) → IsForm (Forms.simple_body n) from to → IsForm (Forms.clause_form n) from to
 simple_clause n from to f = is_known (by_case (either_part f))
   where
     by_case : IsForm (Both (AWord Classes.NAME) (Forms.name_tail_form n)) from to ⊎ IsForm (Forms.other_simple_form n) from to → IsForm (Forms.clause_body n) from to
@@ -105,20 +105,20 @@ is_typed (Specifier.Void place) n from mid to h tail = is_first (is_both (is_sec
 is_typed (Specifier.Struct place tag) n from mid to (a, h, k) tail = is_first (is_both (is_second (is_second (is_both (is_word_at place from a h) (is_name tag a mid k)))) tail)
 is_typed (Specifier.Alias alias) n from mid to h tail = is_second (is_first (is_both (is_name alias from mid h) (is_first tail)))
 
-is_local : (l : Local) (n : ℕ) (from to : List Word) → local_nesting l ≤ n → local l from to → IsForm (Forms.clause_form n) from to
+pub is_local : (l : Local) (n : ℕ) (from to : List Word) → local_nesting l ≤ n → local l from to → IsForm (Forms.clause_form n) from to
 is_local l n from to fits (a, h, (b, i, k)) =
     is_known (is_typed l.specifier n from a to h (is_both (is_initialized l.first n a b (omega arith) i) (is_others l.others n b to (omega arith) k)))
 
-is_init : (init : ForInit) (n : ℕ) (from to : List Word) → init_nesting init ≤ n → for_init init from to → IsForm (Forms.optional (Forms.clause_form n)) from to
+pub is_init : (init : ForInit) (n : ℕ) (from to : List Word) → init_nesting init ≤ n → for_init init from to → IsForm (Forms.optional (Forms.clause_form n)) from to
 is_init ForInit.NoInit n from to fits h = is_second (is_nothing from to h)
 is_init (ForInit.Locals l) n from to fits h = is_first (is_local l n from to fits h)
 is_init (ForInit.Once s) n from to fits h = is_first (simple_clause n from to (is_simple s n from to fits h))
 
-is_optional : (e : Option Expr) (n : ℕ) (from to : List Word) → maybe_nesting nesting e ≤ n → maybe (expr_at 0) e from to → IsForm (Forms.optional (Forms.expr_form n)) from to
+pub is_optional : (e : Option Expr) (n : ℕ) (from to : List Word) → maybe_nesting nesting e ≤ n → maybe (expr_at 0) e from to → IsForm (Forms.optional (Forms.expr_form n)) from to
 is_optional None n from to fits h = is_second (is_nothing from to h)
 is_optional (Some e) n from to fits h = is_first (is_whole e n from to fits h)
 
-is_once : (s : Option Simple) (n : ℕ) (from to : List Word) → maybe_nesting simple_nesting s ≤ n → maybe simple s from to → IsForm (Forms.optional (Forms.simple_form n)) from to
+pub is_once : (s : Option Simple) (n : ℕ) (from to : List Word) → maybe_nesting simple_nesting s ≤ n → maybe simple s from to → IsForm (Forms.optional (Forms.simple_form n)) from to
 is_once None n from to fits h = is_second (is_nothing from to h)
 is_once (Some s) n from to fits h = is_first (is_known (is_simple s n from to fits h))
 
@@ -184,7 +184,7 @@ is_head : (h : Head) (n : ℕ) (from mid to : List Word) → head h from mid →
 is_head h n from mid to (a, i, (b, j, (c, k, (d, l, m)))) tail =
     is_headed h.specifier n from a to i (is_both (is_both (is_declarator h.declarator a b j) (is_both (is_open b c k) (is_both (is_params h.params c d l) (is_word d mid m)))) tail)
 
-is_item : (i : Item) (n : ℕ) (from to : List Word) → item_nesting i ≤ n → item i from to → IsForm (Forms.item_form n) from to
+pub is_item : (i : Item) (n : ℕ) (from to : List Word) → item_nesting i ≤ n → item i from to → IsForm (Forms.item_form n) from to
 is_item (Item.StructItem place tag lines) n from to fits (a, h, (b, i, (c, j, k))) =
     is_known (is_first (is_both (is_word_at place from a h) (is_both (is_name tag a b i) (is_first (is_both (is_struct_body lines b c j) (is_word c to k))))))
 is_item (Item.TypedefStruct place None lines alias) n from to fits (a, h, (b, i, (c, j, (d, k, (e, l, m))))) =
@@ -201,7 +201,7 @@ is_item (Item.Definition h place body end) zero from to fits i = absurd (omega a
 is_item (Item.Definition h place body end) (suc n) from to fits (a, i, (b, j, (c, k, l))) =
     is_head h (suc n) from a to i (is_second (is_both (is_word_at place a b j) (is_both (is_stmts body n b c (omega arith) k) (is_word_at end c to l))))
 
-is_items : (all : List Item) (n : ℕ) (from to : List Word) → deepest item_nesting all ≤ n → each item all from to → IsForm (Many (Forms.item_form n)) from to
+pub is_items : (all : List Item) (n : ℕ) (from to : List Word) → deepest item_nesting all ≤ n → each item all from to → IsForm (Many (Forms.item_form n)) from to
 is_items [] n from to fits h = is_none from to h
 is_items (one ∷ others) n from to fits (a, h, k) = is_more (is_item one n from a (omega arith) h) (is_items others n a to (omega arith) k)
 

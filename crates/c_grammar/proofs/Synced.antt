@@ -1,5 +1,5 @@
 -- Two ways to read a form from the same words end at the same words.
-use Rattle.std.proofs.Common.{◌≡◌, ℕ, suc, ◌+◌, ◌≤◌, ◌<◌, false, List, [], ◌∷◌, ◌++◌, length, refl, sym, ap, ap₂, ◌∙◌, subst, length-append, arith}
+use Rattle.std.proofs.Common.{◌≡◌, ℕ, ◌+◌, ◌≤◌, ◌<◌, false, List, [], ◌∷◌, ◌++◌, length, refl, sym, ap, ap₂, ◌∙◌, subst, length-append, arith}
 use Rattle.grammar_laws.specs.Form.{Form, Both, Many, begins_in, may_be_empty, starts, continues, IsGood}
 use Rattle.grammar_laws.specs.Reading.{Done, reads}
 use Rattle.grammar_laws.proofs.Complete.{complete, not_continued}
@@ -9,16 +9,12 @@ use Rattle.grammar_laws.proofs.Taken.{took_some}
 use Rattle.c_grammar.specs.Words.{Word, classes}
 use Rattle.c_grammar.specs.Matching.{IsForm}
 use Rattle.c_grammar.specs.Spelling.{Rule, word, each}
-use Rattle.c_grammar.proofs.Parts.{classes_of}
+use Rattle.c_grammar.proofs.Parts.{length-classes, classes_of}
 use Rattle.c_grammar.proofs.Spelled.{Leads, is_each}
 
 -- the words behind do not continue the form
 abbrev pub Ends : Form → List Word → Type 0
 Ends form words = begins_in (continues form) (classes words) ≡ false
-
-length-classes : (words : List Word) → length (classes words) ≡ length words
-length-classes [] = refl
-length-classes (first ∷ others) = ap suc (length-classes others)
 
 -- two ends of one list that are of the same length are the same
 pub same_end : (front other mid end : List Word) → front ++ mid ≡ other ++ end → length mid ≡ length end → mid ≡ end

@@ -36,7 +36,7 @@ one_name n m (w ∷ ws) to end h k =
     let text : n.text ≡ m.text = sym h.2 ∙ k.2 in
     (sym h.3 ∙ k.3, λ i. record { place = place i; text = text i })
 
-one_open : (from to end : List Word) → open_paren from to → open_paren from end → to ≡ end
+pub one_open : (from to end : List Word) → open_paren from to → open_paren from end → to ≡ end
 one_open [] to end (inl h) k = absurd h
 one_open [] to end (inr h) k = absurd h
 one_open (w ∷ ws) to end (inl h) (inl k) = sym h.1 ∙ k.1
@@ -45,7 +45,7 @@ one_open (w ∷ ws) to end (inr h) (inl k) = sym h.1 ∙ k.1
 one_open (w ∷ ws) to end (inr h) (inr k) = sym h.1 ∙ k.1
 
 -- words of different classes are different
-apart : {A : Type 0} (n m : ℕ) (c : ℕ) → (n == m) ≡ false → c ≡ n → c ≡ m → A
+pub apart : {A : Type 0} (n m : ℕ) (c : ℕ) → (n == m) ≡ false → c ≡ n → c ≡ m → A
 apart n m c e f g = absurd (let same : n ≡ m = sym f ∙ g in let t : (n == m) ≡ true = eq-eqb n m same in let z : true ≡ false = sym t ∙ e in cc)
 
 pub one_specifier : (s t : Specifier) (from to end : List Word) → specifier s from to → specifier t from end → (to ≡ end) × (s ≡ t)
@@ -132,7 +132,7 @@ abbrev pub UniqueBelow : ℕ → Type 0
 UniqueBelow zero = Unit {0}
 UniqueBelow (suc n) = UniqueAt 0 n (Forms.expr_form n)
 
-whole_form : (e : Expr) (n : ℕ) (from to : List Word) → nesting e ≤ n → expr_at 0 e from to → IsForm (Forms.expr_form n) from to
+pub whole_form : (e : Expr) (n : ℕ) (from to : List Word) → nesting e ≤ n → expr_at 0 e from to → IsForm (Forms.expr_form n) from to
 whole_form e n from to fits h = is_known (is_expr e 0 8 n from to refl fits h)
 
 comma_good : (n : ℕ) → IsGood (Forms.more_of (Forms.expr_form n))
@@ -247,7 +247,7 @@ some_primary (Expr.Chain first (Links.Link op second others)) to h = let l = low
 some_primary (Expr.Prefix place op inner) to h = absurd (omega arith)
 some_primary (Expr.Members base first others) to h = absurd (omega arith)
 
-paren_good : (n : ℕ) → IsGood (Both (Forms.expr_form n) (AWord Classes.CLOSE))
+pub paren_good : (n : ℕ) → IsGood (Both (Forms.expr_form n) (AWord Classes.CLOSE))
 paren_good n = let e = expr_good n in search e
 
 call_good : (n : ℕ) → IsGood (Both (Forms.optional (Both (Forms.expr_form n) (Forms.more_of (Forms.expr_form n)))) (AWord Classes.CLOSE))
@@ -272,7 +272,7 @@ unique_paren n unique p q x y from to fx fy (a, h, (b, i, j)) (c, k, (d, l, m)) 
     let l'' : expr_at 0 y a b = subst (λ w. expr_at 0 y a w) (sym eb) l' in
     ap₂ Expr.Paren place (unique x y a b fx fy i l'' (ends_first (Forms.expr_form n) (AWord Classes.CLOSE) (paren_good n) b to close (ends_word to)))
 
-unique_call : (n : ℕ) → UniqueAt 0 n (Forms.expr_form n) → (f g : Name) (x y : Args) (from to : List Word) → args_nesting x ≤ n → args_nesting y ≤ n
+pub unique_call : (n : ℕ) → UniqueAt 0 n (Forms.expr_form n) → (f g : Name) (x y : Args) (from to : List Word) → args_nesting x ≤ n → args_nesting y ≤ n
     → expr_at 8 (Expr.Call f x) from to → expr_at 8 (Expr.Call g y) from to → (f ≡ g) × (x ≡ y)
 unique_call n unique f g x y from to fx fy (a, h, (b, i, (c, j, close))) (a', k, (b', l, (c', m, close'))) =
     let (ea, same) = one_name f g from a a' h k in
@@ -421,11 +421,11 @@ parted n (Expr.Prefix p op inner) from to fits h = absurd (omega arith)
 parted n (Expr.Chain first Links.NoLinks) from to fits h = absurd h
 parted n (Expr.Chain first (Links.Link op second others)) from to fits h = let l = low op in absurd (omega arith)
 
-postfix_good : (n : ℕ) → IsGood (Forms.postfix_form n (Forms.expr_below n))
+pub postfix_good : (n : ℕ) → IsGood (Forms.postfix_form n (Forms.expr_below n))
 postfix_good zero = search rules
 postfix_good (suc n) = let e = expr_good n in search e
 
-unique_postfix : (n : ℕ) → UniqueBelow n → UniqueAt 7 n (Forms.postfix_form n (Forms.expr_below n))
+pub unique_postfix : (n : ℕ) → UniqueBelow n → UniqueAt 7 n (Forms.postfix_form n (Forms.expr_below n))
 unique_postfix n below e f from to fe ff h k ends =
     let p = parted n e from to fe h in
     let q = parted n f from to ff k in
@@ -506,7 +506,7 @@ ends_postfix : (n : ℕ) (to : List Word) → Ends (Forms.unary_form n) to → E
 ends_postfix zero to ends = begins_without (continues (Forms.postfix_form zero Nothing)) (Forms.unary_facts).continues (classes to) refl ends
 ends_postfix (suc n) to ends = begins_without (continues (Forms.postfix_form (suc n) (Forms.expr_form n))) (Forms.unary_facts).continues (classes to) refl ends
 
-unique_unary_zero : UniqueAt 6 zero (Forms.unary_form zero)
+pub unique_unary_zero : UniqueAt 6 zero (Forms.unary_form zero)
 unique_unary_zero e f from to fe ff h k ends = by_case (no_prefix e from to h) (no_prefix f from to k)
   where
     by_case : ((p : Place) × (op : PrefixOp) × (inner : Expr) × (e ≡ Expr.Prefix p op inner) × ((a : List Word) × word_at p (class_of_prefix op) from a × expr_at 6 inner a to)) ⊎ expr_at 7 e from to
@@ -515,7 +515,7 @@ unique_unary_zero e f from to fe ff h k ends = by_case (no_prefix e from to h) (
     by_case (inr l) (inl (p, op, inner, is, m)) = let fits : nesting (Expr.Prefix p op inner) ≤ 0 = subst (λ x. nesting x ≤ 0) is ff in absurd (omega arith)
     by_case (inr l) (inr m) = unique_postfix zero tt e f from to fe ff l m (ends_postfix zero to ends)
 
-unique_unary_more : (n : ℕ) → UniqueAt 6 n (Forms.unary_form n) → UniqueBelow (suc n) → UniqueAt 6 (suc n) (Forms.unary_form (suc n))
+pub unique_unary_more : (n : ℕ) → UniqueAt 6 n (Forms.unary_form n) → UniqueBelow (suc n) → UniqueAt 6 (suc n) (Forms.unary_form (suc n))
 unique_unary_more n unique below e f from to fe ff h k ends = by_case (no_prefix e from to h) (no_prefix f from to k)
   where
     by_case : ((p : Place) × (op : PrefixOp) × (inner : Expr) × (e ≡ Expr.Prefix p op inner) × ((a : List Word) × word_at p (class_of_prefix op) from a × expr_at 6 inner a to)) ⊎ expr_at 7 e from to

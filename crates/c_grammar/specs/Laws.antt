@@ -11,6 +11,10 @@ use Rattle.c_grammar.specs.Spelling.{Spells, level_of, expr_at, params, stmt}
 use Rattle.c_grammar.specs.Trees.{Name, Specifier, Params, BinaryOp, Expr, Links, Stmt, File}
 use Rattle.c_grammar.specs.Words.{Word, words_of}
 
+-- no words have two trees, not even with other places
+abbrev pub HaveOneTree : Type 0
+HaveOneTree = (words : List Word) (one other : File) → Spells one words → Spells other words → one ≡ other
+
 -- no words are refused twice
 abbrev pub HaveOneRefusal : Type 0
 HaveOneRefusal = (words : List Word) (one other : Refusal) → RefusedAt words one → RefusedAt words other → one ≡ other
