@@ -25,3 +25,6 @@ pub mod UniqueSimples
 pub mod UniqueStmts
 pub mod UniqueFiles
 pub mod OneTree
+pub mod Alike
+pub mod Printed
+pub mod RoundTrip

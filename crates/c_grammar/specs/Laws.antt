@@ -3,8 +3,11 @@ use Rattle.std.specs.Prelude.{◌≡◌, ℕ, ◌≤◌, ◌⊎◌, List, [], �
 use Rattle.c_tokens.specs.declared.places.Place.{Place}
 use Rattle.c_tokens.specs.declared.places.Refusal.{Refusal}
 use Rattle.c_tokens.specs.declared.token.Token.{Token}
+use Rattle.c_tokens.specs.Grammar.{HasTokens}
 use Rattle.c_tokens.specs.TokenLists.{IsTokenList}
 use Rattle.c_grammar.specs.Nesting.{file_nesting}
+use Rattle.c_grammar.specs.Placeless.{placeless}
+use Rattle.c_grammar.specs.Printing.{printed_text}
 use Rattle.c_grammar.specs.Refusals.{MOST_LEVELS, RefusedAt}
 use Rattle.c_grammar.specs.Classes
 use Rattle.c_grammar.specs.Spelling.{Spells, level_of, expr_at, params, stmt}
@@ -14,6 +17,13 @@ use Rattle.c_grammar.specs.Words.{Word, words_of}
 -- no words have two trees, not even with other places
 abbrev pub HaveOneTree : Type 0
 HaveOneTree = (words : List Word) (one other : File) → Spells one words → Spells other words → one ≡ other
+
+-- the text that is printed of a file has tokens, which spell the same file up to places
+abbrev pub HaveRoundTrip : Type 0
+HaveRoundTrip =
+    (tokens : List Token) (file : File) → IsTokenList tokens → Spells file (words_of tokens)
+    → (again : List Token) × (same : File) × HasTokens (printed_text file) again × Spells same (words_of again)
+    × (placeless same ≡ placeless file) × (file_nesting same ≡ file_nesting file)
 
 -- no words are refused twice
 abbrev pub HaveOneRefusal : Type 0

@@ -6,5 +6,7 @@ pub mod Nesting
 pub mod Forms
 pub mod Matching
 pub mod Refusals
+pub mod Printing
+pub mod Placeless
 pub mod Laws
 pub mod Readers

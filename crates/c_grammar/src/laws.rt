@@ -1,9 +1,14 @@
 //! Laws of the grammar. Each is the contract of a function with an empty body.
-ghost use Rattle.c_grammar.specs.Laws.{HaveOneTree, HaveOneRefusal, HaveNotBoth, HaveEither, HaveTighterOperands, HaveChains, HaveNearestElse, HaveVoidAlone};
+ghost use Rattle.c_grammar.specs.Laws.{HaveOneTree, HaveRoundTrip, HaveOneRefusal, HaveNotBoth, HaveEither, HaveTighterOperands, HaveChains, HaveNearestElse, HaveVoidAlone};
 
 /// No words have two trees: the grammar is unambiguous.
 pub fn one_tree()
     ensures { HaveOneTree }
+{}
+
+/// The text that is printed of a file is read as the same file, up to places. (By [`one_tree`] it is read as no other.)
+pub fn round_trip()
+    ensures { HaveRoundTrip }
 {}
 
 /// No words are refused at two places, or with two codes.
