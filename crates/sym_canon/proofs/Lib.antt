@@ -1,0 +1,10 @@
+pub mod CanonLaws
+pub mod FactLaws
+pub mod FactPlaces
+pub mod FrontLaws
+pub mod NumberLaws
+pub mod PairLaws
+pub mod PlacingLaws
+pub mod PlacingTurns
+pub mod SightLaws
+pub mod TurnLaws

@@ -1,0 +1,19 @@
+//! The canonical form of a state, of a post, and of a pair of a missing heap and a state: atoms in the order in which a
+//! search from the parameters and the locals comes to them, variables numbered as they come into sight, facts sorted.
+//! It stands on the laws of `heap_laws` and the shared code of `sym_parts`; that the meaning is kept is said in [`laws`].
+#![tactic(auto)]
+
+mod facts;
+pub mod laws;
+mod numbering;
+mod pairs;
+mod parts;
+mod placing;
+mod sights;
+mod states;
+#[cfg(test)]
+mod tests;
+
+pub use pairs::canon_pair;
+pub use parts::{Pair, Variables};
+pub use states::{canon_post, canon_state};
