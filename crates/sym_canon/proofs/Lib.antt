@@ -3,6 +3,7 @@ pub mod FactLaws
 pub mod FactPlaces
 pub mod FrontLaws
 pub mod NumberLaws
+pub mod OrderLaws
 pub mod PairLaws
 pub mod PlacingLaws
 pub mod PlacingTurns

@@ -1,14 +1,17 @@
 -- Laws of the canonical form: it keeps the meaning.
-use Rattle.std.specs.Prelude.{◌≡◌, ◌↔◌, ℕ, ◌+◌, ◌<◌, ◌≤◌, ℤ, List, length}
+use Rattle.std.specs.Prelude.{◌≡◌, ◌↔◌, ℕ, ◌+◌, ◌<◌, ◌≤◌, ℤ, Bool, true, not, ◌&&◌, List, [], ◌∷◌, length}
+use Rattle.std.specs.List.{list_all}
 use Rattle.shape_data.specs.declared.machine.Cell.{Cell}
 use Rattle.shape_data.specs.declared.program.StructDef.{StructDef}
 use Rattle.shape_data.specs.declared.symbolic.Atom.{Atom}
 use Rattle.shape_data.specs.declared.symbolic.Exp.{Exp}
+use Rattle.shape_data.specs.declared.symbolic.Fact.{Fact}
 use Rattle.shape_data.specs.declared.symbolic.Post.{Post}
 use Rattle.shape_data.specs.declared.symbolic.SymHeap.{SymHeap}
 use Rattle.shape_data.specs.declared.symbolic.SymState.{SymState}
 use Rattle.shape_data.specs.Meaning.{Meets, MeetsState, MeetsPost}
 use Rattle.sym_canon.specs.Canonical.{canon_state, canon_post, canon_pair}
+use Rattle.sym_canon.specs.FactOrder.{is_fact_before, sorted_facts}
 use Rattle.sym_canon.specs.Placing.{place}
 
 -- the same locals and heaps meet a state and its canonical form, under each assignment to the logical variables
@@ -48,3 +51,12 @@ CanonPairKeepsMeaning = (missing : SymHeap) (state : SymState) (params : ℕ) �
 -- as many turns of placing as there are atoms are enough: more change nothing
 abbrev pub MoreTurnsChangeNothing : Type 0
 MoreTurnsChangeNothing = (more : ℕ) (queue : List Exp) (left : List Atom) → place (length left + more) queue left ≡ place (length left) queue left
+
+-- no fact comes before one that stands in front of it
+abbrev pub are_in_order : List Fact → Bool
+are_in_order [] = true
+are_in_order (fact ∷ facts) = list_all (λ later. not (is_fact_before later fact)) facts && are_in_order facts
+
+-- sorted facts are in order
+abbrev pub FactsAreInOrder : Type 0
+FactsAreInOrder = (facts : List Fact) → are_in_order (sorted_facts facts) ≡ true

@@ -15,5 +15,5 @@ mod states;
 mod tests;
 
 pub use pairs::canon_pair;
-pub use parts::{Pair, Variables};
+pub use parts::Pair;
 pub use states::{canon_post, canon_state};
