@@ -1,0 +1,4 @@
+pub mod TypeSteps
+pub mod Links
+pub mod Arguments
+pub mod ExprSteps

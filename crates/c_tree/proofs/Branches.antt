@@ -1,0 +1,16 @@
+-- The tree of an `if` with an `else`.
+use Rattle.std.proofs.Common.{◌≡◌, Some, Box, Global, sym, ap, ◌∙◌, rules}
+use Rattle.c_tokens.specs.declared.places.Place.{Place}
+use Rattle.c_grammar.specs.Trees as tree
+use Rattle.c_tree.specs.Syntax.{stmt_tree, expr_tree, stmt_level, block_level, BlockTree}
+use Rattle.c_tree.specs.declared.exprs.Expr.{Expr}
+use Rattle.c_tree.specs.declared.stmts.Stmt.{Stmt}
+use Rattle.c_tree.specs.declared.stmts.Stmt.TheVariants.{rolls-If}
+use Rattle.c_tree.specs.declared.stmts.Stmt.TheViews.{If}
+use Rattle.c_tree.specs.declared.stmts.Stmt.TheOpen.{Stmt-F}
+use Rattle.c_tree.specs.declared.stmts.Stmt.TheFolds.{fold-roll-Stmt}
+
+pub if_else : (place : Place) (test : Expr) (body other : Box Stmt Global)
+    → stmt_tree (If place test body (Some other)) ≡ tree.Stmt.IfElse place (expr_tree test) (stmt_tree body.value) (stmt_tree other.value)
+if_else place test body other =
+    ap stmt_tree (sym (rolls-If place test body (Some other))) ∙ fold-roll-Stmt tree.Stmt BlockTree stmt_level block_level (Stmt-F.If place test body (Some other))

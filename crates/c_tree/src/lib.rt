@@ -1,0 +1,16 @@
+//! Syntax trees of the C subset (C11 6.5 to 6.9) as plain data. `specs/Syntax` says which tree of the grammar, in
+//! `c_grammar`, each value stands for; what reads, prints and checks C speaks of that tree alone.
+#![tactic(auto)]
+
+mod clones;
+pub mod exprs;
+pub mod items;
+pub mod names;
+pub mod stmts;
+
+pub use c_tokens::Place;
+pub use exprs::{BinaryOp, Expr, Link, PrefixOp};
+pub use items::{Item, Unit};
+pub use names::{Declarator, FieldDecl, Head, Ident, Param, Params, TypeSpecifier};
+pub use shape_data::Name;
+pub use stmts::{AssignOp, Block, ForInit, Initialized, Local, Simple, StepOp, Stmt};
