@@ -1,0 +1,7 @@
+mod First
+mod Places
+mod OwnTypes
+mod KnownTables
+mod KnownExprs
+mod KnownStmts
+mod KnownPrograms

@@ -1,0 +1,11 @@
+pub mod FirstPlaces
+pub mod Types
+pub mod Tables
+pub mod Scopes
+pub mod Expressions
+pub mod Kinds
+pub mod Statements
+pub mod Items
+pub mod Programs
+pub mod Examples
+pub mod Laws
