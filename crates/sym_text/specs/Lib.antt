@@ -1,0 +1,5 @@
+pub mod Text
+pub mod Grammar
+pub mod Led
+pub mod Reading
+pub mod Outcome

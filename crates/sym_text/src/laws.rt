@@ -1,0 +1,20 @@
+//! Laws of texts: one text is that of one heap, and of one post.
+ghost use Rattle.std.specs.Prelude.{◌≡◌, List, ℕ, true};
+ghost use Rattle.shape_data.specs.declared.program.StructDef.{StructDef};
+ghost use Rattle.shape_data.specs.declared.symbolic.Post.{Post};
+ghost use Rattle.shape_data.specs.declared.symbolic.SymHeap.{SymHeap};
+ghost use Rattle.shape_data.specs.WellFormed.{AreParams, AreStructs};
+ghost use Rattle.sym_text.specs.Grammar.{IsWritten, IsWrittenPost};
+ghost use Rattle.sym_text.specs.Text.{heap_text, post_text};
+
+/// Two well-formed heaps with one text are the same: so printing and reading undo one another.
+pub fn one_heap()
+    ensures { (structs : List StructDef) → (params : List (List ℕ)) → AreStructs structs → AreParams params → (one other : SymHeap) → IsWritten structs params one → IsWritten structs params other
+        → heap_text structs params one ≡ heap_text structs params other → one ≡ other }
+{}
+
+/// Two well-formed posts with one text with the result are the same.
+pub fn one_post()
+    ensures { (structs : List StructDef) → (params : List (List ℕ)) → AreStructs structs → AreParams params → (one other : Post) → IsWrittenPost structs params one → IsWrittenPost structs params other
+        → post_text structs params true one ≡ post_text structs params true other → one ≡ other }
+{}
