@@ -1,0 +1,9 @@
+pub mod ApartLaws
+pub mod AtomTurns
+pub mod CoverLengths
+pub mod FieldTurns
+pub mod MatchSteps
+pub mod NewVariableTurns
+pub mod SmallLaws
+pub mod StateConditions
+pub mod WalkTurns

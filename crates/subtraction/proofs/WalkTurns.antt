@@ -1,0 +1,51 @@
+-- A turn of the walk along a segment.
+use Rattle.std.proofs.Common.{◌≡◌, ◌∙◌, ℕ, zero, suc, ◌+◌, ◌-◌, ◌<◌, ◌≤◌, true, false, List, Some, None, refl, sym, ap, slice_get, length, arith}
+use Rattle.shape_data.specs.declared.symbolic.Exp.{Exp}
+use Rattle.shape_data.specs.declared.symbolic.Fact.{Fact}
+use Rattle.heap_laws.specs.Expressions.{same_exp}
+use Rattle.match_laws.specs.declared.matching.Matching.{Matching}
+use Rattle.match_laws.specs.declared.matching.Turned.{Turned}
+use Rattle.match_laws.specs.declared.matching.Turned.TheVariants.{On, Stuck}
+use Rattle.match_laws.specs.Reading.{is_unbound, read}
+use Rattle.match_laws.specs.Steps.{Rules, bind}
+use Rattle.match_laws.specs.WantedSegments.{piece, piece_at, reach, take_piece, walk, want_segment}
+use Rattle.subtraction.specs.Rules.{strict_of}
+
+module _ (facts : List Fact) (flexible : List ℕ) (turns done number : ℕ) (kind : List ℕ) (link : ℕ) (to e : Exp) (m : Matching) (inside : done < turns) where
+  turn_left : turns - done ≡ suc (turns - (done + 1))
+  turn_left = omega arith
+
+  pub walk_arrives : same_exp e to ≡ true → walk (turns - done) (strict_of facts flexible) number kind link to e m ≡ On m
+  walk_arrives is = rw (turn_left, is) refl
+
+  pub walk_stops : same_exp e to ≡ false → None ≡ piece kind link e m.left → walk (turns - done) (strict_of facts flexible) number kind link to e m ≡ Stuck number
+  walk_stops apart none = rw (turn_left, apart, ← none) refl
+
+  pub walk_goes : (place : ℕ) (next : Exp) (n : Matching) → same_exp e to ≡ false → Some place ≡ piece kind link e m.left →
+      ((number : ℕ) (go_on : Exp → Matching → Turned) → take_piece number link m go_on place (slice_get m.left place) ≡ go_on next n) →
+      walk (turns - done) (strict_of facts flexible) number kind link to e m ≡ walk (turns - (done + 1)) (strict_of facts flexible) number kind link to next n
+  walk_goes place next n apart some taken = rw (turn_left, apart, ← some) (taken number (walk (turns - (done + 1)) (strict_of facts flexible) number kind link to))
+
+module _ (facts : List Fact) (flexible : List ℕ) (turns done number : ℕ) (kind : List ℕ) (link : ℕ) (to e : Exp) (m : Matching) (past : turns ≤ done) where
+  none_left : turns - done ≡ zero
+  none_left = omega arith
+
+  pub walk_ends : same_exp e to ≡ true → walk (turns - done) (strict_of facts flexible) number kind link to e m ≡ On m
+  walk_ends is = rw (none_left, is) refl
+
+  pub walk_is_stuck : same_exp e to ≡ false → walk (turns - done) (strict_of facts flexible) number kind link to e m ≡ Stuck number
+  walk_is_stuck apart = rw (none_left, apart) refl
+
+-- an end that is unbound: one piece is taken
+pub reach_goes : (facts : List Fact) (flexible : List ℕ) (number : ℕ) (kind : List ℕ) (link : ℕ) (to e next : Exp) (m n last : Matching) (place : ℕ) → Some place ≡ piece kind link e m.left →
+    ((number : ℕ) (go_on : Exp → Matching → Turned) → take_piece number link m go_on place (slice_get m.left place) ≡ go_on next n) → last ≡ bind n to next →
+    On last ≡ reach (strict_of facts flexible) number kind link to e m
+reach_goes facts flexible number kind link to e next m n last place some taken is = rw (← some) (ap On is ∙ sym (taken number (λ f k. On (bind k to f))))
+
+-- the two cases of a wanted segment
+pub segment_reaches : (rules : Rules) (number : ℕ) (kind : List ℕ) (link : ℕ) (e to : Exp) (m : Matching) → is_unbound rules.flexible m.binding to ≡ true → reach rules number kind link to e m ≡ want_segment rules number kind link e to m
+segment_reaches rules number kind link e to m is = rw is refl
+
+pub segment_walks : (rules : Rules) (number : ℕ) (kind : List ℕ) (link : ℕ) (e to end : Exp) (m : Matching) → is_unbound rules.flexible m.binding to ≡ false → end ≡ read rules.facts m.binding to →
+    walk (length m.left) rules number kind link end e m ≡ want_segment rules number kind link e to m
+segment_walks rules number kind link e to end m is read_is = rw (is, read_is) refl

@@ -1,0 +1,266 @@
+//! Whether a state or a post covers another: whatever meets the second then meets the first, by the law
+//! `match_laws::laws::covering_is_met`.
+ghost use Rattle.std.specs.Prelude.{◌≡◌, ◌↔◌, ◌+◌, ◌<◌, [], IfOk, IsTrue, filter, leb, length};
+ghost use Rattle.heap_laws.specs.Each.{EachInState};
+ghost use Rattle.sym_canon.specs.Canonical.{as_state as as_state_of, canon_post as canon_post_of, canon_state as canon_state_of};
+ghost use Rattle.match_laws.specs.Covers.{PostCovers, StateCovers, above as above_of, apart_from as apart_from_of, equal_slots as equal_slots_of, existentials as existentials_of, match_state as match_state_of, matches_state as matches_state_of, takes_all as takes_all_of};
+ghost use Rattle.match_laws.specs.Matches.{want_heap as want_heap_of};
+ghost use Rattle.match_laws.specs.NewVariables.{HasRoom};
+ghost use Rattle.match_laws.specs.Rooms.{IsSmall, fields_of_all};
+ghost use Rattle.match_laws.specs.Steps.{and_then};
+ghost use Rattle.match_laws.specs.Variables.{with_state};
+ghost use Rattle.match_laws.specs.WantedFacts.{want_all_owed as want_all_owed_of};
+ghost use Rattle.subtraction.specs.Apart.{number_within};
+ghost use Rattle.subtraction.specs.Conditions.{AreSmall, IsPostWithinSizes, IsStateWithinSizes};
+ghost use Rattle.subtraction.specs.Rules.{strict};
+
+use crate::facts::want_all_owed;
+use crate::matching::{has_junk, start, want_heap};
+use crate::reading::Facts;
+use crate::variables::add_state;
+use match_laws::{Matching, Owed, Turned};
+use shape_data::symbolic::{Exp, FIRST_EXISTENTIAL, Post, SymHeap, SymState};
+use shape_data::{Row, copy_of, is_same};
+use std::alloc::{AllocError, Global};
+use sym_canon::{canon_post, canon_state};
+use sym_parts::{Mapping, map_state};
+
+/// The variables of a state.
+fn variables_of(alloc: Global, state: &SymState) -> Result<Vec<u32>, AllocError>
+    ensures { IfOk result (λ names. names.items ≡ with_state [] state.now) }
+{
+    let mut names = Vec::new(alloc);
+    add_state(&mut names, state)?;
+    Ok(names)
+}
+
+/// The variables of two states.
+fn variables_of_both(alloc: Global, a: &SymState, b: &SymState) -> Result<Vec<u32>, AllocError>
+    ensures { IfOk result (λ names. names.items ≡ with_state (with_state [] a.now) b.now) }
+{
+    let mut names = Vec::new(alloc);
+    add_state(&mut names, a)?;
+    add_state(&mut names, b)?;
+    Ok(names)
+}
+
+/// The least number from a first one on that is above all the variables.
+fn above(first: u32, names: &[u32]) -> u32
+    requires { AreSmall names.now }
+    ensures { result ≡ above_of first names.now }
+{
+    let mut least = first;
+    for x in names {
+        if *x >= least {
+            least = *x + 1;
+        }
+    }
+    least
+}
+
+/// Numbers for existential variables, from a first one on.
+#[derive(Clone, Copy)]
+struct Apart {
+    first: u32,
+}
+
+impl Apart {
+    /// The number of a variable.
+    fn number_of(&self, x: u32) -> u32
+        ensures { result ≡ number_within self.now.first x }
+    {
+        if x < FIRST_EXISTENTIAL {
+            return x;
+        }
+        match self.first.checked_add(x - FIRST_EXISTENTIAL) {
+            Some(number) => number,
+            None => x,
+        }
+    }
+}
+
+impl Mapping for Apart {
+    ghost use Rattle.subtraction.specs.Apart.{renumbered};
+
+    ghost image = { λ apart. renumbered apart.first };
+
+    fn image_of(&self, e: Exp) -> Exp {
+        match e {
+            Exp::Var(x) => Exp::Var(self.number_of(x)),
+            Exp::Const(_) => e,
+        }
+    }
+}
+
+/// The wanted state with numbers for its existential variables that are free in the other.
+fn apart_from(alloc: Global, a: &SymState, b: &SymState) -> Result<SymState, AllocError>
+    requires a { EachInState IsSmall a.now }
+    requires b { EachInState IsSmall b.now }
+    ensures { IfOk result (λ apart. apart ≡ apart_from_of a.now b.now) }
+{
+    let names = variables_of(alloc, a)?;
+    let first = above(FIRST_EXISTENTIAL, names.as_slice());
+    map_state(alloc, &Apart { first }, b)
+}
+
+/// The existential variables of a list.
+fn existential_ones(alloc: Global, list: &[u32]) -> Result<Vec<u32>, AllocError>
+    ensures { IfOk result (λ names. names.items ≡ filter (λ x. leb 65536 x) list.now) }
+{
+    let mut names = Vec::new(alloc);
+    for x in list {
+        if FIRST_EXISTENTIAL <= *x {
+            names.push(*x)?;
+        }
+    }
+    Ok(names)
+}
+
+/// The existential variables of a state.
+fn existentials(alloc: Global, state: &SymState) -> Result<Vec<u32>, AllocError>
+    ensures { IfOk result (λ names. names.items ≡ existentials_of state.now) }
+{
+    let all = variables_of(alloc, state)?;
+    existential_ones(alloc, all.as_slice())
+}
+
+/// The wanted locals are equal to those that are there, slot by slot.
+fn equal_slots(alloc: Global, wants: &[Exp], haves: &[Exp]) -> Result<Vec<Owed>, AllocError>
+    requires { length wants.now ≡ length haves.now }
+    ensures { IfOk result (λ owed. owed.items ≡ equal_slots_of wants.now haves.now) }
+{
+    let mut owed = Vec::new(alloc);
+    for slot in 0..wants.len() {
+        owed.push(Owed {
+            number: 0,
+            want: wants[slot],
+            have: haves[slot],
+        })?;
+    }
+    Ok(owed)
+}
+
+/// The match of the locals, slot by slot, then of the heap.
+fn want_state(
+    alloc: Global,
+    rules: &Facts,
+    slots: &[Owed],
+    b: &SymHeap,
+    m: Matching,
+) -> Result<Turned, AllocError>
+    requires room { HasRoom (fields_of_all b.now.spatial) m.used }
+    requires few { length b.now.spatial + length b.now.pure < 4294967296 }
+    ensures { IfOk result (λ turned. turned ≡ and_then (want_heap_of (strict rules.now) b.now) (want_all_owed_of (strict rules.now) slots.now m)) }
+{
+    match want_all_owed(rules, slots, m)? {
+        Turned::On(n) => want_heap(alloc, rules, b, n),
+        Turned::Stuck(number) => Ok(Turned::Stuck(number)),
+    }
+}
+
+/// The match of a state in another, its existential variables being flexible.
+fn match_state(alloc: Global, a: &SymState, b: &SymState) -> Result<Turned, AllocError>
+    requires slots { length b.now.locals ≡ length a.now.locals }
+    requires room { HasRoom (fields_of_all b.now.heap.spatial) (with_state (with_state [] a.now) b.now) }
+    requires few { length b.now.heap.spatial + length b.now.heap.pure < 4294967296 }
+    ensures { IfOk result (λ turned. turned ≡ match_state_of a.now b.now) }
+{
+    let flexible = existentials(alloc, b)?;
+    let used = variables_of_both(alloc, a, b)?;
+    let slots = equal_slots(alloc, b.locals.as_slice(), a.locals.as_slice())?;
+    let m = start(alloc, &a.heap, &[], used)?;
+    let rules = Facts {
+        facts: a.heap.pure.as_slice(),
+        flexible: flexible.as_slice(),
+    };
+    want_state(alloc, &rules, slots.as_slice(), &b.heap, m)
+}
+
+/// Whether a match went to its end and its frame has no atom.
+fn takes_all(b: &SymHeap, turned: &Turned) -> bool
+    ensures { result ≡ takes_all_of b.now turned.now }
+{
+    match turned {
+        Turned::On(m) => has_junk(b.spatial.as_slice()) || m.left.is_empty(),
+        Turned::Stuck(_) => false,
+    }
+}
+
+/// Whether the state `b`, renamed apart, matches `a` with nothing left over.
+fn matches_state(alloc: Global, a: &SymState, b: &SymState) -> Result<bool, AllocError>
+    requires a { IsStateWithinSizes a.now }
+    requires b { IsStateWithinSizes b.now }
+    ensures { IfOk result (λ matches. matches ≡ matches_state_of a.now b.now) }
+{
+    if b.locals.len() != a.locals.len() {
+        return Ok(false);
+    }
+    let apart = apart_from(alloc, a, b)?;
+    let turned = match_state(alloc, a, &apart)?;
+    Ok(takes_all(&apart.heap, &turned))
+}
+
+/// Whether the two have equal canonical forms.
+fn are_alike(alloc: Global, a: &SymState, b: &SymState) -> Result<bool, AllocError>
+    ensures { IfOk result (λ alike. IsTrue alike ↔ (canon_state_of a.now 0 ≡ canon_state_of b.now 0)) }
+{
+    let one = canon_state(alloc, a, 0)?;
+    let other = canon_state(alloc, b, 0)?;
+    Ok(is_same(&one, &other))
+}
+
+/// Whether the state `b` covers the state `a`: their canonical forms are equal, or `b` matches `a` with nothing left over, its
+/// existential variables being flexible. `a` should be normal; else the answer is still the definition's. The only error is
+/// want of memory.
+pub fn covers_state(alloc: Global, a: &SymState, b: &SymState) -> Result<bool, AllocError>
+    requires a { IsStateWithinSizes a.now }
+    requires b { IsStateWithinSizes b.now }
+    ensures { IfOk result (λ covers. IsTrue covers ↔ StateCovers b.now a.now) }
+{
+    if are_alike(alloc, a, b)? {
+        return Ok(true);
+    }
+    matches_state(alloc, a, b)
+}
+
+/// A post as a state with one local, the result.
+fn as_state(alloc: Global, post: &Post) -> Result<SymState, AllocError>
+    ensures { IfOk result (λ state. state ≡ as_state_of post.now) }
+{
+    Ok(SymState {
+        locals: Row::from_vec(vec![in alloc; post.ret]?),
+        heap: copy_of(&post.heap)?,
+    })
+}
+
+/// Whether the posts, as states, match with nothing left over.
+fn matches_post(alloc: Global, a: &Post, b: &Post) -> Result<bool, AllocError>
+    requires a { IsPostWithinSizes a.now }
+    requires b { IsPostWithinSizes b.now }
+    ensures { IfOk result (λ matches. matches ≡ matches_state_of (as_state_of a.now) (as_state_of b.now)) }
+{
+    let one = as_state(alloc, a)?;
+    let other = as_state(alloc, b)?;
+    matches_state(alloc, &one, &other)
+}
+
+/// Whether the two have equal canonical forms.
+fn are_alike_posts(alloc: Global, a: &Post, b: &Post) -> Result<bool, AllocError>
+    ensures { IfOk result (λ alike. IsTrue alike ↔ (canon_post_of a.now 0 ≡ canon_post_of b.now 0)) }
+{
+    let one = canon_post(alloc, a, 0)?;
+    let other = canon_post(alloc, b, 0)?;
+    Ok(is_same(&one, &other))
+}
+
+/// Whether the post `b` covers the post `a`, as [`covers_state`] with the result as the one local.
+pub fn covers_post(alloc: Global, a: &Post, b: &Post) -> Result<bool, AllocError>
+    requires a { IsPostWithinSizes a.now }
+    requires b { IsPostWithinSizes b.now }
+    ensures { IfOk result (λ covers. IsTrue covers ↔ PostCovers b.now a.now) }
+{
+    if are_alike_posts(alloc, a, b)? {
+        return Ok(true);
+    }
+    matches_post(alloc, a, b)
+}
