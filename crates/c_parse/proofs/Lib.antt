@@ -1,0 +1,4 @@
+pub mod Cases
+pub mod Nested
+pub mod Parts
+pub mod Whole

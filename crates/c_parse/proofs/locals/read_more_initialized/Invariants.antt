@@ -1,0 +1,13 @@
+use Rattle.std.proofs.Common.{length, map}
+use Rattle.c_grammar.specs.declared.class.Class.TheVariants as class
+use Rattle.c_grammar.specs.Readers.{is_class, behind, read_initialized}
+use Rattle.c_tree.specs.Syntax.{initialized_tree}
+use Rattle.c_words.proofs.Loops.{SoFar}
+use Rattle.c_parse.proofs.locals.read_more_initialized.Given as goal
+
+abbrev pub invariant-loop-alloc : goal.invariant-loop-alloc
+invariant-loop-alloc l =
+    SoFar (is_class class.Comma) (λ comma. read_initialized l.levels (behind comma)) l.initial.words (map initialized_tree l.others.items) l.words
+
+abbrev pub decreases-loop-alloc : goal.decreases-loop-alloc
+decreases-loop-alloc l = length l.words

@@ -1,0 +1,5 @@
+use Rattle.c_exprs.proofs.ExprSteps.{below_is}
+use Rattle.c_parse.proofs.simple.read_call_args.Goals as goal
+
+pub returns-clause-value : goal.returns-clause-value
+returns-clause-value c = rw (below_is c.args.levels, ← c.level_below.ensures) c.read_call.ensures.value

@@ -1,0 +1,17 @@
+//! The parser of the C subset (C11 6.5 to 6.9). Its call `parse` gives the syntax tree that the words of a text spell, or the
+//! place where they are refused. Each function below it gives what the reader of its name gives in c_grammar's
+//! `specs/Readers`; only statements within statements recurse, a level at a time.
+#![tactic(auto)]
+
+mod file;
+mod heads;
+mod items;
+mod locals;
+mod plain;
+mod simple;
+mod stmts;
+#[cfg(test)]
+mod tests;
+
+pub use c_words::SyntaxFault;
+pub use file::parse;

@@ -1,0 +1,12 @@
+//! A C file's text and its syntax tree, each from the other: [`read_unit`] reads, and [`print`] writes. What is printed of a
+//! file reads back as that file, up to places.
+#![tactic(auto)]
+
+mod fault;
+mod reading;
+#[cfg(test)]
+mod tests;
+
+pub use c_print::print;
+pub use fault::ReadFault;
+pub use reading::read_unit;

@@ -1,0 +1,126 @@
+//! Texts that are read, printed and read again.
+use crate::{ReadFault, print, read_unit};
+use std::alloc::Global;
+use std::rt::HostRuntime;
+use std::test::Fail;
+
+/// A module of stacks.
+const STACK: &[u8] = b"#include <stdlib.h>
+
+typedef struct node {
+  int data;
+  struct node *next;
+} node;
+
+typedef struct stack {
+  node *head;
+  int size;
+} stack;
+
+stack *make(void) {
+  stack *q = malloc(sizeof(stack));
+  if (q == NULL) return NULL;
+  q->head = NULL;
+  q->size = 0;
+  return q;
+}
+
+int empty(stack *q) {
+  return q->size == 0;
+}
+
+int push(stack *q, int v) {
+  node *n = malloc(sizeof(node));
+  if (!n) return 0;
+  n->data = v;
+  n->next = q->head;
+  q->head = n;
+  q->size++;
+  return 1;
+}
+
+int pop(stack *q) {
+  node *n = q->head;
+  if (n == NULL) return 0;
+  int v = n->data;
+  q->head = n->next;
+  q->size--;
+  free(n);
+  return v;
+}
+
+void clear(stack *q) {
+  while (q->head != NULL) {
+    node *n = q->head;
+    q->head = n->next;
+    free(n);
+  }
+  q->size = 0;
+}
+
+int length(node *n) {
+  if (n == NULL) return 0;
+  int rest = length(n->next);
+  return rest + 1;
+}
+
+int count(stack *q) {
+  return length(q->head);
+}
+
+void destroy(stack *q) {
+  clear(q);
+  free(q);
+}
+";
+
+/// The procedure `make` of that module, as it is printed.
+const MAKE: &[u8] =
+    b"stack * make ( void ) { stack * q = malloc ( sizeof ( stack ) ) ; if ( q == NULL ) return NULL ; q -> head = NULL ; q -> size = 0 ; return q ; } ";
+
+/// The text that is printed of the file that a text is.
+fn printed(alloc: Global, text: &[u8]) -> Result<Vec<u8>, Fail> {
+    if text.len() > 1_000_000 {
+        return Err("too long")?;
+    }
+    match read_unit(alloc, text) {
+        Ok(unit) => Ok(print(alloc, &unit)?),
+        Err(_) => Err("no file")?,
+    }
+}
+
+/// Whether one text stands within the other.
+fn contains(text: &[u8], part: &[u8]) -> bool {
+    text.windows(part.len()).any(|window| window == part)
+}
+
+#[test]
+fn a_module_is_printed_and_read_again(rt: HostRuntime) -> Result<(), Fail> {
+    let alloc = rt.alloc();
+    let first = printed(alloc, STACK)?;
+    let again = printed(alloc, first.as_slice())?;
+    assert!(rt; contains(first.as_slice(), MAKE));
+    assert!(rt; first.as_slice() == again.as_slice());
+    Ok(())
+}
+
+#[test]
+fn refusals_of_tokens_come_before_those_of_syntax(rt: HostRuntime) -> Result<(), Fail> {
+    let alloc = rt.alloc();
+    let rows: [(&[u8], u16, u32, u32); 3] = [
+        (b"int f( { return 0; }\n@", 101, 2, 1),
+        (b"int f( { return 0; }", 111, 1, 8),
+        (b"int f(void) { return 0; }\nint", 111, 2, 4),
+    ];
+    for (text, code, line, column) in rows {
+        match read_unit(alloc, text) {
+            Err(ReadFault::Refused(refusal)) => {
+                assert!(rt;
+                    refusal.code == code && refusal.line == line && refusal.column == column
+                );
+            }
+            _ => return Err("not refused")?,
+        }
+    }
+    Ok(())
+}
