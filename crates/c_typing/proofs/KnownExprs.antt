@@ -61,7 +61,7 @@ found_procedure : (env : Env) (found : Option Procedure) (callee : Name) (args :
 found_procedure env None callee args h e = absurd (cc)
 found_procedure env (Some found) callee args h e = h
 
-member_sound : (tables : Tables) → SoundTables tables → (place : Place) (kind : Kind) (field : Name) → IsSound tables kind
+pub member_sound : (tables : Tables) → SoundTables tables → (place : Place) (kind : Kind) (field : Name) → IsSound tables kind
     → member_refusals tables place kind field ≡ [] → IsSound tables (kind_of_member tables kind field)
 member_sound tables known place None field h e = absurd h
 member_sound tables known place (Some (Ptr tag)) field h e =
@@ -81,7 +81,7 @@ members_known tables known place kind (first ∷ others) h e =
 -- OPERATORS
 
 -- where nothing is refused in an expression, it is no `malloc`
-gives_kind : (env : Env) (e : Expr) → expr_refusals env e ≡ [] → given_by env e ≡ Given.OfKind (kind_of env e)
+pub gives_kind : (env : Env) (e : Expr) → expr_refusals env e ≡ [] → given_by env e ≡ Given.OfKind (kind_of env e)
 gives_kind env (Expr.Paren place inner) h = gives_kind env inner h
 gives_kind env (Expr.Malloc place as_type target) h = absurd (cc)
 gives_kind env other h = refl
@@ -94,7 +94,7 @@ ints_sound tables (Some Int) (Some Int) h k e = tt
 ints_sound tables (Some Int) (Some other) h k e = absurd (cc)
 ints_sound tables (Some other) right h k e = absurd (cc)
 
-binary_sound : (tables : Tables) (op : BinaryOp) (left : Kind) (left_null : Bool) (right : Kind) (right_null : Bool) → IsSound tables left → IsSound tables right
+pub binary_sound : (tables : Tables) (op : BinaryOp) (left : Kind) (left_null : Bool) (right : Kind) (right_null : Bool) → IsSound tables left → IsSound tables right
     → may_stand_by op (Given.OfKind left) left_null (Given.OfKind right) right_null ≡ true → IsSound tables (kind_of_binary op left right)
 binary_sound tables BinaryOp.Add left left_null right right_null h k e = ints_sound tables left right h k e
 binary_sound tables BinaryOp.Subtract left left_null right right_null h k e = ints_sound tables left right h k e

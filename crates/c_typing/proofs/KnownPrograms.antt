@@ -22,7 +22,7 @@ param_sound : (tables : Tables) (p : Param) (n : Option Name) (behind : List Var
 param_sound tables p None behind h k = k
 param_sound tables p (Some n) behind h k = (h, k)
 
-params_sound : (tables : Tables) → SoundTables tables → (all : List Param) (behind : List Variable) → each_param_refusals tables all ≡ []
+pub params_sound : (tables : Tables) → SoundTables tables → (all : List Param) (behind : List Variable) → each_param_refusals tables all ≡ []
     → AllByRecursion (IsVariableSound tables) behind
     → AllByRecursion (IsVariableSound tables) (param_variables tables all behind)
 params_sound tables known [] behind e h = h
@@ -63,15 +63,15 @@ items_known tables known before (first ∷ others) h =
 
 -- FILES
 
-nothing_mapped : {A B : Type 0} (f : A → B) (xs : List A) → map f xs ≡ [] → xs ≡ []
+pub nothing_mapped : {A B : Type 0} (f : A → B) (xs : List A) → map f xs ≡ [] → xs ≡ []
 nothing_mapped f [] e = refl
 nothing_mapped f (x ∷ xs) e = absurd (cc)
 
-items_accepted : (tables before : Tables) (all : List Item) → (items tables before all).refusals ≡ [] → AllByRecursion (IsAccepted tables) all
+pub items_accepted : (tables before : Tables) (all : List Item) → (items tables before all).refusals ≡ [] → AllByRecursion (IsAccepted tables) all
 items_accepted tables before [] e = tt
 items_accepted tables before (first ∷ others) e = ((before, nil_left _ _ e), items_accepted tables (joined before (declares first)) others (nil_right _ _ e))
 
-files_accepted : (tables before : Tables) (unit : ℕ) (files : List File) → files_refusals tables before unit files ≡ []
+pub files_accepted : (tables before : Tables) (unit : ℕ) (files : List File) → files_refusals tables before unit files ≡ []
     → AllByRecursion (IsAccepted tables) (items_of files)
 files_accepted tables before unit [] e = tt
 files_accepted tables before unit (file ∷ files) e =

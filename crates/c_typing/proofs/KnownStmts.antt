@@ -48,7 +48,7 @@ simple_fine env known (Simple.Free place pointer) = checked (plain env pointer) 
 
 -- DECLARATIONS
 
-local_behind : (env : Env) → SoundEnv env → (s : Specifier) (one : Initialized) → specifier_refusals env.tables s ≡ []
+pub local_behind : (env : Env) → SoundEnv env → (s : Specifier) (one : Initialized) → specifier_refusals env.tables s ≡ []
     → (local env s one).refusals ≡ [] → SoundEnv (behind_local env s one)
 local_behind env known s one e h = record {
   tables = known.tables;
@@ -83,7 +83,7 @@ declaration_behind env known l h = locals_behind env known l.specifier (l.first 
 
 -- STATEMENTS
 
-entered_sound : (env : Env) → SoundEnv env → SoundEnv (entered env)
+pub entered_sound : (env : Env) → SoundEnv env → SoundEnv (entered env)
 entered_sound env known = record { tables = known.tables; variables = known.variables }
 
 test_fine : (env : Env) → SoundEnv env → (e : Expr) → Fine (test env e)

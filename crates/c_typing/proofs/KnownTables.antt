@@ -64,7 +64,7 @@ IsAliasDefined tables one = is_defined tables one.tag ≡ true
 abbrev pub AreAliasesDefined : Tables → Type 0
 AreAliasesDefined tables = AllByRecursion (IsAliasDefined tables) tables.aliases
 
-aliases_defined : (tables : Tables) (all : List Item)
+pub aliases_defined : (tables : Tables) (all : List Item)
     → ((tag : List ℕ) → has_tag (declared_by all).structures tag ≡ true → is_defined tables tag ≡ true) → AllByRecursion (IsAccepted tables) all
     → AllByRecursion (IsAliasDefined tables) (declared_by all).aliases
 aliases_defined tables [] within h = tt
@@ -159,7 +159,7 @@ structures_sound tables aliases (Item.Definition head place body end ∷ others)
 abbrev pub IsProcedureSound : Tables → Procedure → Type 0
 IsProcedureSound tables one = IsSound tables (kind_of_result tables one.head)
 
-head_sound : (tables : Tables) → AreAliasesDefined tables → (head : Head) → head_refusals tables head ≡ [] → IsSound tables (kind_of_result tables head)
+pub head_sound : (tables : Tables) → AreAliasesDefined tables → (head : Head) → head_refusals tables head ≡ [] → IsSound tables (kind_of_result tables head)
 head_sound tables aliases head e =
     let named = nil_left _ _ (nil_left _ _ e) in
     result_sound tables aliases head.specifier head.declarator.stars (nil_left _ _ named) (holds _ _ _ (nil_right _ _ named))
@@ -187,7 +187,7 @@ tables_sound all h =
     let aliases = aliases_defined (declared_by all) all (λ tag k. k) h in
     record { aliases = aliases; structures = structures_sound (declared_by all) aliases all h; procedures = procedures_sound (declared_by all) aliases all h }
 
-field_in_sound : (tables : Tables) (all : List FieldKind) → AllByRecursion (IsFieldSound tables) all → (n : List ℕ) → IfSome (field_in all n) (IsFieldSound tables)
+pub field_in_sound : (tables : Tables) (all : List FieldKind) → AllByRecursion (IsFieldSound tables) all → (n : List ℕ) → IfSome (field_in all n) (IsFieldSound tables)
 field_in_sound tables [] h n = tt
 field_in_sound tables (first ∷ others) h n = look_up (IsFieldSound tables) (bytes_eq first.name.text n) first (field_in others n) h.0 (field_in_sound tables others h.1 n)
 

@@ -1,7 +1,7 @@
 mod First
 mod Places
 mod OwnTypes
-mod KnownTables
-mod KnownExprs
-mod KnownStmts
-mod KnownPrograms
+pub mod KnownTables
+pub mod KnownExprs
+pub mod KnownStmts
+pub mod KnownPrograms

@@ -1,0 +1,13 @@
+mod Pieces
+mod Uses
+mod Operators
+mod Exprs
+mod Simples
+mod Bodies
+mod Different
+mod Structures
+mod Marked
+mod Procedures
+mod Locals
+mod Flows
+mod WellFormed

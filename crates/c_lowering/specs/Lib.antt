@@ -1,0 +1,11 @@
+pub mod Code
+pub mod Temporaries
+pub mod Contexts
+pub mod Values
+pub mod Expressions
+pub mod Statements
+pub mod Texts
+pub mod Marks
+pub mod Programs
+pub mod Examples
+pub mod Laws

@@ -1,0 +1,12 @@
+//! Laws of lowering. Each is the contract of a function with an empty body.
+ghost use Rattle.c_lowering.specs.Laws.{HaveWellFormed, HaveExamples};
+
+/// The program that files are is well formed, where nothing is refused in them.
+pub fn programs_are_well_formed()
+    ensures { HaveWellFormed }
+{}
+
+/// Worked examples.
+pub fn examples()
+    ensures { HaveExamples }
+{}
