@@ -70,7 +70,7 @@ found test xs place x is there =
 pub found_at : {X : Type 0} (test : X → Bool) (xs : List X) (place : ℕ) (o : Option X) → position test xs ≡ Some place → slice_get xs place ≡ o → (x : X) → o ≡ Some x → test x ≡ true
 found_at test xs place o is there x same = found test xs place x is (there ∙ same)
 
-all_of : {X : Type 0} (test : X → Bool) (xs : List X) → list_all test xs ≡ true → All (λ x. test x ≡ true) xs
+pub all_of : {X : Type 0} (test : X → Bool) (xs : List X) → list_all test xs ≡ true → All (λ x. test x ≡ true) xs
 all_of test [] h = All-nil (λ x. test x ≡ true)
 all_of test (x ∷ xs) h = let parts = and_parts (test x) (list_all test xs) h in All-cons (λ x. test x ≡ true) x xs parts.0 (all_of test xs parts.1)
 

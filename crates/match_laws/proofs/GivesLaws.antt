@@ -4,7 +4,7 @@ use Rattle.std.specs.List.{list_any}
 use Rattle.std.proofs.Common.{refl, sym, subst, ⊎_elim}
 use Rattle.std.proofs.lemmas.Bool.{eqb-true, or_cases}
 use Rattle.std.proofs.lemmas.List.{append-nil}
-use Rattle.std.proofs.lemmas.List.Elements.{All-head, All-tail}
+use Rattle.std.proofs.lemmas.List.Elements.{All-append, All-head, All-tail}
 use Rattle.shape_data.specs.declared.machine.Cell.{Cell}
 use Rattle.shape_data.specs.declared.program.StructDef.{StructDef}
 use Rattle.shape_data.specs.declared.symbolic.Atom.{Atom}
@@ -29,8 +29,8 @@ use Rattle.match_laws.specs.declared.matching.Turned.TheVariants.{On, Stuck}
 use Rattle.match_laws.specs.Laws.{is_kept, BiabduceGivesBeside, FitsAtom, GivesBeside, SubtractGivesBeside}
 use Rattle.match_laws.specs.Matches.{answer_abd, answer_sub, argument_variables, frame_of, matching, rules_of}
 use Rattle.match_laws.specs.Reading.{bound_exp, through}
-use Rattle.match_laws.proofs.KeptLaws.{IsKept, AgreesOn-logical, kept-name, one_of-right}
-use Rattle.match_laws.proofs.MatchLaws.{argument-kept, match-splits, missing-nothing}
+use Rattle.match_laws.proofs.KeptLaws.{IsKept, IsLogical, AgreesOn-logical, each-atoms, each-facts, kept-name, logical-kept, one_of-right}
+use Rattle.match_laws.proofs.MatchLaws.{argument-kept, match-splits, missing-logical, missing-nothing}
 use Rattle.match_laws.proofs.ReadingLaws.{value-through}
 
 -- ---- what occurs is kept
@@ -73,15 +73,28 @@ beside_emp structs s heap a missing none holds =
     subst (λ m. Holds structs s heap (beside a m)) (sym none) (record { facts = AreTrueFacts-append s a.pure [] holds.facts tt; atoms = rw (append-nil a.spatial) holds.atoms })
 
 module _ (structs : List StructDef) (mode : Mode) (a b : SymHeap) (bound : List (ℕ × Exp)) (flexible avoid : List ℕ) (next : ℕ) (n : Matching) (fits : All (FitsAtom structs) b.spatial) (h : matching mode a b bound flexible avoid next ≡ On n) where
-  gives : (s : ℕ → ℤ) (heap : List Cell) → Holds structs s heap (beside a n.missing) → GivesBeside structs s heap a b avoid n.binding (frame_of (rules_of mode a flexible) b n)
-  gives s heap holds =
+  -- the heap beside the missing part
+  all_kept : EachInHeap (IsKept (argument_variables a b bound flexible ++ avoid)) (beside a n.missing)
+  all_kept =
+      let used : List ℕ = argument_variables a b bound flexible ++ avoid in
+      let kept = argument-kept structs mode a b bound flexible avoid next n fits h in
+      let logical = missing-logical structs mode a b bound flexible avoid next n fits h in
+      record {
+        facts = All-append (EachInFact (IsKept used)) a.pure n.missing.pure kept.facts (each-facts IsLogical (IsKept used) (logical-kept used) n.missing.pure logical.facts);
+        atoms = All-append (EachInAtom (IsKept used)) a.spatial n.missing.spatial kept.atoms (each-atoms IsLogical (IsKept used) (logical-kept used) n.missing.spatial logical.atoms);
+      }
+
+  -- the assignment agrees on all that is kept
+  gives : (all : SymHeap) → EachInHeap (IsKept (argument_variables a b bound flexible ++ avoid)) all → (s : ℕ → ℤ) (heap : List Cell) → Holds structs s heap (beside a n.missing) →
+      GivesBeside structs s heap all b avoid n.binding (frame_of (rules_of mode a flexible) b n)
+  gives all kept s heap holds =
       let used : List ℕ = argument_variables a b bound flexible ++ avoid in
       let matched = match-splits structs mode a b bound flexible avoid next n fits h s heap holds in
       record {
         t = matched.t;
         own = matched.own;
         rest = matched.rest;
-        agrees = λ x occurs. matched.agrees x (occurs-kept used x a (argument-kept structs mode a b bound flexible avoid next n fits h) occurs);
+        agrees = λ x occurs. matched.agrees x (occurs-kept used x all kept occurs);
         avoids = λ x is. matched.agrees x (kept-name used x (one_of-right (argument_variables a b bound flexible) avoid x is));
         logical = AgreesOn-logical used s matched.t matched.agrees;
         sum = matched.sum;
@@ -97,17 +110,20 @@ subtract_gives_beside structs a b bound flexible avoid frame binding fits h s he
         let same_frame : frame ≡ frame_of (rules_of Subtract a flexible) b n = cc in
         let same_binding : binding ≡ n.binding = cc in
         subst (λ k. GivesBeside structs s heap a b avoid k frame) (sym same_binding) (subst (λ k. GivesBeside structs s heap a b avoid n.binding k) (sym same_frame)
-        (gives structs Subtract a b bound flexible avoid 0 n fits e s heap (beside_emp structs s heap a n.missing (missing-nothing structs Subtract a b bound flexible avoid 0 n fits e refl) holds)))
+        (gives structs Subtract a b bound flexible avoid 0 n fits e a (argument-kept structs Subtract a b bound flexible avoid 0 n fits e) s heap (beside_emp structs s heap a n.missing (missing-nothing structs Subtract a b bound flexible avoid 0 n fits e refl) holds)))
     by_turn (Stuck number) e f = cc
 
 pub biabduce_gives_beside : BiabduceGivesBeside
 biabduce_gives_beside structs a b bound flexible next avoid missing frame binding fits h s heap holds = by_turn (matching Abduce a b bound flexible avoid next) refl h
   where
-    by_turn : (r : Turned) → matching Abduce a b bound flexible avoid next ≡ r → answer_abd (rules_of Abduce a flexible) b r ≡ abd.Found missing frame binding → GivesBeside structs s heap a b avoid binding frame
+    by_turn : (r : Turned) → matching Abduce a b bound flexible avoid next ≡ r → answer_abd (rules_of Abduce a flexible) b r ≡ abd.Found missing frame binding → GivesBeside structs s heap (beside a missing) b avoid binding frame
     by_turn (On n) e f =
         let same_missing : missing ≡ n.missing = cc in
         let same_frame : frame ≡ frame_of (rules_of Abduce a flexible) b n = cc in
         let same_binding : binding ≡ n.binding = cc in
         let there : Holds structs s heap (beside a n.missing) = subst (λ m. Holds structs s heap (beside a m)) same_missing holds in
-        subst (λ k. GivesBeside structs s heap a b avoid k frame) (sym same_binding) (subst (λ k. GivesBeside structs s heap a b avoid n.binding k) (sym same_frame) (gives structs Abduce a b bound flexible avoid next n fits e s heap there))
+        let given : GivesBeside structs s heap (beside a n.missing) b avoid n.binding (frame_of (rules_of Abduce a flexible) b n) =
+        gives structs Abduce a b bound flexible avoid next n fits e (beside a n.missing) (all_kept structs Abduce a b bound flexible avoid next n fits e) s heap there in
+        subst (λ k. GivesBeside structs s heap (beside a missing) b avoid k frame) (sym same_binding) (subst (λ k. GivesBeside structs s heap (beside a missing) b avoid n.binding k) (sym same_frame)
+        (subst (λ k. GivesBeside structs s heap (beside a k) b avoid n.binding (frame_of (rules_of Abduce a flexible) b n)) (sym same_missing) given))
     by_turn (Stuck number) e f = cc

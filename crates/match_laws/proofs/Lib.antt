@@ -16,3 +16,4 @@ pub mod RoomLaws
 pub mod RoomSteps
 pub mod SizeLaws
 pub mod NextSteps
+pub mod MissingLaws

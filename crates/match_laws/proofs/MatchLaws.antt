@@ -24,7 +24,7 @@ use Rattle.match_laws.specs.declared.matching.Mode.TheVariants.{Subtract}
 use Rattle.match_laws.specs.declared.matching.Turned.{Turned}
 use Rattle.match_laws.specs.declared.matching.Turned.TheVariants.{On, Stuck}
 use Rattle.match_laws.specs.declared.matching.Wanted.{Wanted}
-use Rattle.match_laws.specs.Laws.{AgreesOn, FitsAtom, Keeps, Matched, MatchSplits, MissingIsLogical, SubtractMissesNothing}
+use Rattle.match_laws.specs.Laws.{AgreesOn, FitsAtom, Keeps, Matched, MatchSplits}
 use Rattle.match_laws.specs.Matches.{argument_variables, has_junk, left_over, matching, rules_of, start_of, want_heap, want_spatial}
 use Rattle.match_laws.specs.Reading.{through}
 use Rattle.match_laws.specs.Steps.{Rules, and_then}
@@ -188,9 +188,3 @@ module _ (structs : List StructDef) (mode : Mode) (a b : SymHeap) (bound : List 
 
 pub match_splits : MatchSplits
 match_splits structs mode a b bound flexible avoid next n fits h = match-splits structs mode a b bound flexible avoid next n fits h
-
-pub subtract_misses_nothing : SubtractMissesNothing
-subtract_misses_nothing structs a b bound flexible avoid next n fits h = missing-nothing structs Subtract a b bound flexible avoid next n fits h refl
-
-pub missing_is_logical : MissingIsLogical
-missing_is_logical structs mode a b bound flexible avoid next n fits h = missing-logical structs mode a b bound flexible avoid next n fits h

@@ -76,13 +76,12 @@ MatchSplits =
 -- in subtraction nothing is missing
 abbrev pub SubtractMissesNothing : Type 0
 SubtractMissesNothing =
-    (structs : List StructDef) (a b : SymHeap) (bound : List (ℕ × Exp)) (flexible avoid : List ℕ) (next : ℕ) (n : Matching) → All (FitsAtom structs) b.spatial → matching Subtract a b bound flexible avoid next ≡ On n → n.missing ≡ emp
+    (a b : SymHeap) (bound : List (ℕ × Exp)) (flexible avoid : List ℕ) (next : ℕ) (n : Matching) → matching Subtract a b bound flexible avoid next ≡ On n → n.missing ≡ emp
 
 -- the missing part speaks of logical variables and constants alone
 abbrev pub MissingIsLogical : Type 0
 MissingIsLogical =
-    (structs : List StructDef) (mode : Mode) (a b : SymHeap) (bound : List (ℕ × Exp)) (flexible avoid : List ℕ) (next : ℕ) (n : Matching) → All (FitsAtom structs) b.spatial → matching mode a b bound flexible avoid next ≡ On n →
-    EachInHeap (λ e. is_logical e ≡ true) n.missing
+    (mode : Mode) (a b : SymHeap) (bound : List (ℕ × Exp)) (flexible avoid : List ℕ) (next : ℕ) (n : Matching) → matching mode a b bound flexible avoid next ≡ On n → EachInHeap (λ e. is_logical e ≡ true) n.missing
 
 -- some assignment that agrees with s on a's variables, on further ones and on all logical ones makes the heap a sum of one
 -- that holds the bound b, and one that holds the frame
@@ -103,12 +102,13 @@ SubtractGivesBeside =
     (structs : List StructDef) (a b : SymHeap) (bound : List (ℕ × Exp)) (flexible avoid : List ℕ) (frame : SymHeap) (binding : List (ℕ × Exp)) → All (FitsAtom structs) b.spatial →
     subtract_avoiding a b bound flexible avoid ≡ sub.Match frame binding → (s : ℕ → ℤ) (heap : List Cell) → Holds structs s heap a → GivesBeside structs s heap a b avoid binding frame
 
--- abduction: what holds a beside the missing part holds the bound b beside the frame
+-- abduction: what holds a beside the missing part holds the bound b beside the frame. The assignment agrees on the variables of
+-- both
 abbrev pub BiabduceGivesBeside : Type 0
 BiabduceGivesBeside =
     (structs : List StructDef) (a b : SymHeap) (bound : List (ℕ × Exp)) (flexible : List ℕ) (next : ℕ) (avoid : List ℕ) (missing frame : SymHeap) (binding : List (ℕ × Exp)) → All (FitsAtom structs) b.spatial →
     biabduce_avoiding a b bound flexible next avoid ≡ abd.Found missing frame binding → (s : ℕ → ℤ) (heap : List Cell) → Holds structs s heap (beside a missing) →
-    GivesBeside structs s heap a b avoid binding frame
+    GivesBeside structs s heap (beside a missing) b avoid binding frame
 
 -- what meets a state meets each state that covers it
 abbrev pub CoveringStateMeets : Type 0

@@ -8,7 +8,8 @@ pub fn match_splits()
     ensures { MatchSplits }
 {}
 
-/// Nothing is missing in subtraction; in abduction what is missing speaks of logical variables and constants alone.
+/// Whatever is matched, nothing is missing in subtraction; in abduction what is missing speaks of logical variables and constants
+/// alone.
 pub fn missing_part()
     ensures nothing { SubtractMissesNothing }
     ensures logical { MissingIsLogical }
@@ -19,7 +20,8 @@ pub fn subtract_gives_beside()
     ensures { SubtractGivesBeside }
 {}
 
-/// Where abduction answers `Found`, what holds the heap beside the missing part holds the bound wanted heap beside the frame.
+/// Where abduction answers `Found`, what holds the heap beside the missing part holds the bound wanted heap beside the frame, under
+/// an assignment that agrees on the variables of both.
 pub fn biabduce_gives_beside()
     ensures { BiabduceGivesBeside }
 {}

@@ -1,5 +1,5 @@
 -- Readers that read a language exactly: what they get is in it, all of it is read, and where they stop what stands before can be
--- completed and with one byte more cannot.
+-- completed and, unless the text ends there, with the next byte cannot.
 use Rattle.std.proofs.Common.{◌≡◌, ◌==◌, if◌then◌else◌, eq-eqb, arith, ℕ, Bool, true, false, List, [], ◌∷◌, ◌++◌, ◌⊎◌, inl, inr, Option, Some, None, refl, sym, ap, ◌∙◌, subst, append_assoc}
 use Rattle.std.proofs.lemmas.List.{append-nil}
 use Rattle.std.proofs.lemmas.Bool.Decides.{nat_tests}

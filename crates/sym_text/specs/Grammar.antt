@@ -14,7 +14,7 @@ use Rattle.sym_text.specs.declared.fault.BadSpec.{BadSpec}
 use Rattle.sym_text.specs.declared.fault.BadSpec.TheVariants.{At, OutOfMemory}
 use Rattle.sym_text.specs.Text.{heap_text, post_text}
 
--- what texts go up to: `$n` and `?n` with n at most 32,768, and 4,000 parts
+-- what texts go up to: `$n` and `?n` with n at most 32,768, and 4,000 parts (facts and atoms)
 abbrev pub written : Limits
 written = record storable { parts = 4000 }
 
@@ -35,24 +35,24 @@ HoldsInts (Points at kind fields) = IsInt at × All IsInt fields
 HoldsInts (Seg kind link from to) = IsInt from × IsInt to
 HoldsInts Junk = Unit {0}
 
--- a well-formed heap over these structures and parameters, with 32-bit constants
+-- a heap that is well formed, within `written`, over these structures and parameters, and has 32-bit constants
 pub record IsWritten (structs : List StructDef) (params : List (List ℕ)) (heap : SymHeap) : Type 0 where
   pub formed : IsSymHeap written structs (length params) heap
   pub facts : All HasInts heap.pure
   pub atoms : All HoldsInts heap.spatial
 
--- a well-formed post over these structures and parameters, with 32-bit constants
+-- a post that is well formed, within `written`, over these structures and parameters, and has 32-bit constants
 pub record IsWrittenPost (structs : List StructDef) (params : List (List ℕ)) (post : Post) : Type 0 where
   pub formed : IsPost written structs (length params) post
   pub ret : IsInt post.ret
   pub facts : All HasInts post.heap.pure
   pub atoms : All HoldsInts post.heap.spatial
 
--- the text is that of a well-formed heap
+-- the text is that of such a heap
 abbrev pub IsHeapText : List StructDef → List (List ℕ) → List ℕ → Type 0
 IsHeapText structs params text = (heap : SymHeap) × (IsWritten structs params heap × (text ≡ heap_text structs params heap))
 
--- the text is that of a well-formed post with its result
+-- the text is that of such a post with its result
 abbrev pub IsPostText : List StructDef → List (List ℕ) → List ℕ → Type 0
 IsPostText structs params text = (post : Post) × (IsWrittenPost structs params post × (text ≡ post_text structs params true post))
 
@@ -60,7 +60,8 @@ IsPostText structs params text = (post : Post) × (IsWrittenPost structs params 
 abbrev pub Begins : (List ℕ → Type 0) → List ℕ → Type 0
 Begins IsText front = (behind : List ℕ) × IsText (front ++ behind)
 
--- the text is not of the grammar: so many of its first bytes begin some text of the grammar, and with one more none
+-- the text is not of the grammar, and the offset is the length of its longest prefix that begins some text of the grammar:
+-- that prefix begins one and, unless it is the whole text, with the next byte no more
 pub record IsRefused (IsText : List ℕ → Type 0) (text : List ℕ) (offset : ℕ) : Type 0 where
   pub within : offset ≤ length text
   pub begins : Begins IsText (take offset text)

@@ -5,7 +5,8 @@ use Rattle.sym_text.specs.declared.fault.BadSpec.TheVariants as bad
 use Rattle.sym_text.specs.declared.fault.Fault.{Fault}
 use Rattle.sym_text.specs.declared.fault.Fault.TheVariants.{Refused, OutOfMemory}
 
--- a value and the text behind it, or what is left of the text where nothing goes on
+-- what a reader makes of a text: a value, and what stands behind what was read; or what is left of the text where the reader
+-- stopped, its first byte being one with which the reader can't go on; if nothing is left, the text ends too early
 pub data Outcome (A : Type 0) : Type 0 where
   Got : A → List ℕ → Outcome A
   Stopped : List ℕ → Outcome A

@@ -28,7 +28,8 @@ use Rattle.sym_text.specs.Text.{field_names}
 abbrev pub may_go_on : ℕ → ℕ → ℕ → Bool
 may_go_on limit value byte = is_ascii_digit byte && nat_lt 0 value && nat_le (10 * value + (byte - 48)) limit
 
--- the digits of a number whose first digits have this value; what stands behind may stand in no name
+-- the further digits of a number whose digits up to here have this value. It ends where the text does, or before a byte that
+-- stands in no name. A letter, an underscore, and a digit behind a single 0 or past the limit can't follow
 abbrev pub read_digits : ℕ → ℕ → Reader ℕ
 read_digits limit value [] = Got value []
 read_digits limit value (byte ∷ text) =
@@ -36,7 +37,7 @@ read_digits limit value (byte ∷ text) =
     then (if may_go_on limit value byte then read_digits limit (10 * value + (byte - 48)) text else Stopped (byte ∷ text))
     else Got value (byte ∷ text)
 
--- a decimal number between two limits, of which the least is 0 or 1, without leading zeros
+-- a decimal number without leading zeros from `least`, which is 0 or 1, to a limit of at least 9
 abbrev pub read_number : ℕ → ℕ → Reader ℕ
 read_number least limit [] = Stopped []
 read_number least limit (byte ∷ text) =
@@ -63,7 +64,8 @@ reach words text = reach_from 0 words text
 abbrev pub is_one_of : List (List ℕ) → List ℕ → Bool
 is_one_of words word = list_any (λ one. bytes_eq one word) words
 
--- the name at the front of a text, which may be empty
+-- the bytes at the front of a text that may stand in a name, as many as there are. It may be none, or begin with a digit; then
+-- it is no name
 abbrev pub front_name : List ℕ → List ℕ
 front_name text = take (prefix_len is_name_byte text) text
 
@@ -105,7 +107,7 @@ read_exp params = by_first start_of (exp_by params)
 
 -- PARTS
 
--- what may stand behind a name or an expression
+-- what the byte behind a name or an expression says of what comes. With a byte of `Other` nothing can go on there
 abbrev pub next_of : Option ℕ → Next
 next_of None = next.End
 next_of (Some byte) =

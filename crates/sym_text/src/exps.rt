@@ -69,7 +69,7 @@ fn read_negative<'a>(params: &[Name], text: &'a [u8]) -> Result<ReadExp<'a>, Fau
     Ok((Exp::Const(-1 - (number - 1) as i32), rest))
 }
 
-/// Reads an expression that begins so.
+/// Reads an expression of a text that begins so.
 #[tactic(auto, unfolding(crate::specs::Reading::exp_by, crate::specs::Outcome::go_on))]
 pub fn read_exp_by<'a>(params: &[Name], start: Start, text: &'a [u8]) -> Result<ReadExp<'a>, Fault>
     requires { length params.now ≤ 32768 }

@@ -1,4 +1,5 @@
-//! Why a text is not read: as callers see it, and as the readers of its parts tell it.
+//! Why a text is not read: as callers see it, with an offset from the front, and as the readers of its parts tell it, with
+//! the number of bytes that are left.
 
 ghost use Rattle.std.specs.Prelude.{◌≡◌, ◌<◌};
 ghost use Rattle.sym_text.specs.Outcome.{IsWithin, bad_of};
@@ -8,7 +9,8 @@ use std::alloc::AllocError;
 /// Why a text gives no heap or post.
 #[derive(Clone, Copy, PartialEq, Eq, Drop, Debug)]
 pub enum BadSpec {
-    /// The text is not of the grammar: so many of its first bytes begin some text of the grammar, and with one more none.
+    /// The text is not of the grammar. The offset, in bytes, is the length of the longest prefix of the text that begins some
+    /// text of the grammar: from 0 to the length of the text, which it is where the text only ends too early.
     At { offset: u32 },
     /// Memory wanted.
     OutOfMemory,
@@ -17,7 +19,8 @@ pub enum BadSpec {
 /// Why a reader stopped.
 #[derive(Clone, Copy, Drop, Debug)]
 pub enum Fault {
-    /// No text goes on where so many bytes are left.
+    /// The reader stopped with so many bytes left of the text: with the first of them it can't go on, or none is left where
+    /// one is needed.
     Refused { left: usize },
     /// Memory wanted.
     OutOfMemory,
@@ -34,7 +37,7 @@ impl From<AllocError> for Fault {
     }
 }
 
-/// What callers are told of a fault in a text of this length.
+/// What callers are told of a fault in a text of this length in bytes: the offset is what stands before the bytes left.
 pub fn bad_spec(len: usize, fault: Fault) -> BadSpec
     requires short { len < 4294967296 }
     requires within { IsWithin fault len }

@@ -124,7 +124,11 @@ fn read_whole_post<'a>(
     }
 }
 
-/// The heap of a text over these parameters and structures, or where the text leaves the grammar.
+/// The heap of a text over these parameters and structures: the one well-formed heap of at most 4,000 parts that
+/// [`print_heap`](crate::print_heap) prints so.
+///
+/// Errors: `At` where there is none, with the length in bytes of the longest prefix that begins the text of some such heap;
+/// `OutOfMemory`. The parameters are the logical variables from 0 on, and the structures give cells their fields in order.
 pub fn read_heap(
     alloc: Global,
     text: &[u8],
@@ -144,7 +148,10 @@ pub fn read_heap(
     }
 }
 
-/// The post of a text with its result over these parameters and structures, or where the text leaves the grammar.
+/// The post of a text over these parameters and structures: the one well-formed post, of at most 4,000 parts, that
+/// [`print_post`](crate::print_post) prints so with its result. A text without ` ret=` is none.
+///
+/// Errors: as those of [`read_heap`].
 pub fn read_post(
     alloc: Global,
     text: &[u8],

@@ -1,6 +1,7 @@
-//! Texts of symbolic heaps and posts, written and read. The text of a heap is a function of the heap
-//! (`specs/Text`), and the grammar is its image over the well-formed heaps (`specs/Grammar`); what is read is
-//! exactly what was written, or refused at the first byte that no text of the grammar can have there.
+//! Texts of symbolic heaps and of posts, written and read. The text of a heap over given parameters and structures is a function
+//! of the heap (`specs/Text`); the grammar is the set of these texts, for the well-formed heaps of at most 4,000 parts, and
+//! for posts with their result (`specs/Grammar`). A text of the grammar is read as the one heap that has it, and any other
+//! is refused at the length of its longest prefix that begins one. It stands on `shape_data`, and prints numbers with `itoa`.
 #![tactic(auto)]
 
 mod cells;

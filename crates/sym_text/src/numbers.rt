@@ -9,7 +9,7 @@ use shape_data::names::is_name_byte;
 /// A number, and the text behind it.
 type Number<'a> = (u64, &'a [u8]);
 
-/// Whether the byte is a further digit of a number with this value so far.
+/// Whether the byte is a further digit of a number with this value so far, which stays within the limit. Behind a 0 none is.
 fn may_go_on(limit: u64, value: u64, byte: u8) -> bool
     requires { value ≤ 2147483648 }
     ensures { result ≡ may_go_on limit value byte }
@@ -17,7 +17,8 @@ fn may_go_on(limit: u64, value: u64, byte: u8) -> bool
     byte.is_ascii_digit() && 0 < value && 10 * value + u64::from(byte - b'0') <= limit
 }
 
-/// Reads the digits of a number whose first digits have this value.
+/// Reads the further digits of a number whose digits up to here have this value. It ends where the text does, or before a byte
+/// that stands in no name. The reader stops at a letter, at an underscore, and at a digit that can't follow.
 fn read_digits<'a>(limit: u64, first: u64, text: &'a [u8]) -> Result<Number<'a>, Fault>
     requires few { limit ≤ 2147483648 }
     requires within { first ≤ limit }
@@ -40,7 +41,8 @@ fn read_digits<'a>(limit: u64, first: u64, text: &'a [u8]) -> Result<Number<'a>,
     Ok((value, rest))
 }
 
-/// Reads a decimal number without leading zeros, from `least`, which is 0 or 1, to a limit of at least 9.
+/// Reads a decimal number without leading zeros from `least`, which is 0 or 1, to a limit of at least 9. What stands behind it
+/// stands in no name.
 pub fn read_number<'a>(least: u64, limit: u64, text: &'a [u8]) -> Result<Number<'a>, Fault>
     requires few { limit ≤ 2147483648 }
     requires many { 9 ≤ limit }

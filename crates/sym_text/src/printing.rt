@@ -199,6 +199,13 @@ fn push_atom(
     }
 }
 
+/// Appends what stands between two parts.
+fn push_separator(text: &mut Vec<u8>) -> Result<(), AllocError>
+    ensures { OnOk result (text.new.items ≡ text.old.items ++ codes " * ") }
+{
+    text.extend_from_slice(b" * ")
+}
+
 /// Appends facts, with a separator before each but the first.
 #[tactic(auto, using(crate::proofs::Appending::appending))]
 fn push_facts(text: &mut Vec<u8>, params: &[Name], facts: &[Fact]) -> Result<(), AllocError>
@@ -207,7 +214,7 @@ fn push_facts(text: &mut Vec<u8>, params: &[Name], facts: &[Fact]) -> Result<(),
     let mut led = false;
     for fact in facts {
         if led {
-            text.extend_from_slice(b" * ")?;
+            push_separator(text)?;
         }
         push_fact(text, params, *fact)?;
         led = true;
@@ -229,7 +236,7 @@ fn push_atoms(
 {
     for atom in atoms {
         if led {
-            text.extend_from_slice(b" * ")?;
+            push_separator(text)?;
         }
         push_atom(text, params, structs, atom)?;
         led = true;
@@ -261,7 +268,10 @@ fn push_heap(
 }
 
 /// The text of a heap over these parameters and structures: `emp`, or its facts and then its atoms with ` * ` between each
-/// two.
+/// two. The heap is well formed, has at most 4,000 parts, and each `$n` and `?n` in it has n at most 32,768.
+///
+/// The parameters name the logical variables from 0 on; with k of them variable k + n - 1 is written `$n`, and variable
+/// 65,535 + n is `?n`. The only error is want of memory.
 pub fn print_heap(
     alloc: Global,
     heap: &SymHeap,
@@ -276,7 +286,8 @@ pub fn print_heap(
     Ok(text)
 }
 
-/// The text of a post over these parameters and structures: its heap and, if asked, ` ret=` and its result.
+/// The text of a post over these parameters and structures: its heap and, if asked, ` ret=` and its result. The post is well
+/// formed within the same limits as the heap of [`print_heap`]. The only error is want of memory.
 #[tactic(auto, using(crate::proofs::Appending::appending))]
 pub fn print_post(
     alloc: Global,

@@ -1,4 +1,4 @@
-//! Reads parts, heaps and posts.
+//! Reads one part of a heap, and what stands between a part and what follows it.
 ghost use Rattle.std.specs.Prelude.{◌≡◌, ◌≤◌, true, false, length, IfOk, IfErr, codes};
 ghost use Rattle.shape_data.specs.WellFormed.{AreStructs};
 ghost use Rattle.shape_data.specs.declared.symbolic.Fact.TheVariants.{Eq, Ne};
@@ -44,16 +44,20 @@ fn read_differ<'a>(params: &[Name], left: Exp, text: &'a [u8]) -> Result<ReadPar
     Ok((Part::Fact(Fact::Ne(left, right)), rest))
 }
 
-/// What is known where a part begins: the structures and parameters, and whether facts may come.
+/// What decides which parts may come.
 #[derive(Clone, Copy)]
 pub struct Scope<'a> {
+    /// The structures that cells and segments may name.
     pub structs: &'a [StructDef],
+    /// The names of the first logical variables.
     pub params: &'a [Name],
+    /// Whether facts may come, as no atom came before.
     pub facts: bool,
+    /// Whether the part is the heap's first, so that `emp` may come.
     pub is_first: bool,
 }
 
-/// Reads what stands behind an expression, and begins so.
+/// Reads the rest of a part that began with an expression; `next` is what the text behind that begins with.
 #[tactic(auto, unfolding(crate::specs::Reading::tail_by))]
 fn read_tail<'a>(
     alloc: Global,
@@ -131,7 +135,7 @@ fn read_end<'a>(scope: &Scope<'a>, word: &[u8], text: &'a [u8]) -> Result<ReadPa
     }
 }
 
-/// Reads what stands behind the name of a parameter.
+/// Reads the rest of a part that began with a word, which has to be the name of a parameter.
 fn read_behind_name<'a>(
     alloc: Global,
     scope: &Scope<'a>,
@@ -151,7 +155,7 @@ fn read_behind_name<'a>(
     }
 }
 
-/// Reads what stands behind a word, and begins so.
+/// Reads the rest of a part that began with a word; `next` is what the text behind that begins with.
 #[tactic(auto, unfolding(crate::specs::Reading::word_by))]
 fn read_behind_word<'a>(
     alloc: Global,
@@ -216,7 +220,7 @@ fn read_counted<'a>(
     read_tail(alloc, scope, left, next_of(rest), rest)
 }
 
-/// Reads a part that begins so.
+/// Reads a part of a text that begins so.
 #[tactic(auto, unfolding(crate::specs::Reading::part_by))]
 fn read_part_by<'a>(
     alloc: Global,

@@ -1,4 +1,5 @@
-//! The kinds of bytes that readers decide by.
+//! The kinds of bytes that readers decide by: the first of an expression or a part, and the one behind a name or an
+//! expression with which a part begins.
 ghost use Rattle.std.specs.Prelude.{◌≡◌};
 ghost use Rattle.sym_text.specs.Outcome.{first};
 ghost use Rattle.sym_text.specs.Reading.{start_of, next_of};
@@ -16,14 +17,20 @@ pub enum Start {
     Other,
 }
 
-/// What may stand behind a name or an expression. A blank is an end.
+/// What the byte behind the name or the expression that a part begins with says of what comes.
 #[derive(Clone, Copy, Debug)]
 pub enum Next {
+    /// `|`: a cell.
     Bar,
+    /// `=`: an equation.
     Equal,
+    /// `!`: a disequality.
     Bang,
+    /// `[`: a list segment, the name being `ls`.
     Bracket,
+    /// A blank, or the end of the text: the part ends, the name being `junk` or `emp`.
     End,
+    /// Any other byte, with which nothing can go on there.
     Other,
 }
 
@@ -42,7 +49,7 @@ pub fn start_of(text: &[u8]) -> Start
     }
 }
 
-/// What stands behind a name or an expression.
+/// What the first byte of the text behind a name or an expression says of what comes.
 pub fn next_of(text: &[u8]) -> Next
     ensures { result ≡ next_of (first text.now) }
 {

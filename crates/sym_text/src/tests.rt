@@ -1,7 +1,8 @@
-//! Texts read and printed again, and texts that leave the grammar at a known byte. In a table each line is a text; `@`
-//! marks the place where it is refused, and a line without it is accepted.
-ghost use Rattle.std.specs.Prelude.{◌≡◌, ◌↔◌, ◌≤◌, ◌<◌, length, All, IsTrue};
+//! Texts read and printed again, and texts that leave the grammar at a known byte.
+ghost use Rattle.std.specs.Prelude.{◌↔◌, IsTrue};
 ghost use Rattle.shape_data.specs.WellFormed.{IsTy, IsStruct, AreStructs, AreParams};
+
+mod tables;
 
 use crate::{BadSpec, print_heap, print_post, read_heap, read_post};
 use shape_data::names::{have_different_names, is_c_name};
@@ -10,102 +11,10 @@ use shape_data::{Name, Row};
 use std::alloc::Global;
 use std::process::Abort;
 use std::test::Fail;
-
-/// Heaps over the parameters `x`, `xy` and `ls`, and the structures `node`, `no` and `leaf`.
-const HEAPS: &[u8] = b"emp
-x=0
-x!=0 * ls[node.next](x,0)
-x|->node(data:$1,next:0)
-x|->node(data:?1,next:?2) * ls[node.next](?2,0)
-x|->node(data:$1,next:$2) * xy|->node(data:$3,next:$4)
-x|->node(data:1,next:$2) * xy|->node(data:$3,next:$4)
-x=0 * junk
-junk * junk
-ls=0 * ls|->leaf()
-ls[no.a](ls,x)
-ls[node.data](x,0)
-$32768=?32768 * -2147483648!=2147483647
-@
-e@
-em@x
-emp@=0
-emp@ * x=0
-@ emp
-x@
-x@,
-xy@z=0
-@q=0
-l@=0
-ls@x=0
-x=@
-x=@=0
-x!@0
-x!=@
-x=0 @
-x=0 *@
-x=0 * @
-x=0 * @ x=0
-x=0@* x=0
-x=0 * @emp
-ls[@
-ls[n@x.a](0,0)
-ls[no@[
-ls[@leaf.
-ls[node@](x,0)
-ls[node.n@xt](x,0)
-ls[node.next]@ (x,0)
-ls[node.next](@,0)
-ls[node.next](x@)
-ls[node.next](x,0@
-x|@=
-x|-@
-x|->n@d(
-x|->node@[
-x|->node@s(
-x|->node(@next:0,data:0)
-x|->node(data:0@)
-x|->node(data:0,@)
-x|->node(data:0,next:0@,
-x|->node(data:0,next:0)@x
-x|->leaf(@x
-$@0=0
-?@0=0
-$3276@9=0
-?3276@9=0
-$1@a=0
--@0=0
--@x=0
-214748364@8=0
--214748364@9=0
-0@1=0
-1@x=0
-@+1=0
-junk * x@=0
-junk @x
-junk@x
-junk@=0
-";
-
-/// Posts over the same.
-const POSTS: &[u8] = b"emp ret=0
-x=0 * junk ret=0
-x|->node(data:?1,next:?2) ret=?1
-emp@
-emp @* x=0
-emp ret=@
-x=0 r@
-x=0 ret@ =0
-x=0 ret=0@ 
-x=0 ret=xy@z
-";
-
-/// Heaps over the parameter `x`, and no structure.
-const BARE: &[u8] = b"x=0 * junk
-junk * junk
-x@|->
-junk * @x=0
-@ls
-";
+use tables::{
+    BARE, IDENTITY, LIKE_NAMES, LISTS, STACK_MADE, STACK_MEASURED, STACK_PUSHED, STACK_READ, TESTS,
+    TWO_CELLS, Table, WORDS_AS_NAMES,
+};
 
 fn is_ty(ty: &Ty) -> bool
     ensures { IsTrue result ↔ IsTy ty.now }
@@ -144,101 +53,140 @@ fn are_params(params: &[Name]) -> bool
         && have_different_names(params)
 }
 
-fn field(alloc: Global, name: &[u8]) -> Result<Field, Fail>
-    requires some { 1 ≤ length name.now }
-    requires short { length name.now ≤ 64 }
-{
-    Ok(Field {
-        name: Name::of(alloc, name)?,
-        ty: Ty::Int,
-    })
+fn name_of(alloc: Global, text: &str) -> Result<Name, Fail> {
+    let bytes = text.as_bytes();
+    if bytes.is_empty() || bytes.len() > 64 {
+        return Err(Fail::from("no name"));
+    }
+    Ok(Name::of(alloc, bytes)?)
 }
 
-fn structs(alloc: Global) -> Result<Vec<StructDef>, Fail> {
-    let data = field(alloc, b"data")?;
-    let next = field(alloc, b"next")?;
-    let first = field(alloc, b"a")?;
-    let node = StructDef {
-        name: Name::of(alloc, b"node")?,
-        fields: Row::from_vec(vec![in alloc; data, next]?),
-    };
-    let no = StructDef {
-        name: Name::of(alloc, b"no")?,
-        fields: Row::from_vec(vec![in alloc; first]?),
-    };
-    let leaf = StructDef {
-        name: Name::of(alloc, b"leaf")?,
-        fields: Row::new(alloc),
-    };
-    Ok(vec![in alloc; node, no, leaf]?)
+fn names_of(alloc: Global, texts: &[&str]) -> Result<Vec<Name>, Fail> {
+    let mut names = Vec::new(alloc);
+    for text in texts {
+        names.push(name_of(alloc, text)?)?;
+    }
+    Ok(names)
 }
 
-fn params(alloc: Global) -> Result<Vec<Name>, Fail> {
-    let x = Name::of(alloc, b"x")?;
-    let longer = Name::of(alloc, b"xy")?;
-    let segment = Name::of(alloc, b"ls")?;
-    Ok(vec![in alloc; x, longer, segment]?)
+fn fields_of(alloc: Global, texts: &[&str]) -> Result<Row<Field>, Fail> {
+    let mut fields = Row::new(alloc);
+    for text in texts {
+        let name = name_of(alloc, text)?;
+        fields.push(Field { name, ty: Ty::Int })?;
+    }
+    Ok(fields)
 }
 
-/// Checks one text: where it is refused, or that it is printed again.
-fn check_text(
+fn struct_of(alloc: Global, words: &[&str]) -> Result<StructDef, Fail> {
+    match words {
+        [] => Err(Fail::from("no structure")),
+        [own, others @ ..] => Ok(StructDef {
+            name: name_of(alloc, own)?,
+            fields: fields_of(alloc, others)?,
+        }),
+    }
+}
+
+fn structs_of(alloc: Global, texts: &[&[&str]]) -> Result<Vec<StructDef>, Fail> {
+    let mut structs = Vec::new(alloc);
+    for words in texts {
+        structs.push(struct_of(alloc, words)?)?;
+    }
+    Ok(structs)
+}
+
+/// What a text is over.
+#[derive(Clone, Copy)]
+struct Scope<'a> {
+    params: &'a [Name],
+    structs: &'a [StructDef],
+}
+
+/// Checks the text of a heap: where it is refused, or that it is printed again.
+fn check_heap(
     rt: &impl Abort,
     alloc: Global,
-    is_post: bool,
+    scope: &Scope<'_>,
     text: &[u8],
     refused: Option<u32>,
-    params: &[Name],
-    structs: &[StructDef],
 ) -> Result<(), Fail> {
-    if text.len() >= 4_294_967_296 || !are_params(params) || !are_structs(structs) {
+    if text.len() >= 4_294_967_296 || !are_params(scope.params) || !are_structs(scope.structs) {
         return Err(Fail::from("no scope"));
     }
-    let read = if is_post {
-        match read_post(alloc, text, params, structs) {
-            Ok(post) => Ok(print_post(alloc, &post, params, structs, true)?),
-            Err(bad) => Err(bad),
-        }
-    } else {
-        match read_heap(alloc, text, params, structs) {
-            Ok(heap) => Ok(print_heap(alloc, &heap, params, structs)?),
-            Err(bad) => Err(bad),
-        }
-    };
-    match read {
-        Ok(printed) => {
+    match read_heap(alloc, text, scope.params, scope.structs) {
+        Ok(heap) => {
+            let printed = print_heap(alloc, &heap, scope.params, scope.structs)?;
             assert_eq!(rt; refused, None, "in {text:?}");
             assert_eq!(rt; printed.as_slice(), text);
+            Ok(())
         }
         Err(BadSpec::At { offset }) => {
             assert_eq!(rt; refused, Some(offset), "in {text:?}");
+            Ok(())
         }
-        Err(BadSpec::OutOfMemory) => return Err(Fail::from("no memory")),
+        Err(BadSpec::OutOfMemory) => Err(Fail::from("no memory")),
     }
-    Ok(())
 }
 
-/// Checks the texts of a table.
-fn check_table(
+/// Checks the text of a post: where it is refused, or that it is printed again, and without ` ret=` and the result where the
+/// result is not asked for.
+fn check_post(
     rt: &impl Abort,
     alloc: Global,
+    scope: &Scope<'_>,
+    text: &[u8],
+    refused: Option<u32>,
+) -> Result<(), Fail> {
+    if text.len() >= 4_294_967_296 || !are_params(scope.params) || !are_structs(scope.structs) {
+        return Err(Fail::from("no scope"));
+    }
+    match read_post(alloc, text, scope.params, scope.structs) {
+        Ok(post) => {
+            let printed = print_post(alloc, &post, scope.params, scope.structs, true)?;
+            let mut bare = print_post(alloc, &post, scope.params, scope.structs, false)?;
+            assert_eq!(rt; refused, None, "in {text:?}");
+            assert_eq!(rt; printed.as_slice(), text);
+            bare.extend_from_slice(b" ret=")?;
+            assert!(rt; text.starts_with(bare.as_slice()), "in {text:?}");
+            Ok(())
+        }
+        Err(BadSpec::At { offset }) => {
+            assert_eq!(rt; refused, Some(offset), "in {text:?}");
+            Ok(())
+        }
+        Err(BadSpec::OutOfMemory) => Err(Fail::from("no memory")),
+    }
+}
+
+fn check_text(
+    rt: &impl Abort,
+    alloc: Global,
+    scope: &Scope<'_>,
     is_post: bool,
-    table: &[u8],
-    params: &[Name],
-    structs: &[StructDef],
+    text: &[u8],
+    refused: Option<u32>,
+) -> Result<(), Fail> {
+    if is_post {
+        check_post(rt, alloc, scope, text, refused)
+    } else {
+        check_heap(rt, alloc, scope, text, refused)
+    }
+}
+
+/// Checks each line; `@` marks where its text is refused.
+fn check_lines(
+    rt: &impl Abort,
+    alloc: Global,
+    scope: &Scope<'_>,
+    is_post: bool,
+    lines: &[u8],
 ) -> Result<(), Fail> {
     let mut text = Vec::new(alloc);
     let mut refused = None;
-    for byte in table {
+    for byte in lines {
         if *byte == b'\n' {
-            check_text(
-                rt,
-                alloc,
-                is_post,
-                text.as_slice(),
-                refused,
-                params,
-                structs,
-            )?;
+            check_text(rt, alloc, scope, is_post, text.as_slice(), refused)?;
             text.clear();
             refused = None;
         } else if *byte == b'@' {
@@ -250,39 +198,72 @@ fn check_table(
     Ok(())
 }
 
-#[test]
-fn heaps_are_read_and_printed_again(rt: HostRuntime) -> Result<(), Fail> {
-    let alloc = rt.alloc();
-    let params = params(alloc)?;
-    let structs = structs(alloc)?;
-    check_table(
-        &rt,
-        alloc,
-        false,
-        HEAPS,
-        params.as_slice(),
-        structs.as_slice(),
-    )
+fn check_table(rt: &impl Abort, alloc: Global, table: Table<'_>) -> Result<(), Fail> {
+    let params = names_of(alloc, table.params)?;
+    let structs = structs_of(alloc, table.structs)?;
+    let scope = Scope {
+        params: params.as_slice(),
+        structs: structs.as_slice(),
+    };
+    check_lines(rt, alloc, &scope, false, table.heaps.as_bytes())?;
+    check_lines(rt, alloc, &scope, true, table.posts.as_bytes())
 }
 
 #[test]
-fn posts_are_read_and_printed_again(rt: HostRuntime) -> Result<(), Fail> {
+fn printed_heaps_are_read_and_printed_again(rt: HostRuntime) -> Result<(), Fail> {
     let alloc = rt.alloc();
-    let params = params(alloc)?;
-    let structs = structs(alloc)?;
-    check_table(
-        &rt,
-        alloc,
-        true,
-        POSTS,
-        params.as_slice(),
-        structs.as_slice(),
-    )
+    for table in [
+        IDENTITY,
+        LISTS,
+        TWO_CELLS,
+        TESTS,
+        STACK_MADE,
+        STACK_READ,
+        STACK_PUSHED,
+        STACK_MEASURED,
+    ] {
+        check_table(&rt, alloc, table)?;
+    }
+    Ok(())
 }
 
 #[test]
-fn without_structures_few_texts_go_on(rt: HostRuntime) -> Result<(), Fail> {
+fn texts_are_refused_where_they_leave_the_grammar(rt: HostRuntime) -> Result<(), Fail> {
     let alloc = rt.alloc();
-    let params = vec![in alloc; Name::of(alloc, b"x")?]?;
-    check_table(&rt, alloc, false, BARE, params.as_slice(), &[])
+    for table in [LIKE_NAMES, WORDS_AS_NAMES, BARE] {
+        check_table(&rt, alloc, table)?;
+    }
+    Ok(())
+}
+
+/// So many equations.
+fn equations(alloc: Global, count: u32) -> Result<Vec<u8>, Fail> {
+    let mut text = Vec::new(alloc);
+    for place in 0..count {
+        if place > 0 {
+            text.extend_from_slice(b" * ")?;
+        }
+        text.extend_from_slice(b"x=0")?;
+    }
+    Ok(text)
+}
+
+#[test]
+fn at_most_four_thousand_parts_are_read(rt: HostRuntime) -> Result<(), Fail> {
+    let alloc = rt.alloc();
+    let params = names_of(alloc, &["x"])?;
+    let scope = Scope {
+        params: params.as_slice(),
+        structs: &[],
+    };
+    for (count, heap_refused, post_refused) in [
+        (4_000, None, None),
+        (4_001, Some(23_997), Some(23_998)),
+    ] {
+        let mut text = equations(alloc, count)?;
+        check_text(&rt, alloc, &scope, false, text.as_slice(), heap_refused)?;
+        text.extend_from_slice(b" ret=0")?;
+        check_text(&rt, alloc, &scope, true, text.as_slice(), post_refused)?;
+    }
+    Ok(())
 }

@@ -59,7 +59,7 @@ pub fn further(most: usize, word: &[u8], text: &[u8]) -> usize
     if most < reached { reached } else { most }
 }
 
-/// How many bytes of names the text begins with.
+/// How many bytes that may stand in a name the text begins with.
 fn name_len(text: &[u8]) -> usize
     ensures value { result ≡ prefix_len is_name_byte text.now }
     ensures within { result ≤ length text.now }
@@ -84,7 +84,7 @@ pub fn is_one_of<T: Named>(things: &[T], word: &[u8]) -> bool
     false
 }
 
-/// The place of the first thing with the name, or 0.
+/// The place of the first thing with the name. Some thing has it.
 pub fn place_of<T: Named>(things: &[T], word: &[u8]) -> usize
     requires { is_one_of (map T.name_of things.now) word.now ≡ true }
     ensures value { result ≡ place_of (map T.name_of things.now) word.now }
@@ -101,7 +101,8 @@ pub fn place_of<T: Named>(things: &[T], word: &[u8]) -> usize
 /// A word, and the text behind it.
 pub type Word<'a> = (&'a [u8], &'a [u8]);
 
-/// The name at the front of a text, which may be empty, and the text behind it.
+/// The bytes at the front of a text that may stand in a name, as many as there are, and the text behind them. It may be none,
+/// or begin with a digit; then it is no name.
 pub fn front_name(text: &[u8]) -> Word<'_>
     ensures name { result.0.now ≡ front_name text.now }
     ensures rest { result.1.now ≡ drop (prefix_len is_name_byte text.now) text.now }

@@ -1,4 +1,4 @@
-use Rattle.match_laws.proofs.MatchLaws.{missing_is_logical, subtract_misses_nothing}
+use Rattle.match_laws.proofs.MissingLaws.{missing_is_logical, subtract_misses_nothing}
 use Rattle.match_laws.proofs.laws.missing_part.Goals as goal
 
 pub returns-clause-nothing : goal.returns-clause-nothing
