@@ -1,0 +1,8 @@
+pub mod Stacking
+pub mod Definitions
+pub mod Stars
+pub mod Searching
+pub mod Fields
+pub mod Lowering
+pub mod Arguments
+pub mod Appending

@@ -1,0 +1,5 @@
+pub mod Adding
+pub mod Leaving
+pub mod Loops
+pub mod Trees
+pub mod Declared

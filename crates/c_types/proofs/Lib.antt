@@ -1,0 +1,12 @@
+pub mod Appending
+pub mod Naming
+pub mod Sameness
+pub mod Lines
+pub mod Firsts
+pub mod Joining
+pub mod Files
+pub mod Known
+pub mod Defining
+pub mod Checked
+pub mod Finds
+pub mod Looping

@@ -1,0 +1,26 @@
+-- Names one by one.
+use Rattle.std.proofs.Common.{◌≡◌, ℕ, ◌+◌, ◌<◌, ◌≤◌, Bool, Option, Some, None, List, [], ◌∷◌, ◌++◌, length, map, take, drop, reverse, get_or, append_assoc, refl, sym, ap, ◌∙◌, arith}
+use Rattle.std.proofs.lemmas.List.{append-nil, map-append, reverse-append, take_more}
+use Rattle.c_grammar.specs.Trees.{Name}
+use Rattle.c_typing.specs.Items.{with_name}
+use Rattle.c_types.specs.declared.names.Named.{Named}
+use Rattle.c_types.specs.Names.{named_seen, names_before}
+
+pub before-nil : names_before [] ≡ []
+unfolding names_before
+before-nil = refl
+
+pub before_more : (names : List Named) (i : ℕ) (d : Named) → i < length names → names_before (take (i + 1) names) ≡ named_seen (get_or names i d) ∷ names_before (take i names)
+unfolding names_before
+before_more names i d within =
+    ap (λ xs. reverse (map named_seen xs)) (take_more names i d within)
+    ∙ ap reverse (map-append named_seen (take i names) (get_or names i d ∷ []))
+    ∙ reverse-append (map named_seen (take i names)) (named_seen (get_or names i d) ∷ [])
+
+pub ruleset naming = (before-nil, before_more)
+
+pub with_name-append : (n : Option Name) (names : List Name) → with_name n names ≡ with_name n [] ++ names
+with_name-append None names = refl
+with_name-append (Some n) names = refl
+
+pub ruleset pushing = (append_assoc, append-nil, with_name-append)

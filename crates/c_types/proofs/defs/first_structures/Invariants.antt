@@ -1,0 +1,9 @@
+use Rattle.std.proofs.Common.{◌≡◌, ◌++◌, [], map, drop}
+use Rattle.c_typing.specs.Programs.{first_structures}
+use Rattle.c_scopes.specs.Seen.{structure_seen}
+use Rattle.c_types.proofs.defs.first_structures.Given as goal
+
+abbrev pub invariant-loop-one : goal.invariant-loop-one
+invariant-loop-one l =
+    map structure_seen l.firsts.items ++ first_structures (map structure_seen l.firsts.items) (map structure_seen (drop l.one-index l.structures))
+    ≡ first_structures [] (map structure_seen l.structures)

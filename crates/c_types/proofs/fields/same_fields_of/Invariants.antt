@@ -1,0 +1,8 @@
+use Rattle.std.proofs.Common.{◌≡◌, map, drop}
+use Rattle.c_typing.specs.Items.{same_fields}
+use Rattle.c_scopes.specs.Seen.{field_seen}
+use Rattle.c_types.proofs.fields.same_fields_of.Given as goal
+
+abbrev pub invariant-loop-place : goal.invariant-loop-place
+invariant-loop-place l =
+    same_fields (map field_seen (drop l.place l.ones)) (map field_seen (drop l.place l.others)) ≡ same_fields (map field_seen l.ones) (map field_seen l.others)

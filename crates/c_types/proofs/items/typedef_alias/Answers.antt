@@ -1,0 +1,9 @@
+use Rattle.std.proofs.Common.{Bool, ap, ◌∙◌}
+use Rattle.c_typing.specs.Types.{unless, UNDECLARED}
+use Rattle.c_scopes.specs.Lowered.{lowered}
+use Rattle.c_scopes.proofs.Lowering.{then}
+use Rattle.c_types.proofs.items.typedef_alias.Goals as goal
+
+pub returns : goal.returns
+returns c =
+    then _ _ _ _ _ (c.unless.ensures ∙ ap (λ (b : Bool). lowered c.args.first.now (unless b c.args.tag.now.place UNDECLARED)) c.is_defined.ensures) c.alias_refusals.ensures

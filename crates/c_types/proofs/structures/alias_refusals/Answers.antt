@@ -1,0 +1,7 @@
+use Rattle.std.proofs.Common.{Bool, ap, ◌∙◌}
+use Rattle.c_typing.specs.Types.{unless, SECOND}
+use Rattle.c_scopes.specs.Lowered.{lowered}
+use Rattle.c_types.proofs.structures.alias_refusals.Goals as goal
+
+pub returns : goal.returns
+returns c = c.unless.ensures ∙ ap (λ (b : Bool). lowered c.args.first.now (unless b c.args.alias.now.place SECOND)) c.may_be_alias.ensures

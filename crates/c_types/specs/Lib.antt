@@ -1,0 +1,6 @@
+pub mod Behind
+pub mod Names
+pub mod Firsts
+pub mod Typing
+pub mod Checking
+pub mod Rows

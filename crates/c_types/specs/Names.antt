@@ -1,0 +1,12 @@
+-- Which names the values of the crate stand for.
+use Rattle.std.specs.Prelude.{List, map, reverse}
+use Rattle.c_grammar.specs.Trees.{Name}
+use Rattle.c_tree.specs.Syntax.{ident_tree}
+use Rattle.c_types.specs.declared.names.Named.{Named}
+
+abbrev pub named_seen : Named → Name
+named_seen one = ident_tree one.name.now
+
+-- the last one first
+unfoldable pub names_before : List Named → List Name
+names_before names = reverse (map named_seen names)

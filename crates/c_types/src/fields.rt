@@ -1,0 +1,117 @@
+//! The fields of structures, with their types.
+ghost use Rattle.std.specs.Prelude.{◌≡◌, ◌&&◌, ◌++◌, ◌∷◌, [], OnOk, map};
+ghost use Rattle.std.specs.Str.{bytes_eq};
+ghost use Rattle.c_typing.specs.Types.{may_agree};
+ghost use Rattle.c_typing.specs.Tables.{field_kind, field_kinds};
+ghost use Rattle.c_typing.specs.Items.{same_fields};
+ghost use Rattle.c_tree.specs.Syntax.{specifier_tree, declarator_tree, fields_tree};
+ghost use Rattle.c_scopes.specs.Seen.{field_seen};
+
+use c_scopes::kinds::{may_agree, same_name};
+use c_scopes::objects::{FieldKind, field_kind};
+use c_scopes::tables::Tables;
+use c_tree::FieldDecl;
+use std::alloc::{AllocError, Global};
+use std::marker::Model;
+
+/// Fields with their types, in the order of the text.
+#[derive(Drop)]
+pub struct Fields<'a> {
+    found: Vec<FieldKind<'a>>,
+}
+
+impl<'a> Model for Fields<'a> {
+    ghost use Rattle.std.specs.Prelude.{List, map};
+    ghost use Rattle.c_typing.specs.Tables.{FieldKind};
+    ghost use Rattle.c_scopes.specs.Seen.{field_seen};
+
+    ghost Value = { List FieldKind };
+
+    ghost view = { λ f. map field_seen f.found.items };
+}
+
+/// Whether the fields have the same name, and types that may agree.
+#[tactic(auto, unfolding(c_scopes::specs::Seen::field_seen))]
+fn same_field(one: FieldKind, other: FieldKind) -> bool
+    ensures { let this = field_seen one.entry in let that = field_seen other.entry in
+        result ≡ (bytes_eq this.name.text that.name.text && may_agree this.kind that.kind) }
+{
+    same_name(&one.name.text, &other.name.text) && may_agree(one.kind, other.kind)
+}
+
+/// Whether the fields are the same, in one order.
+#[tactic(auto, using(crate::proofs::Sameness::fields))]
+fn same_fields_of(ones: &[FieldKind], others: &[FieldKind]) -> bool
+    ensures { result ≡ same_fields (map field_seen ones.now) (map field_seen others.now) }
+{
+    for (place, one) in ones.iter().enumerate() {
+        if place >= others.len() {
+            return false;
+        }
+        if !same_field(*one, others[place]) {
+            return false;
+        }
+    }
+    others.len() <= ones.len()
+}
+
+impl<'a> Fields<'a> {
+    /// No fields.
+    pub fn new(alloc: Global) -> Fields<'a>
+        ensures { result ≡ [] }
+    {
+        Fields {
+            found: Vec::new(alloc),
+        }
+    }
+
+    /// One field more.
+    fn push(&mut self, field: FieldKind<'a>) -> Result<(), AllocError>
+        ensures { OnOk result (self.new ≡ self.old ++ field_seen field.entry ∷ []) }
+    {
+        self.found.push(field)?;
+        Ok(())
+    }
+
+    /// The fields in a declaration.
+    #[tactic(auto, using(crate::proofs::Appending::appending))]
+    fn push_line(&mut self, tables: &Tables<'a>, line: &'a FieldDecl) -> Result<(), AllocError>
+        ensures { let seen = fields_tree line.now in
+            OnOk result (self.new ≡ self.old ++ map (field_kind tables.now seen.specifier) (seen.first ∷ seen.others)) }
+    {
+        self.push(field_kind(tables, &line.specifier, &line.first))?;
+        for one in &line.others {
+            self.push(field_kind(tables, &line.specifier, one))?;
+        }
+        Ok(())
+    }
+
+    /// The fields of a structure.
+    #[tactic(auto, using(crate::proofs::Appending::appending))]
+    pub fn push_lines(
+        &mut self,
+        tables: &Tables<'a>,
+        lines: &'a [FieldDecl],
+    ) -> Result<(), AllocError>
+        ensures { OnOk result (self.new ≡ self.old ++ field_kinds tables.now (map fields_tree lines.now)) }
+    {
+        for line in lines {
+            self.push_line(tables, line)?;
+        }
+        Ok(())
+    }
+
+    /// Whether the fields are the same, in one order.
+    pub fn same(&self, other: &Fields) -> bool
+        ensures { result ≡ same_fields self.now other.now }
+    {
+        same_fields_of(self.found.as_slice(), other.found.as_slice())
+    }
+
+    /// The fields, in order.
+    pub fn as_slice(&self) -> &[FieldKind<'a>]
+        ensures { map field_seen result.now ≡ self.now }
+    {
+        self.found.as_slice()
+    }
+}

@@ -1,0 +1,201 @@
+//! Declarations of procedures (C11 6.7.6.3).
+ghost use Rattle.std.specs.Prelude.{◌≡◌, ◌&&◌, ◌++◌, ◌∷◌, [], not, IfOk, OnOk, map, option_map};
+ghost use Rattle.c_typing.specs.FirstPlaces.{place_of_head};
+ghost use Rattle.c_typing.specs.Types.{may_agree, unless as unless_of, SECOND, CLASH};
+ghost use Rattle.c_typing.specs.Tables.{is_alias, param_kind, param_kinds, kind_of_result};
+ghost use Rattle.c_typing.specs.Items.{param_refusals, each_param_refusals, listed, head_refusals, same_kinds, same_head};
+ghost use Rattle.c_tree.specs.Syntax.{param_tree, params_tree, head_tree};
+ghost use Rattle.c_scopes.specs.Seen.{kind_seen, procedure_seen};
+ghost use Rattle.c_scopes.specs.Lowered.{lowered};
+
+use crate::names::Names;
+use c_scopes::declared::Procedure;
+use c_scopes::first::First;
+use c_scopes::kinds::{Kind, may_agree};
+use c_scopes::listed::Kinds;
+use c_scopes::objects::{
+    CLASH, LEFT_OUT, SECOND, is_alias, kind_of_result, may_be_object, may_be_result, param_kind,
+    specifier_refusals,
+};
+use c_scopes::tables::Tables;
+use c_statements::locals::place_of_specifier;
+use c_tree::{Head, Param, Params};
+use std::alloc::{AllocError, Global};
+
+/// What is refused in a parameter.
+#[tactic(auto, using(c_scopes::proofs::Lowering::lowering))]
+fn param_refusals(tables: &Tables, param: &Param, first: &mut First)
+    ensures { first.new ≡ lowered first.old (param_refusals tables.now (param_tree param.now)) }
+{
+    specifier_refusals(tables, &param.specifier, first);
+    first.unless(
+        may_be_object(&param.specifier, param.stars),
+        place_of_specifier(&param.specifier),
+        LEFT_OUT,
+    );
+}
+
+/// What is refused in parameters.
+#[tactic(auto, using(c_scopes::proofs::Lowering::lowering))]
+fn more_param_refusals(tables: &Tables, params: &[Param], first: &mut First)
+    ensures { first.new ≡ lowered first.old (each_param_refusals tables.now (map param_tree params.now)) }
+{
+    for param in params {
+        param_refusals(tables, param, first);
+    }
+}
+
+/// What is refused in the parameters of a procedure.
+#[tactic(auto, using(c_scopes::proofs::Lowering::lowering))]
+fn each_param_refusals(tables: &Tables, params: &Params, first: &mut First)
+    ensures { first.new ≡ lowered first.old (each_param_refusals tables.now (listed (params_tree params.now))) }
+{
+    match params {
+        Params::Empty => {}
+        Params::Void(_) => {}
+        Params::Listed(param, others) => {
+            param_refusals(tables, param, first);
+            more_param_refusals(tables, others.as_slice(), first);
+        }
+    }
+}
+
+/// What is refused in a head, whatever else is declared under its name.
+#[tactic(auto, using(c_scopes::proofs::Lowering::lowering))]
+fn head_refusals<'a>(
+    alloc: Global,
+    tables: &Tables<'a>,
+    head: &'a Head,
+    first: &mut First,
+) -> Result<(), AllocError>
+    ensures { OnOk result (first.new ≡ lowered first.old (head_refusals tables.now (head_tree head.now))) }
+{
+    specifier_refusals(tables, &head.specifier, first);
+    first.unless(
+        may_be_result(&head.specifier, head.declarator.stars),
+        place_of_specifier(&head.specifier),
+        LEFT_OUT,
+    );
+    each_param_refusals(tables, &head.params, first);
+    let mut names = Names::new(alloc);
+    names.push_params(&head.params)?;
+    names.refuse_second(first);
+    Ok(())
+}
+
+/// The types of parameters.
+#[tactic(auto, using(crate::proofs::Appending::appending))]
+fn push_param_kinds<'a>(
+    tables: &Tables<'a>,
+    params: &'a [Param],
+    list: &mut Kinds<'a>,
+) -> Result<(), AllocError>
+    ensures { OnOk result (list.new ≡ list.old ++ map (param_kind tables.now) (map param_tree params.now)) }
+{
+    for param in params {
+        list.push(param_kind(tables, param))?;
+    }
+    Ok(())
+}
+
+/// The types of a procedure's parameters.
+#[tactic(auto, using(crate::proofs::Appending::appending))]
+fn push_kinds_of<'a>(
+    tables: &Tables<'a>,
+    params: &'a Params,
+    list: &mut Kinds<'a>,
+) -> Result<(), AllocError>
+    ensures { OnOk result (list.new ≡ list.old ++ param_kinds tables.now (params_tree params.now)) }
+{
+    match params {
+        Params::Empty => Ok(()),
+        Params::Void(_) => Ok(()),
+        Params::Listed(param, others) => {
+            list.push(param_kind(tables, param))?;
+            push_param_kinds(tables, others.as_slice(), list)
+        }
+    }
+}
+
+/// Whether the types may agree, one by one.
+#[tactic(auto, using(crate::proofs::Sameness::kinds))]
+fn same_kinds_of(ones: &[Kind], others: &[Kind]) -> bool
+    ensures { result ≡ same_kinds (map kind_seen ones.now) (map kind_seen others.now) }
+{
+    for (place, one) in ones.iter().enumerate() {
+        if place >= others.len() {
+            return false;
+        }
+        if !may_agree(*one, others[place]) {
+            return false;
+        }
+    }
+    others.len() <= ones.len()
+}
+
+/// Whether the types of parameters may agree.
+fn same_params<'a>(
+    alloc: Global,
+    tables: &Tables<'a>,
+    ones: &'a Params,
+    others: &'a Params,
+) -> Result<bool, AllocError>
+    ensures { IfOk result (λ same. same ≡ same_kinds (param_kinds tables.now (params_tree ones.now)) (param_kinds tables.now (params_tree others.now))) }
+{
+    let mut one = Kinds::new(alloc);
+    push_kinds_of(tables, ones, &mut one)?;
+    let mut other = Kinds::new(alloc);
+    push_kinds_of(tables, others, &mut other)?;
+    Ok(same_kinds_of(one.as_slice(), other.as_slice()))
+}
+
+/// Whether the types of the results may agree.
+fn same_results<'a>(tables: &Tables<'a>, one: &'a Head, other: &'a Head) -> bool
+    ensures { result ≡ may_agree (kind_of_result tables.now (head_tree one.now)) (kind_of_result tables.now (head_tree other.now)) }
+{
+    may_agree(kind_of_result(tables, one), kind_of_result(tables, other))
+}
+
+/// Whether a procedure that was declared before has the same types.
+#[tactic(auto, unfolding(c_scopes::specs::Seen::procedure_seen))]
+fn same_head<'a>(
+    alloc: Global,
+    tables: &Tables<'a>,
+    before: Option<Procedure<'a>>,
+    head: &'a Head,
+) -> Result<bool, AllocError>
+    ensures { IfOk result (λ same. same ≡ same_head tables.now (option_map procedure_seen before.entry) (head_tree head.now)) }
+{
+    match before {
+        None => Ok(true),
+        Some(before) => {
+            let params = same_params(alloc, tables, &before.head.params, &head.params)?;
+            Ok(same_results(tables, before.head, head) && params)
+        }
+    }
+}
+
+/// What is refused in a declaration of a procedure, of which this is the first of its name.
+#[tactic(auto, using(c_scopes::proofs::Lowering::lowering))]
+pub fn procedure_refusals<'a>(
+    alloc: Global,
+    tables: &Tables<'a>,
+    before: &Tables<'a>,
+    declared: Option<Procedure<'a>>,
+    head: &'a Head,
+    first: &mut First,
+) -> Result<(), AllocError>
+    ensures { let seen = head_tree head.now in
+        OnOk result (first.new ≡ lowered first.old
+        (head_refusals tables.now seen
+        ++ unless_of (not (is_alias before.now seen.declarator.name.text)) seen.declarator.name.place SECOND
+        ++ unless_of (same_head tables.now (option_map procedure_seen declared.entry) seen) (place_of_head seen) CLASH)) }
+{
+    head_refusals(alloc, tables, head, first)?;
+    let name = &head.declarator.name;
+    let alias = is_alias(before, &name.text);
+    first.unless(!alias, name.place, SECOND);
+    let same = same_head(alloc, tables, declared, head)?;
+    first.unless(same, place_of_specifier(&head.specifier), CLASH);
+    Ok(())
+}

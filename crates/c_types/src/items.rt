@@ -1,0 +1,250 @@
+//! Items: structures, names of types, prototypes and definitions.
+ghost use Rattle.std.specs.Prelude.{◌≡◌, ◌++◌, ◌∷◌, [], false, not, OnOk, map, option_map};
+ghost use Rattle.c_grammar.specs.Readers.{place_of_specifier};
+ghost use Rattle.c_typing.specs.Types.{unless as unless_of, UNDECLARED, SECOND, LEFT_OUT};
+ghost use Rattle.c_typing.specs.Tables.{joined, declared_by, is_defined, tag_or};
+ghost use Rattle.c_typing.specs.Items as rule;
+ghost use Rattle.c_typing.specs.Programs as program;
+ghost use Rattle.c_tree.specs.Syntax.{ident_tree, fields_tree, param_tree, params_tree, head_tree, block_tree, item_tree};
+ghost use Rattle.c_scopes.specs.Lowered.{lowered};
+ghost use Rattle.c_statements.specs.Adding.{Adds};
+ghost use Rattle.c_types.specs.Behind.{behind_params};
+
+use crate::heads::procedure_refusals;
+use crate::structures::{alias_refusals, structure_refusals};
+use c_scopes::env::Env;
+use c_scopes::first::First;
+use c_scopes::objects::{LEFT_OUT, SECOND, UNDECLARED, is_defined, kind_of_result, param_kind};
+use c_scopes::tables::{Tables, tag_or};
+use c_statements::finding::Finding;
+use c_statements::locals::place_of_specifier;
+use c_statements::stmts::stmts;
+use c_tree::{Block, FieldDecl, Head, Ident, Item, Param, Params};
+use std::alloc::{AllocError, Global};
+
+/// Refuses a parameter of a definition that has no name.
+#[tactic(auto, using(crate::proofs::Lines::lining))]
+fn unnamed_refusal(param: &Param, first: &mut First)
+    ensures { let seen = param_tree param.now in
+        first.new ≡ lowered first.old (unless_of (rule.has_name seen.name) (place_of_specifier seen.specifier) LEFT_OUT) }
+{
+    first.unless(
+        param.name.is_some(),
+        place_of_specifier(&param.specifier),
+        LEFT_OUT,
+    );
+}
+
+/// Refuses parameters that have no name.
+#[tactic(auto, using(crate::proofs::Lines::lining))]
+fn more_unnamed_refusals(params: &[Param], first: &mut First)
+    ensures { first.new ≡ lowered first.old (rule.unnamed_refusals (map param_tree params.now)) }
+{
+    for param in params {
+        unnamed_refusal(param, first);
+    }
+}
+
+/// Refuses parameters of a definition that have no name.
+#[tactic(auto, using(crate::proofs::Lines::lining))]
+fn unnamed_refusals(params: &Params, first: &mut First)
+    ensures { first.new ≡ lowered first.old (rule.unnamed_refusals (rule.listed (params_tree params.now))) }
+{
+    match params {
+        Params::Empty => {}
+        Params::Void(_) => {}
+        Params::Listed(param, others) => {
+            unnamed_refusal(param, first);
+            more_unnamed_refusals(others.as_slice(), first);
+        }
+    }
+}
+
+/// The variable of the parameter, if it has a name.
+fn add_param<'a>(env: &mut Env<'a>, param: &'a Param) -> Result<(), AllocError>
+    ensures { OnOk result (env.new ≡ behind_params env.old (param_tree param.now ∷ [])) }
+{
+    match &param.name {
+        None => Ok(()),
+        Some(name) => env.add(&name.text, param_kind(env.tables(), param)),
+    }
+}
+
+/// The variables of parameters.
+fn add_more_params<'a>(env: &mut Env<'a>, params: &'a [Param]) -> Result<(), AllocError>
+    ensures { OnOk result (env.new ≡ behind_params env.old (map param_tree params.now)) }
+{
+    for param in params {
+        add_param(env, param)?;
+    }
+    Ok(())
+}
+
+/// The variables of a procedure's parameters.
+fn add_params<'a>(env: &mut Env<'a>, params: &'a Params) -> Result<(), AllocError>
+    ensures { OnOk result (env.new ≡ behind_params env.old (rule.listed (params_tree params.now))) }
+{
+    match params {
+        Params::Empty => Ok(()),
+        Params::Void(_) => Ok(()),
+        Params::Listed(param, others) => {
+            add_param(env, param)?;
+            add_more_params(env, others.as_slice())
+        }
+    }
+}
+
+/// The body of a definition.
+fn body<'a>(
+    env: &mut Env<'a>,
+    head: &'a Head,
+    block: &'a Block,
+    found: &mut Finding<'a>,
+) -> Result<(), AllocError>
+    ensures found { OnOk result (Adds (rule.body env.old.tables (head_tree head.now) (block_tree block.now).body) found.old found.new) }
+    ensures tables { OnOk result (env.new.tables ≡ env.old.tables) }
+{
+    env.clear();
+    add_params(env, &head.params)?;
+    let answer = kind_of_result(env.tables(), head);
+    stmts(env, answer, false, &block.stmts, found)
+}
+
+/// A structure under `typedef`.
+#[tactic(auto, using(c_scopes::proofs::Lowering::lowering))]
+fn typedef_structure<'a>(
+    alloc: Global,
+    tables: &Tables<'a>,
+    before: &Tables<'a>,
+    tag: &'a Option<Ident>,
+    lines: &'a Vec<FieldDecl>,
+    alias: &'a Ident,
+    first: &mut First,
+) -> Result<(), AllocError>
+    ensures { let name = tag_or (option_map ident_tree tag.now) (ident_tree alias.now) in
+        OnOk result (first.new ≡ lowered first.old
+        (rule.structure_refusals tables.now before.now name (map fields_tree lines.now.items) ++ rule.alias_refusals before.now (ident_tree alias.now) name)) }
+{
+    let tag = tag_or(tag, alias);
+    match structure_refusals(alloc, tables, before, tag, lines, first) {
+        Err(error) => Err(error),
+        Ok(()) => {
+            alias_refusals(before, alias, tag, first);
+            Ok(())
+        }
+    }
+}
+
+/// A name of a type, of a structure that is defined elsewhere.
+#[tactic(auto, using(c_scopes::proofs::Lowering::lowering))]
+fn typedef_alias(tables: &Tables, before: &Tables, tag: &Ident, alias: &Ident, first: &mut First)
+    ensures { let name = ident_tree tag.now in
+        first.new ≡ lowered first.old (unless_of (is_defined tables.now name.text) name.place UNDECLARED ++ rule.alias_refusals before.now (ident_tree alias.now) name) }
+{
+    first.unless(is_defined(tables, &tag.text), tag.place, UNDECLARED);
+    alias_refusals(before, alias, tag, first);
+}
+
+/// A prototype.
+#[tactic(auto, using(c_scopes::proofs::Lowering::lowering))]
+fn prototype<'a>(
+    alloc: Global,
+    tables: &Tables<'a>,
+    before: &Tables<'a>,
+    head: &'a Head,
+    first: &mut First,
+) -> Result<(), AllocError>
+    ensures { OnOk result (first.new ≡ lowered first.old (rule.procedure_refusals tables.now before.now before.now.procedures (head_tree head.now))) }
+{
+    let declared = before.procedure(&head.declarator.name.text);
+    procedure_refusals(alloc, tables, before, declared, head, first)
+}
+
+/// The head of a definition.
+#[tactic(auto, using(c_scopes::proofs::Lowering::lowering))]
+fn defined_head<'a>(
+    alloc: Global,
+    tables: &Tables<'a>,
+    before: &Tables<'a>,
+    head: &'a Head,
+    first: &mut First,
+) -> Result<(), AllocError>
+    ensures { let seen = head_tree head.now in
+        OnOk result (first.new ≡ lowered first.old
+        (rule.procedure_refusals tables.now before.now (rule.definitions false before.now.procedures) seen
+        ++ unless_of (not (rule.is_defined_before before.now seen)) seen.declarator.name.place SECOND
+        ++ rule.unnamed_refusals (rule.listed seen.params))) }
+{
+    let name = &head.declarator.name;
+    let declared = before.definition(&name.text, false);
+    procedure_refusals(alloc, tables, before, declared, head, first)?;
+    let defined = before.definition(&name.text, true).is_some();
+    first.unless(!defined, name.place, SECOND);
+    unnamed_refusals(&head.params, first);
+    Ok(())
+}
+
+/// An item, and what is declared before it.
+fn item<'a>(
+    alloc: Global,
+    env: &mut Env<'a>,
+    before: &Tables<'a>,
+    one: &'a Item,
+    found: &mut Finding<'a>,
+) -> Result<(), AllocError>
+    ensures found { OnOk result (Adds (rule.item env.old.tables before.now (item_tree one.now)) found.old found.new) }
+    ensures tables { OnOk result (env.new.tables ≡ env.old.tables) }
+{
+    match one {
+        Item::Struct { tag, fields, .. } => structure_refusals(
+            alloc,
+            env.tables(),
+            before,
+            tag,
+            fields,
+            &mut found.first,
+        ),
+        Item::TypedefStruct {
+            tag,
+            fields,
+            alias,
+            ..
+        } => typedef_structure(
+            alloc,
+            env.tables(),
+            before,
+            tag,
+            fields,
+            alias,
+            &mut found.first,
+        ),
+        Item::TypedefAlias { tag, alias, .. } => {
+            typedef_alias(env.tables(), before, tag, alias, &mut found.first);
+            Ok(())
+        }
+        Item::Prototype(head) => prototype(alloc, env.tables(), before, head, &mut found.first),
+        Item::Definition(head, block) => {
+            defined_head(alloc, env.tables(), before, head, &mut found.first)?;
+            body(env, head, block, found)
+        }
+    }
+}
+
+/// Items, and what is declared before them.
+pub fn items<'a>(
+    alloc: Global,
+    env: &mut Env<'a>,
+    before: &mut Tables<'a>,
+    ones: &'a [Item],
+    found: &mut Finding<'a>,
+) -> Result<(), AllocError>
+    ensures found { OnOk result (Adds (program.items env.old.tables before.old (map item_tree ones.now)) found.old found.new) }
+    ensures before { OnOk result (before.new ≡ joined before.old (declared_by (map item_tree ones.now))) }
+    ensures tables { OnOk result (env.new.tables ≡ env.old.tables) }
+{
+    for one in ones {
+        item(alloc, env, before, one, found)?;
+        before.declare(one)?;
+    }
+    Ok(())
+}

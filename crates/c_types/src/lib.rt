@@ -1,0 +1,17 @@
+//! Types of C programs: whether a program keeps the typing rules of `c_typing`, and then which types its expressions have.
+#![tactic(auto)]
+
+mod checker;
+mod defs;
+mod fields;
+mod heads;
+mod items;
+pub mod laws;
+mod names;
+mod structures;
+#[cfg(test)]
+mod tests;
+mod typed;
+
+pub use checker::check;
+pub use typed::{TypeFault, Typed};

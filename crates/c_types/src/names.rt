@@ -1,0 +1,149 @@
+//! Names that must differ: those of fields, and those of parameters.
+ghost use Rattle.std.specs.Prelude.{◌≡◌, ◌++◌, ◌∷◌, [], OnOk, map};
+ghost use Rattle.c_grammar.specs.Trees.{Declarator as DeclaratorTree};
+ghost use Rattle.c_typing.specs.Items.{is_listed, twice, field_names, with_name, param_names, listed};
+ghost use Rattle.c_tree.specs.Syntax.{ident_tree, fields_tree, param_tree, params_tree};
+ghost use Rattle.c_scopes.specs.Lowered.{lowered};
+ghost use Rattle.c_types.specs.Names.{named_seen, names_before};
+
+use c_scopes::first::First;
+use c_scopes::kinds::same_name;
+use c_scopes::objects::SECOND;
+use c_tree::{FieldDecl, Ident, Param, Params};
+use std::alloc::{AllocError, Global};
+use std::marker::Model;
+
+/// A name.
+#[derive(Clone, Copy)]
+pub struct Named<'a> {
+    pub name: &'a Ident,
+}
+
+/// Names, in the order of the text.
+#[derive(Drop)]
+pub struct Names<'a> {
+    found: Vec<Named<'a>>,
+}
+
+impl<'a> Model for Names<'a> {
+    ghost use Rattle.std.specs.Prelude.{List, map};
+    ghost use Rattle.c_grammar.specs.Trees.{Name};
+    ghost use Rattle.c_types.specs.Names.{named_seen};
+
+    ghost Value = { List Name };
+
+    ghost view = { λ n. map named_seen n.found.items };
+}
+
+impl<'a> Names<'a> {
+    /// No names.
+    pub fn new(alloc: Global) -> Names<'a>
+        ensures { result ≡ [] }
+    {
+        Names {
+            found: Vec::new(alloc),
+        }
+    }
+
+    /// One name more.
+    fn push(&mut self, name: &'a Ident) -> Result<(), AllocError>
+        ensures { OnOk result (self.new ≡ self.old ++ ident_tree name.now ∷ []) }
+    {
+        self.found.push(Named { name })?;
+        Ok(())
+    }
+
+    /// The names of the fields in a declaration.
+    #[tactic(auto, using(crate::proofs::Appending::appending))]
+    fn push_line(&mut self, line: &'a FieldDecl) -> Result<(), AllocError>
+        ensures { let seen = fields_tree line.now in
+            OnOk result (self.new ≡ self.old ++ map (λ (one : DeclaratorTree). one.name) (seen.first ∷ seen.others)) }
+    {
+        self.push(&line.first.name)?;
+        for one in &line.others {
+            self.push(&one.name)?;
+        }
+        Ok(())
+    }
+
+    /// The names of fields.
+    #[tactic(auto, using(crate::proofs::Appending::appending))]
+    pub fn push_lines(&mut self, lines: &'a [FieldDecl]) -> Result<(), AllocError>
+        ensures { OnOk result (self.new ≡ self.old ++ field_names (map fields_tree lines.now)) }
+    {
+        for line in lines {
+            self.push_line(line)?;
+        }
+        Ok(())
+    }
+
+    /// The name of the parameter, if it has one.
+    #[tactic(auto, using(crate::proofs::Appending::appending))]
+    fn push_param(&mut self, param: &'a Param) -> Result<(), AllocError>
+        ensures { OnOk result (self.new ≡ self.old ++ with_name (param_tree param.now).name []) }
+    {
+        match &param.name {
+            None => Ok(()),
+            Some(name) => self.push(name),
+        }
+    }
+
+    /// The names of parameters that have one.
+    #[tactic(auto, using(crate::proofs::Naming::pushing))]
+    fn push_more_params(&mut self, params: &'a [Param]) -> Result<(), AllocError>
+        ensures { OnOk result (self.new ≡ self.old ++ param_names (map param_tree params.now)) }
+    {
+        for param in params {
+            self.push_param(param)?;
+        }
+        Ok(())
+    }
+
+    /// The names of a procedure's parameters that have one.
+    #[tactic(auto, using(crate::proofs::Naming::pushing))]
+    pub fn push_params(&mut self, params: &'a Params) -> Result<(), AllocError>
+        ensures { OnOk result (self.new ≡ self.old ++ param_names (listed (params_tree params.now))) }
+    {
+        match params {
+            Params::Empty => Ok(()),
+            Params::Void(_) => Ok(()),
+            Params::Listed(first, others) => {
+                self.push_param(first)?;
+                self.push_more_params(others.as_slice())
+            }
+        }
+    }
+
+    /// Refuses each name that stood before.
+    #[tactic(auto, using(crate::proofs::Naming::naming))]
+    pub fn refuse_second(&self, first: &mut First)
+        ensures { first.new ≡ lowered first.old (twice [] self.now) }
+    {
+        refuse_second_of(self.found.as_slice(), first);
+    }
+}
+
+/// Whether the name is one of those.
+#[tactic(auto, using(crate::proofs::Naming::naming))]
+fn is_listed(before: &[Named], name: &Ident) -> bool
+    ensures { result ≡ is_listed (names_before before.now) (ident_tree name.now) }
+{
+    let mut listed = false;
+    for one in before {
+        if same_name(&one.name.text, &name.text) {
+            listed = true;
+        }
+    }
+    listed
+}
+
+/// Refuses each name that stood before.
+#[tactic(auto, using(crate::proofs::Naming::naming))]
+fn refuse_second_of(names: &[Named], first: &mut First)
+    ensures { first.new ≡ lowered first.old (twice [] (map named_seen names.now)) }
+{
+    for (place, one) in names.iter().enumerate() {
+        let listed = is_listed(&names[..place], one.name);
+        first.unless(!listed, one.name.place, SECOND);
+    }
+}

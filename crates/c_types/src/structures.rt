@@ -1,0 +1,157 @@
+//! Structures (C11 6.7.2.1) and names of types (C11 6.7.8).
+ghost use Rattle.std.specs.Prelude.{◌≡◌, ◌&&◌, ◌++◌, ◌∷◌, not, IfOk, OnOk, map, option_map};
+ghost use Rattle.c_typing.specs.Items.{declarator_refusals, lines_refusals, same_fields, repeated_refusals, structure_refusals, same_alias, is_procedure, alias_refusals};
+ghost use Rattle.c_grammar.specs.Readers.{place_of_specifier};
+ghost use Rattle.c_typing.specs.Types.{unless as unless_of, LEFT_OUT};
+ghost use Rattle.c_typing.specs.Tables.{field_kinds, structure_in, alias_in, specifier_refusals, may_be_object};
+ghost use Rattle.c_tree.specs.Syntax.{ident_tree, specifier_tree, declarator_tree, fields_tree};
+ghost use Rattle.c_scopes.specs.Seen.{structure_seen, alias_seen};
+ghost use Rattle.c_scopes.specs.Lowered.{lowered};
+
+use crate::fields::Fields;
+use crate::names::Names;
+use c_scopes::declared::{Alias, Structure};
+use c_scopes::first::First;
+use c_scopes::kinds::same_name;
+use c_scopes::objects::{DIFFERS, LEFT_OUT, SECOND, may_be_object, specifier_refusals};
+use c_scopes::tables::Tables;
+use c_statements::locals::place_of_specifier;
+use c_tree::{Declarator, FieldDecl, Ident, TypeSpecifier};
+use std::alloc::{AllocError, Global};
+
+/// Refuses a field that is neither an int nor a pointer to a structure.
+fn declarator_refusal(specifier: &TypeSpecifier, one: &Declarator, first: &mut First)
+    ensures { first.new ≡ lowered first.old (let seen = specifier_tree specifier.now in unless_of (may_be_object seen (declarator_tree one.now).stars) (place_of_specifier seen) LEFT_OUT) }
+{
+    first.unless(
+        may_be_object(specifier, one.stars),
+        place_of_specifier(specifier),
+        LEFT_OUT,
+    );
+}
+
+/// Refuses each field that is neither an int nor a pointer to a structure.
+fn declarator_refusals(specifier: &TypeSpecifier, ones: &[Declarator], first: &mut First)
+    ensures { first.new ≡ lowered first.old (declarator_refusals (specifier_tree specifier.now) (map declarator_tree ones.now)) }
+{
+    for one in ones {
+        declarator_refusal(specifier, one, first);
+    }
+}
+
+/// What is refused in a declaration of fields.
+#[tactic(auto, using(crate::proofs::Lines::lining))]
+fn line_refusals(tables: &Tables, line: &FieldDecl, first: &mut First)
+    ensures { let seen = fields_tree line.now in
+        first.new ≡ lowered first.old (specifier_refusals tables.now seen.specifier ++ declarator_refusals seen.specifier (seen.first ∷ seen.others)) }
+{
+    specifier_refusals(tables, &line.specifier, first);
+    declarator_refusal(&line.specifier, &line.first, first);
+    declarator_refusals(&line.specifier, line.others.as_slice(), first);
+}
+
+/// What is refused in declarations of fields.
+#[tactic(auto, using(crate::proofs::Lines::lining))]
+fn lines_refusals(tables: &Tables, lines: &[FieldDecl], first: &mut First)
+    ensures { first.new ≡ lowered first.old (lines_refusals tables.now (map fields_tree lines.now)) }
+{
+    for line in lines {
+        line_refusals(tables, line, first);
+    }
+}
+
+/// Whether two structures have the same fields.
+fn same_lines<'a>(
+    alloc: Global,
+    tables: &Tables<'a>,
+    ones: &'a [FieldDecl],
+    others: &'a [FieldDecl],
+) -> Result<bool, AllocError>
+    ensures { IfOk result (λ same. same ≡ same_fields (field_kinds tables.now (map fields_tree ones.now)) (field_kinds tables.now (map fields_tree others.now))) }
+{
+    let mut one = Fields::new(alloc);
+    one.push_lines(tables, ones)?;
+    let mut other = Fields::new(alloc);
+    other.push_lines(tables, others)?;
+    Ok(one.same(&other))
+}
+
+/// Refuses a structure that was defined before with other fields.
+#[tactic(auto, using(c_scopes::proofs::Lowering::lowering))]
+fn repeated_refusals<'a>(
+    alloc: Global,
+    tables: &Tables<'a>,
+    before: Option<Structure<'a>>,
+    tag: &Ident,
+    lines: &'a Vec<FieldDecl>,
+    first: &mut First,
+) -> Result<(), AllocError>
+    ensures { OnOk result (first.new ≡ lowered first.old (repeated_refusals tables.now (option_map structure_seen before.entry) (ident_tree tag.now) (map fields_tree lines.now.items))) }
+{
+    match before {
+        None => Ok(()),
+        Some(before) => {
+            let same = same_lines(alloc, tables, before.lines.as_slice(), lines.as_slice())?;
+            first.unless(same, tag.place, DIFFERS);
+            Ok(())
+        }
+    }
+}
+
+/// What is refused in a definition of a structure.
+#[tactic(auto, using(c_scopes::proofs::Lowering::lowering))]
+pub fn structure_refusals<'a>(
+    alloc: Global,
+    tables: &Tables<'a>,
+    before: &Tables<'a>,
+    tag: &Ident,
+    lines: &'a Vec<FieldDecl>,
+    first: &mut First,
+) -> Result<(), AllocError>
+    ensures { OnOk result (first.new ≡ lowered first.old (structure_refusals tables.now before.now (ident_tree tag.now) (map fields_tree lines.now.items))) }
+{
+    lines_refusals(tables, lines.as_slice(), first);
+    let mut names = Names::new(alloc);
+    names.push_lines(lines.as_slice())?;
+    names.refuse_second(first);
+    repeated_refusals(
+        alloc,
+        tables,
+        before.structure(&tag.text),
+        tag,
+        lines,
+        first,
+    )
+}
+
+/// Whether a name of a type that was given before is that of the same structure.
+fn same_alias(before: Option<Alias>, tag: &Ident) -> bool
+    ensures { result ≡ same_alias (option_map alias_seen before.entry) (ident_tree tag.now) }
+{
+    match before {
+        None => true,
+        Some(before) => same_name(before.tag, &tag.text),
+    }
+}
+
+/// Whether the name is that of a procedure.
+fn is_procedure(tables: &Tables, name: &Ident) -> bool
+    ensures { result ≡ is_procedure tables.now (ident_tree name.now) }
+{
+    tables.procedure(&name.text).is_some()
+}
+
+/// Whether the name of a type is that of no procedure and no other structure.
+fn may_be_alias(before: &Tables, alias: &Ident, tag: &Ident) -> bool
+    ensures { let name = ident_tree alias.now in
+        result ≡ (same_alias (alias_in before.now.aliases name.text) (ident_tree tag.now) && not (is_procedure before.now name)) }
+{
+    same_alias(before.alias(&alias.text), tag) && !is_procedure(before, alias)
+}
+
+/// Refuses a name of a type that is that of a procedure or of another structure.
+pub fn alias_refusals(before: &Tables, alias: &Ident, tag: &Ident, first: &mut First)
+    ensures { first.new ≡ lowered first.old (alias_refusals before.now (ident_tree alias.now) (ident_tree tag.now)) }
+{
+    first.unless(may_be_alias(before, alias, tag), alias.place, SECOND);
+}

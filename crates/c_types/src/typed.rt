@@ -1,0 +1,49 @@
+//! A program that keeps the typing rules, and why there is none.
+ghost use Rattle.c_types.specs.Typing.{IsTyped, files_of};
+
+use c_tree::Unit;
+use c_typing::At;
+use shape_data::Row;
+use shape_data::program::{StructDef, Ty};
+use std::alloc::{AllocError, AllocFailed};
+
+/// A program that keeps the typing rules: its files, its structures in the order of their first definitions, and the types of
+/// all its expressions in the order of the text. That the types are those is part of the type.
+#[derive(Drop)]
+pub struct Typed {
+    pub units: Row<Unit>,
+    pub structs: Row<StructDef>,
+    pub kinds: Row<Ty>,
+    pub ghost typed: { IsTyped (files_of units) structs kinds },
+}
+
+/// Why a program is not well typed: the first refusal in the order of the text. The codes are 121, a name that is not declared; 122,
+/// types that clash; 123, a second definition; 124, a wrong number of arguments; 125, a structure that is repeated and differs;
+/// and 126, a construct that the subset leaves out.
+#[derive(Clone, Copy, Debug)]
+pub enum TypeFault {
+    Refused(At),
+    OutOfMemory,
+}
+
+impl From<AllocError> for TypeFault {
+    ghost use Rattle.std.specs.Prelude.{◌≡◌};
+    ghost use Rattle.c_types.specs.declared.typed.TypeFault.TheVariants.{OutOfMemory};
+
+    ghost from_gives = { λ _ fault. fault ≡ OutOfMemory };
+
+    fn from(_error: AllocError) -> TypeFault {
+        TypeFault::OutOfMemory
+    }
+}
+
+impl<T: Drop> From<AllocFailed<T>> for TypeFault {
+    ghost use Rattle.std.specs.Prelude.{◌≡◌};
+    ghost use Rattle.c_types.specs.declared.typed.TypeFault.TheVariants.{OutOfMemory};
+
+    ghost from_gives = { λ _ fault. fault ≡ OutOfMemory };
+
+    fn from(_error: AllocFailed<T>) -> TypeFault {
+        TypeFault::OutOfMemory
+    }
+}
