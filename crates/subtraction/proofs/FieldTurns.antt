@@ -1,5 +1,5 @@
 -- The fields of a cell, one after the other.
-use Rattle.std.proofs.Common.{◌≡◌, ◌∙◌, ℕ, zero, suc, ◌≤◌, List, [], ◌∷◌, refl, sym, ap, length, drop, arith}
+use Rattle.std.proofs.Common.{◌≡◌, ◌∙◌, ℕ, zero, suc, ◌≤◌, List, [], ◌∷◌, refl, ap, length, drop, arith}
 use Rattle.shape_data.specs.declared.symbolic.Exp.{Exp}
 use Rattle.match_laws.specs.declared.matching.Matching.{Matching}
 use Rattle.match_laws.specs.Steps.{Rules}

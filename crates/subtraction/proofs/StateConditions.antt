@@ -1,21 +1,20 @@
 -- What states and posts within the sizes have, and that well-formed ones are so.
-use Rattle.std.specs.Prelude.{◌≡◌, ℕ, ◌+◌, ◌<◌, ◌≤◌, List, [], ◌∷◌, length, All}
-use Rattle.std.proofs.Common.{refl, arith}
+use Rattle.std.specs.Prelude.{◌≡◌, ℕ, ◌+◌, ◌<◌, ◌≤◌, [], length}
+use Rattle.std.proofs.Common.{arith}
 use Rattle.std.proofs.lemmas.Bool.{ltb-true}
 use Rattle.std.proofs.lemmas.List.Elements.{All-weaker}
 use Rattle.shape_data.specs.declared.symbolic.Exp.{Exp}
 use Rattle.shape_data.specs.declared.symbolic.Exp.TheVariants.{Var, Const}
-use Rattle.shape_data.specs.declared.symbolic.Post.{Post}
 use Rattle.shape_data.specs.declared.symbolic.SymState.{SymState}
 use Rattle.shape_data.specs.WellFormed.{IsExp, widest}
 use Rattle.heap_laws.specs.Each.{EachInState}
-use Rattle.heap_laws.specs.Mapped.{on_state, renamed}
+use Rattle.heap_laws.specs.Mapped.{renamed}
 use Rattle.match_laws.specs.Covers.{above, apart_from, number_from}
 use Rattle.match_laws.specs.NewVariables.{HasRoom}
-use Rattle.match_laws.specs.Rooms.{IsSmall, IsWithinSizes, fields_of_all}
+use Rattle.match_laws.specs.Rooms.{IsSmall, fields_of_all}
 use Rattle.match_laws.specs.Variables.{with_state}
 use Rattle.match_laws.proofs.SizeLaws.{well_formed_is_within_sizes}
-use Rattle.subtraction.specs.Conditions.{IsPostWithinSizes, IsStateWithinSizes, WellFormedPostIsWithinSizes, WellFormedStateIsWithinSizes}
+use Rattle.subtraction.specs.Conditions.{IsStateWithinSizes, WellFormedPostIsWithinSizes, WellFormedStateIsWithinSizes}
 use Rattle.subtraction.proofs.CoverLengths.{IsFew, few-mapped, locals-mapped, states-room}
 
 pub state_small : (state : SymState) → IsStateWithinSizes state → EachInState IsSmall state

@@ -8,7 +8,7 @@ use Rattle.match_laws.specs.declared.matching.Turned.{Turned}
 use Rattle.match_laws.specs.declared.matching.Turned.TheVariants.{On, Stuck}
 use Rattle.match_laws.specs.Reading.{is_unbound, read}
 use Rattle.match_laws.specs.Steps.{Rules, bind}
-use Rattle.match_laws.specs.WantedSegments.{piece, piece_at, reach, take_piece, walk, want_segment}
+use Rattle.match_laws.specs.WantedSegments.{piece, reach, take_piece, walk, want_segment}
 use Rattle.subtraction.specs.Rules.{strict_of}
 
 module _ (facts : List Fact) (flexible : List ℕ) (turns done number : ℕ) (kind : List ℕ) (link : ℕ) (to e : Exp) (m : Matching) (inside : done < turns) where

@@ -1,5 +1,4 @@
 -- The atom's clause.
-use Rattle.std.proofs.Common.{◌≡◌}
 use Rattle.subtraction.proofs.atoms.want_atom.Goals as goal
 
 pub returns-in-Points : goal.returns-in-Points

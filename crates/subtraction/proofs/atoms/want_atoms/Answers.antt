@@ -1,5 +1,5 @@
 -- Each turn is one of the definition.
-use Rattle.std.proofs.Common.{◌≡◌, ◌∙◌, ◌<◌, length, sym, arith}
+use Rattle.std.proofs.Common.{◌∙◌, ◌<◌, length, sym, arith}
 use Rattle.subtraction.specs.Rules.{strict}
 use Rattle.subtraction.proofs.AtomTurns.{atoms_go, atoms_stop}
 use Rattle.subtraction.proofs.atoms.want_atoms.Goals as goal

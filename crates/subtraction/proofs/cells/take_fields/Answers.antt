@@ -1,5 +1,5 @@
 -- Where no more fields are there, all is done.
-use Rattle.std.proofs.Common.{◌≡◌, ◌∙◌, ◌≤◌, sym, length, drop, arith}
+use Rattle.std.proofs.Common.{◌∙◌, ◌≤◌, sym, length, drop}
 use Rattle.subtraction.specs.Rules.{strict_of}
 use Rattle.subtraction.proofs.FieldTurns.{fields_end}
 use Rattle.subtraction.proofs.cells.take_fields.Goals as goal

@@ -1,5 +1,5 @@
 -- Facts that are left over take no room.
-use Rattle.std.proofs.Common.{◌≡◌, ◌∙◌, sym}
+use Rattle.std.proofs.Common.{◌∙◌, sym}
 use Rattle.match_laws.specs.Rooms.{fields_of_all}
 use Rattle.subtraction.proofs.MatchSteps.{owed_room}
 use Rattle.subtraction.proofs.covering.want_state.Goals as goal

@@ -1,5 +1,5 @@
 -- The whole heap is as it stands.
-use Rattle.std.proofs.Common.{◌≡◌, ◌∙◌, ap}
+use Rattle.std.proofs.Common.{◌∙◌, ap}
 use Rattle.sym_pure.specs.Sources.{differs}
 use Rattle.subtraction.proofs.facts.are_apart.Goals as goal
 

@@ -1,6 +1,6 @@
 -- Each turn gives one variable.
-use Rattle.std.proofs.Common.{◌≡◌, ◌∙◌, ◌+◌, ◌-◌, ◌<◌, ◌++◌, ◌∷◌, [], length, sym, rules, arith}
-use Rattle.match_laws.specs.NewVariables.{HasRoom, fresh}
+use Rattle.std.proofs.Common.{◌≡◌, rules}
+use Rattle.match_laws.specs.NewVariables.{fresh}
 use Rattle.subtraction.proofs.NewVariableTurns.{first_below, turn}
 use Rattle.subtraction.proofs.new_variables.fresh_variables.Goals as goal
 

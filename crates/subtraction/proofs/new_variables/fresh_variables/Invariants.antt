@@ -1,4 +1,4 @@
-use Rattle.std.proofs.Common.{◌≡◌, ◌-◌, ◌++◌, length}
+use Rattle.std.proofs.Common.{◌≡◌, ◌-◌, ◌++◌}
 use Rattle.match_laws.specs.NewVariables.{HasRoom, fresh_variables}
 use Rattle.subtraction.proofs.new_variables.fresh_variables.Given as goal
 
