@@ -52,10 +52,13 @@ fn each_rule_refuses_at_its_place(rt: HostRuntime) -> Result<(), Fail> {
                 .iter()
                 .position(|byte| *byte == b'@')
                 .unwrap_or(0);
-            let column = BEFORE.len() as u32 + marked as u32 + 1;
             let text = text_of(alloc, row)?;
             let found = refusal(alloc, text.as_slice())?;
-            assert!(rt; found == (code, column), "{row} gives {found:?}");
+            let column = (found.1 as usize).saturating_sub(BEFORE.len() + 1);
+            assert!(rt;
+                found.0 == code && column == marked,
+                "{row} gives {found:?}"
+            );
         }
     }
     Ok(())
