@@ -1,3 +1,4 @@
+pub mod Noting
 pub mod Stacking
 pub mod Definitions
 pub mod Stars

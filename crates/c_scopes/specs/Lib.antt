@@ -1,3 +1,4 @@
 pub mod Seen
+pub mod Firsts
 pub mod Lowered
 pub mod Specifiers

@@ -1,33 +1,41 @@
 //! What the structures, the names of types and the procedures of a program are.
-ghost use Rattle.std.specs.Prelude.{◌≡◌, ◌++◌, ◌&&◌, option_map, true, false, IfOk, OnOk, map};
-ghost use Rattle.std.specs.Str.{bytes_eq};
+ghost use Rattle.std.specs.Prelude.{◌≡◌, option_map, OnOk, map};
 ghost use Rattle.c_typing.specs.Tables.{no_tables, structure_in, alias_in, procedure_in, joined, declares, declared_by, tag_or};
-ghost use Rattle.c_typing.specs.Items.{definitions, same_bool};
+ghost use Rattle.c_typing.specs.Items.{definitions};
 ghost use Rattle.c_tree.specs.Syntax.{item_tree, ident_tree};
 ghost use Rattle.c_scopes.specs.Seen.{structure_seen, alias_seen, procedure_seen};
 
 use crate::declared::{Alias, Procedure, Structure};
 use crate::kinds::same_name;
+use crate::named::{Aliases, Procedures, Structures};
 use c_tree::{FieldDecl, Head, Ident, Item, Name};
 use std::alloc::{AllocError, Global};
 use std::marker::Model;
 
 /// What is declared, in the order of the text.
-#[derive(Drop)]
 pub struct Tables<'a> {
-    structures: Vec<Structure<'a>>,
-    aliases: Vec<Alias<'a>>,
-    procedures: Vec<Procedure<'a>>,
+    structures: Structures<'a>,
+    aliases: Aliases<'a>,
+    procedures: Procedures<'a>,
 }
 
 impl<'a> Model for Tables<'a> {
-    ghost use Rattle.std.specs.Prelude.{map};
     ghost use Rattle.c_typing.specs.Tables.{Tables};
-    ghost use Rattle.c_scopes.specs.Seen.{structure_seen, alias_seen, procedure_seen};
 
     ghost Value = { Tables };
 
-    ghost view = { λ t. record { structures = map structure_seen t.structures.items; aliases = map alias_seen t.aliases.items; procedures = map procedure_seen t.procedures.items } };
+    ghost view = { λ t. record { structures = t.structures; aliases = t.aliases; procedures = t.procedures } };
+}
+
+// Written out, so that callers' proofs take the end of the tables as one call, and not one for each part of each map.
+impl<'a> Drop for Tables<'a> {
+    fn drop(self) {
+        let Tables {
+            structures: _structures,
+            aliases: _aliases,
+            procedures: _procedures,
+        } = self;
+    }
 }
 
 /// The first structure of the tag.
@@ -37,63 +45,6 @@ pub fn structure_among<'a>(structures: &[Structure<'a>], tag: &Name) -> Option<S
     for structure in structures {
         if same_name(structure.tag, tag) {
             return Some(*structure);
-        }
-    }
-    None
-}
-
-/// The first of the names of types that is this name.
-fn alias_among<'a>(aliases: &[Alias<'a>], name: &Name) -> Option<Alias<'a>>
-    ensures { option_map alias_seen result ≡ alias_in (map alias_seen aliases.now) name.now }
-{
-    for alias in aliases {
-        if same_name(alias.name, name) {
-            return Some(*alias);
-        }
-    }
-    None
-}
-
-/// Whether the procedure has the name.
-#[tactic(auto, unfolding(crate::specs::Seen::procedure_seen))]
-fn is_named(procedure: Procedure, name: &Name) -> bool
-    ensures { result ≡ bytes_eq (procedure_seen procedure.entry).head.declarator.name.text name.now }
-{
-    same_name(&procedure.head.declarator.name.text, name)
-}
-
-/// The first procedure of the name.
-fn procedure_among<'a>(procedures: &[Procedure<'a>], name: &Name) -> Option<Procedure<'a>>
-    ensures { option_map procedure_seen result ≡ procedure_in (map procedure_seen procedures.now) name.now }
-{
-    for procedure in procedures {
-        if is_named(*procedure, name) {
-            return Some(*procedure);
-        }
-    }
-    None
-}
-
-/// Whether the procedure has the name, and is defined there or only declared.
-#[tactic(auto, unfolding(crate::specs::Seen::procedure_seen))]
-fn is_definition(procedure: Procedure, name: &Name, defines: bool) -> bool
-    ensures { let seen = procedure_seen procedure.entry in result ≡ (same_bool seen.defines defines && bytes_eq seen.head.declarator.name.text name.now) }
-{
-    procedure.defines == defines && is_named(procedure, name)
-}
-
-/// The first procedure of the name that is defined, or that is declared only.
-#[tactic(auto, using(crate::proofs::Definitions::definition_step))]
-fn definition_among<'a>(
-    procedures: &[Procedure<'a>],
-    name: &Name,
-    defines: bool,
-) -> Option<Procedure<'a>>
-    ensures { option_map procedure_seen result ≡ procedure_in (definitions defines (map procedure_seen procedures.now)) name.now }
-{
-    for procedure in procedures {
-        if is_definition(*procedure, name, defines) {
-            return Some(*procedure);
         }
     }
     None
@@ -115,9 +66,9 @@ impl<'a> Tables<'a> {
         ensures { result ≡ no_tables }
     {
         Tables {
-            structures: Vec::new(alloc),
-            aliases: Vec::new(alloc),
-            procedures: Vec::new(alloc),
+            structures: Structures::new(alloc),
+            aliases: Aliases::new(alloc),
+            procedures: Procedures::new(alloc),
         }
     }
 
@@ -132,28 +83,28 @@ impl<'a> Tables<'a> {
     pub fn structure(&self, tag: &Name) -> Option<Structure<'a>>
         ensures { option_map structure_seen result ≡ structure_in self.now.structures tag.now }
     {
-        structure_among(self.structures.as_slice(), tag)
+        self.structures.first(tag)
     }
 
     /// The first of the names of types that is this name.
     pub fn alias(&self, name: &Name) -> Option<Alias<'a>>
         ensures { option_map alias_seen result ≡ alias_in self.now.aliases name.now }
     {
-        alias_among(self.aliases.as_slice(), name)
+        self.aliases.first(name)
     }
 
     /// The first procedure of the name.
     pub fn procedure(&self, name: &Name) -> Option<Procedure<'a>>
         ensures { option_map procedure_seen result ≡ procedure_in self.now.procedures name.now }
     {
-        procedure_among(self.procedures.as_slice(), name)
+        self.procedures.first(name)
     }
 
     /// The first definition of the procedure, or its first declaration that is none.
     pub fn definition(&self, name: &Name, defines: bool) -> Option<Procedure<'a>>
         ensures { option_map procedure_seen result ≡ procedure_in (definitions defines self.now.procedures) name.now }
     {
-        definition_among(self.procedures.as_slice(), name, defines)
+        self.procedures.definition(name, defines)
     }
 
     /// With what the item declares.
