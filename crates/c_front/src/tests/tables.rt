@@ -145,7 +145,7 @@ struct empty { }; void f(struct empty *p) { free(p); }
 void f(int a) { a += g(a); }";
 
 /// The types of all expressions, a letter each: an int, a pointer, or void.
-pub const KINDS: [(&str, &str); 10] = [
+pub const KINDS: [(&str, &str); 14] = [
     ("int f(node *p) { return p->v == 1 && !p; }", "piiiiip"),
     ("void f(void) { h(); g(0); }", "vii"),
     ("node *f(void) { return malloc(sizeof(node)); }", "p"),
@@ -156,6 +156,22 @@ pub const KINDS: [(&str, &str); 10] = [
     ("int f(int a) { return -(a); }", "iii"),
     ("void f(node *p) { for (p = k(); p; p->v++) ; }", "ppppi"),
     ("void f(int a) { while (a) a *= 2; }", "iii"),
+    (
+        "void f(int a) { if (a < 1 || a <= 2) a += 1; else a -= 1; }",
+        "iiiiiiiiiii",
+    ),
+    (
+        "int f(int a) { do { a--; continue; } while (a > 0); return a >= 1 != 0; }",
+        "iiiiiiiii",
+    ),
+    (
+        "node *f(void) { node *p = (node *) malloc(sizeof(node)), *q = p; return q; }",
+        "ppp",
+    ),
+    (
+        "int f(node *p) { for (;;) { if (NULL == p) break; } return 0; }",
+        "iipi",
+    ),
 ];
 
 /// Two files, and the file, the code and the column of their first refusal.
