@@ -4,7 +4,7 @@ use Rattle.std.proofs.Common.{◌≡◌, ℕ, suc, Bool, true, false, cond, List
 use Rattle.std.specs.Prelude.{◌≢◌, Option, Some, None, IfSome, ◌&&◌, not}
 use Rattle.std.specs.List.{AllByRecursion}
 use Rattle.std.specs.Str.{bytes_eq}
-use Rattle.std.proofs.lemmas.List.{append_assoc, append-nil}
+use Rattle.std.proofs.lemmas.List.{append_assoc, append-nil, length-map}
 use Rattle.std.proofs.lemmas.Slice.Eq.{bytes_eq-Decides}
 use Rattle.c_tokens.specs.declared.places.Place.{Place}
 use Rattle.c_grammar.specs.Trees.{Params, Head, Stmts, Item, File}
@@ -55,14 +55,10 @@ same_length tables (k ∷ ks) (l ∷ ls) e = ap suc (same_length tables ks ls (b
 same_length tables [] (l ∷ ls) e = absurd (cc)
 same_length tables (k ∷ ks) [] e = absurd (cc)
 
-mapped_length : {A B : Type 0} (f : A → B) (xs : List A) → length (map f xs) ≡ length xs
-mapped_length f [] = refl
-mapped_length f (x ∷ xs) = ap suc (mapped_length f xs)
-
-kinds_length : (tables : Tables) (params : Params) → length (param_kinds tables params) ≡ length (listed params)
+pub kinds_length : (tables : Tables) (params : Params) → length (param_kinds tables params) ≡ length (listed params)
 kinds_length tables Params.NoParams = refl
 kinds_length tables (Params.VoidParams place) = refl
-kinds_length tables (Params.Listed first others) = ap suc (mapped_length (param_kind tables) others)
+kinds_length tables (Params.Listed first others) = ap suc (length-map others (param_kind tables))
 
 head_length : (tables : Tables) (found : Option Procedure) (head : Head) → same_head tables found head ≡ true → IfSome found (λ f. count f ≡ length (listed head.params))
 head_length tables None head e = tt

@@ -1,5 +1,5 @@
 -- Where nothing is refused in a simple statement, a `return` or an initializer, its code is good.
-use Rattle.std.proofs.Common.{◌≡◌, ℕ, suc, ◌+◌, ◌<◌, Bool, true, false, cond, List, [], ◌∷◌, length, map, refl, arith, subst, sym, ap, ◌∙◌}
+use Rattle.std.proofs.Common.{◌≡◌, ℕ, suc, ◌+◌, ◌<◌, Bool, true, false, cond, List, [], ◌∷◌, length, refl, arith, subst, sym, ap, ◌∙◌}
 use Rattle.std.specs.Prelude.{Option, Some, None, IfSome, pos, ℤ, ◌||◌}
 use Rattle.shape_data.specs.declared.program.ArithOp.{ArithOp}
 use Rattle.shape_data.specs.declared.program.ArithOp.TheVariants as arith
@@ -12,10 +12,10 @@ use Rattle.shape_data.specs.Names.{IsCName}
 use Rattle.shape_data.specs.WellFormed.{IsTy, IsOperand, IsKind, IsCountable}
 use Rattle.c_tokens.specs.declared.places.Place.{Place}
 use Rattle.c_tokens.specs.declared.places.Refusal.{Refusal}
-use Rattle.c_grammar.specs.Trees.{Name, Specifier, Params, Expr, Args, AssignOp, Simple}
+use Rattle.c_grammar.specs.Trees.{Name, Specifier, Expr, Args, AssignOp, Simple}
 use Rattle.c_typing.specs.FirstPlaces.{place_of_expr}
 use Rattle.c_typing.specs.Types.{Kind, refusal, ARGUMENTS}
-use Rattle.c_typing.specs.Tables.{Procedure, Alias, Tables, procedure_in, alias_in, pointer_by, pointer_of, param_kind, param_kinds}
+use Rattle.c_typing.specs.Tables.{Procedure, Alias, Tables, procedure_in, alias_in, pointer_by, pointer_of, param_kinds}
 use Rattle.c_typing.specs.Items.{listed}
 use Rattle.c_typing.specs.Expressions.{kind_of, kind_of_call, is_null, Given, given_by, gives_pointer, may_be_pointer, kind_of_member, members_refusals, same_number, callee_refusals, expr_refusals, call_refusals, whole_refusals, malloc_refusals}
 use Rattle.c_typing.specs.Statements.{is_target, may_be_freed, simple}
@@ -32,6 +32,7 @@ use Rattle.c_lowering.specs.Statements.{Target, member_target, target, store, fi
 use Rattle.c_lowering.proofs.Pieces.{operand_more, straight_more, straight_none, straight_append, code_command, code_before}
 use Rattle.c_lowering.proofs.Uses.{behind_self, behind_both, taken_good, world, IsLined, GoodPiece, GoodValue, GoodLowering, at_hand_good, made_value_good, made_good}
 use Rattle.c_lowering.proofs.Operators.{arith_both_good, arithmetic_good, IsFieldThere, load_good, member_good, GoodArguments, none_good, arguments_good, arguments_count, IsCallable, call_by_good, new_by_good}
+use Rattle.c_lowering.proofs.Procedures.{kinds_length}
 use Rattle.c_lowering.proofs.Exprs.{Fits, IsHere, known_ty, known_some, slot_there, field_there, GoodExpr, lowering_good, args_good}
 
 -- CALLS AND MALLOC
@@ -41,15 +42,6 @@ counted c [] Args.NoArgs e = refl
 counted c (kind ∷ kinds) (Args.Arg first others) e = ap suc (counted c kinds others e)
 counted c [] (Args.Arg first others) e = absurd (cc)
 counted c (kind ∷ kinds) Args.NoArgs e = absurd (cc)
-
-mapped_length : {A B : Type 0} (f : A → B) (xs : List A) → length (map f xs) ≡ length xs
-mapped_length f [] = refl
-mapped_length f (x ∷ xs) = ap suc (mapped_length f xs)
-
-kinds_length : (tables : Tables) (params : Params) → length (param_kinds tables params) ≡ length (listed params)
-kinds_length tables Params.NoParams = refl
-kinds_length tables (Params.VoidParams place) = refl
-kinds_length tables (Params.Listed first others) = ap suc (mapped_length (param_kind tables) others)
 
 chosen : (b : Bool) (one other : List Refusal) (r : Refusal) → other ≡ r ∷ [] → cond b one other ≡ [] → b ≡ true
 chosen true one other r e h = refl

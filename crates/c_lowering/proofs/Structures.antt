@@ -5,6 +5,7 @@ use Rattle.std.specs.Option.{IsSomeAnd}
 use Rattle.std.specs.List.{AllByRecursion}
 use Rattle.std.specs.Str.{bytes_eq}
 use Rattle.std.proofs.lemmas.Bool.{leb-true}
+use Rattle.std.proofs.lemmas.List.{length-map, map-append}
 use Rattle.std.proofs.lemmas.List.Elements.{All-from_recursion, recursion_from_All}
 use Rattle.shape_data.specs.declared.program.Field.{Field}
 use Rattle.shape_data.specs.declared.program.StructDef.{StructDef}
@@ -116,10 +117,6 @@ named_first tables before (first ∷ others) tag e =
 abbrev name_of_kind : FieldKind → List ℕ
 name_of_kind k = k.name.text
 
-appended_map : {A B : Type 0} (f : A → B) (xs ys : List A) → map f (xs ++ ys) ≡ map f xs ++ map f ys
-appended_map f [] ys = refl
-appended_map f (x ∷ xs) ys = ap (λ r. f x ∷ r) (appended_map f xs ys)
-
 line_names : (tables : Tables) (s : Specifier) (all : List Declarator) → map name_of_kind (map (field_kind tables s) all) ≡ map name_text (map (λ (d : Declarator). d.name) all)
 line_names tables s [] = refl
 line_names tables s (first ∷ others) = ap (λ r. first.name.text ∷ r) (line_names tables s others)
@@ -127,22 +124,18 @@ line_names tables s (first ∷ others) = ap (λ r. first.name.text ∷ r) (line_
 kinds_names : (tables : Tables) (lines : List Fields) → map name_of_kind (field_kinds tables lines) ≡ map name_text (field_names lines)
 kinds_names tables [] = refl
 kinds_names tables (line ∷ lines) =
-    appended_map name_of_kind (map (field_kind tables line.specifier) (line.first ∷ line.others)) (field_kinds tables lines)
+    map-append name_of_kind (map (field_kind tables line.specifier) (line.first ∷ line.others)) (field_kinds tables lines)
     ∙ ap (λ xs. xs ++ map name_of_kind (field_kinds tables lines)) (line_names tables line.specifier (line.first ∷ line.others))
     ∙ ap (λ ys. map name_text (map (λ (d : Declarator). d.name) (line.first ∷ line.others)) ++ ys) (kinds_names tables lines)
-    ∙ sym (appended_map name_text (map (λ (d : Declarator). d.name) (line.first ∷ line.others)) (field_names lines))
-
-map_length : {A B : Type 0} (f : A → B) (xs : List A) → length (map f xs) ≡ length xs
-map_length f [] = refl
-map_length f (x ∷ xs) = ap suc (map_length f xs)
+    ∙ sym (map-append name_text (map (λ (d : Declarator). d.name) (line.first ∷ line.others)) (field_names lines))
 
 def_names : (kinds : List FieldKind) → map (λ (f : Field). f.name) (map field_def kinds) ≡ map name_of_kind kinds
 def_names [] = refl
 def_names (k ∷ ks) = ap (λ r. k.name.text ∷ r) (def_names ks)
 
-kinds_length : (tables : Tables) (lines : List Fields) → length (field_kinds tables lines) ≡ length (field_names lines)
-kinds_length tables lines =
-    sym (map_length name_of_kind (field_kinds tables lines)) ∙ ap length (kinds_names tables lines) ∙ map_length name_text (field_names lines)
+fields_length : (tables : Tables) (lines : List Fields) → length (field_kinds tables lines) ≡ length (field_names lines)
+fields_length tables lines =
+    sym (length-map (field_kinds tables lines) name_of_kind) ∙ ap length (kinds_names tables lines) ∙ length-map (field_names lines) name_text
 
 pub place_there : (all : List FieldKind) (n : List ℕ) → IfSome (field_in all n) (λ f. place_in all n < length all)
 place_there [] n = tt
@@ -176,9 +169,9 @@ struct_good : (tables : Tables) → HasTags tables → (s : Structure) → IsFin
 struct_good tables tags s h =
     let kinds = field_kinds tables s.lines in
     let names : AllByRecursion IsCName (map name_of_kind kinds) = subst (AllByRecursion IsCName) (sym (kinds_names tables s.lines)) (map_of_all IsCName name_text (field_names s.lines) h.names) in
-    let count = kinds_length tables s.lines in
+    let count = fields_length tables s.lines in
     let few = leb-true _ _ h.few in
-    let def_count = map_length field_def kinds in
+    let def_count = length-map kinds field_def in
     record {
       name = h.tag;
       fields = omega arith;
@@ -290,7 +283,7 @@ fields_there tables tag n =
     by_field : (s : Structure) (found : Option FieldKind) → IfSome found (λ f. place_in (field_kinds tables s.lines) n < length (field_kinds tables s.lines))
         → IfSome found (λ f. place_in (field_kinds tables s.lines) n < length (struct_def tables s).fields)
     by_field s None h = tt
-    by_field s (Some f) h = let count = map_length field_def (field_kinds tables s.lines) in omega arith
+    by_field s (Some f) h = let count = length-map (field_kinds tables s.lines) field_def in omega arith
 
     by_structure : (found : Option Structure)
         → IfSome (field_by tables found n) (λ f. IsSomeAnd (option_map (struct_def tables) found) (λ def. place_by tables found n < length def.fields))
