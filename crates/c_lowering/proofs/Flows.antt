@@ -188,7 +188,7 @@ body_good structs tables fits sound head body place h =
 
 -- within the limits
 pub record IsSmall (tables : Tables) (own : Head) (all : Stmts) (l : Lowered) : Type 0 where
-  pub nodes : l.code.size ≤ 512
+  pub nodes : length (l.code.nodes 0 (onto 0)) ≤ 512
   pub locals : length (listed own.params) + length (stmts_kinds tables all) ≤ 32
   pub temps : length l.behind.temps ≤ 16
   pub params : length (listed own.params) ≤ 8
@@ -196,7 +196,7 @@ pub record IsSmall (tables : Tables) (own : Head) (all : Stmts) (l : Lowered) : 
 is_small : (tables : Tables) (own : Head) (all : Stmts) (l : Lowered) → size_refusals tables own all l ≡ [] → IsSmall tables own all l
 is_small tables own all l e = record {
   nodes = leb-true _ _ (holds _ _ _ (nil_left _ _ (nil_left _ _ (nil_left _ _ e))));
-  locals = leb-true _ _ (holds _ _ _ (nil_right (unless (nat_le l.code.size MOST_NODES) (place_of_head own) 131) _ (nil_left _ _ (nil_left _ _ e))));
+  locals = leb-true _ _ (holds _ _ _ (nil_right (unless (nat_le (length (l.code.nodes 0 (onto 0))) MOST_NODES) (place_of_head own) 131) _ (nil_left _ _ (nil_left _ _ e))));
   temps = leb-true _ _ (holds _ _ _ (nil_right _ _ (nil_left _ _ e)));
   params = leb-true _ _ (holds _ _ _ (nil_right _ _ e));
 }

@@ -135,7 +135,7 @@ FIELDS = 134
 -- a procedure, whose parameters count as locals
 abbrev pub size_refusals : Tables → Head → Stmts → Lowered → List Refusal
 size_refusals tables head body l =
-    unless (nat_le l.code.size MOST_NODES) (place_of_head head) NODES
+    unless (nat_le (length (l.code.nodes 0 (onto 0))) MOST_NODES) (place_of_head head) NODES
     ++ unless (nat_le (length (listed head.params) + length (stmts_kinds tables body)) MOST_LOCALS) (place_of_head head) SLOTS
     ++ unless (nat_le (length l.behind.temps) MOST_TEMPORARIES) (place_of_head head) SLOTS
     ++ unless (nat_le (length (listed head.params)) MOST_PARAMETERS) (place_of_head head) PARAMETERS
