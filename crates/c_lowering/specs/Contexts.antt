@@ -1,5 +1,5 @@
 -- Where in a procedure a piece of text stands: what its names mean, and which slots and line its nodes get.
-use Rattle.std.specs.Prelude.{ℕ, suc, ◌-◌, Option, Some, None, List, [], ◌∷◌, map, if◌then◌else◌}
+use Rattle.std.specs.Prelude.{ℕ, suc, ◌-◌, Option, Some, None, List, [], ◌∷◌, map, codes, if◌then◌else◌}
 use Rattle.std.specs.Str.{bytes_eq}
 use Rattle.shape_data.specs.declared.program.Ty.{Ty}
 use Rattle.shape_data.specs.declared.program.Ty.TheVariants.{Ptr}
@@ -50,10 +50,10 @@ at_place c place = record c { line = place.line - c.first_line }
 abbrev pub within_scope : Context → Context
 within_scope c = record c { env = entered c.env }
 
--- the structure that a pointer points to; that it is no pointer never comes where nothing is refused
+-- the structure that a pointer points to; that it is no pointer never comes where nothing is refused, and any name stands there
 abbrev pub tag_of : Ty → List ℕ
 tag_of (Ptr tag) = tag
-tag_of _ = []
+tag_of _ = codes "_"
 
 abbrev pub place_in : List FieldKind → List ℕ → ℕ
 place_in [] n = 0

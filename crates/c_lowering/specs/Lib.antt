@@ -5,6 +5,7 @@ pub mod Values
 pub mod Expressions
 pub mod Statements
 pub mod Texts
+pub mod Numbers
 pub mod Marks
 pub mod Programs
 pub mod Examples
