@@ -96,7 +96,8 @@ impl<'a> Env<'a> {
 
     /// With one more variable in the innermost scope.
     pub fn add(&mut self, name: &'a Name, kind: Kind<'a>) -> Result<(), AllocError>
-        ensures { OnOk result (self.new ≡ with_variable self.old name.now (kind_seen kind.entry)) }
+        ensures variable { OnOk result (self.new ≡ with_variable self.old name.now (kind_seen kind.entry)) }
+        ensures tables { self.new.tables ≡ self.old.tables }
     {
         self.variables.push(Variable { name, kind })?;
         Ok(())

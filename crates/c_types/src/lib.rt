@@ -3,7 +3,7 @@
 
 mod checker;
 mod defs;
-mod fields;
+pub mod fields;
 mod heads;
 mod items;
 pub mod laws;
