@@ -1,0 +1,7 @@
+mod Pieces
+mod SizedExprs
+mod SizedSimples
+mod SizedBodies
+mod DeclaredLocals
+mod Adding
+mod Operands
