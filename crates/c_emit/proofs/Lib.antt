@@ -1,0 +1,5 @@
+mod Temps
+mod Inserting
+pub mod Leading
+pub mod Joining
+pub mod Using
