@@ -1,0 +1,8 @@
+mod Stacking
+mod Beginning
+mod Loading
+mod Operating
+mod Weights
+mod Arguing
+mod Chaining
+mod Trees
