@@ -1,0 +1,7 @@
+mod AtHand
+mod KindsOfTargets
+mod Zeroing
+mod Walking
+mod Trees
+mod Locals
+mod Within

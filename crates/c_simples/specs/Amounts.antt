@@ -1,0 +1,19 @@
+-- What a statement adds, subtracts or multiplies by.
+use Rattle.std.specs.Prelude.{pos}
+use Rattle.shape_data.specs.declared.program.Operand.TheVariants.{Num}
+use Rattle.shape_data.specs.declared.program.Ty.TheVariants.{Int}
+use Rattle.c_tree.specs.Syntax.{expr_tree}
+use Rattle.c_lowering.specs.Contexts.{Context}
+use Rattle.c_lowering.specs.Values.{Lowering, at_hand}
+use Rattle.c_lowering.specs.Expressions.{lowering}
+use Rattle.c_lowering.specs.Numbers.{HasIntNumbers}
+use Rattle.c_simples.specs.declared.updating.Amount.{Amount}
+use Rattle.c_simples.specs.declared.updating.Amount.TheVariants.{One, Of}
+
+abbrev pub amount : Context → Amount → Lowering
+amount c One = at_hand c Int (Num (pos 1))
+amount c (Of value) = lowering c (expr_tree value.now)
+
+abbrev pub AmountHasIntNumbers : Amount → Type 0
+AmountHasIntNumbers One = Unit {0}
+AmountHasIntNumbers (Of value) = HasIntNumbers (expr_tree value.now)

@@ -1,0 +1,4 @@
+pub mod Simples
+pub mod Targets
+pub mod Amounts
+pub mod Declaring
