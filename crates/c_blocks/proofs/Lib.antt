@@ -1,0 +1,7 @@
+mod Releasing
+mod Repeating
+mod Branching
+mod Rounds
+mod Rows
+mod Scopes
+mod Trees
