@@ -1,0 +1,6 @@
+mod Appending
+mod Adding
+mod SamePlace
+mod Fitting
+mod Files
+mod FewFields

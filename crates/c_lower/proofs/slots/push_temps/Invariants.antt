@@ -1,0 +1,6 @@
+use Rattle.std.proofs.Common.{◌≡◌, ◌++◌, map, drop}
+use Rattle.c_scopes.specs.Seen.{type_seen}
+use Rattle.c_lower.proofs.slots.push_temps.Given as goal
+
+abbrev pub invariant-loop-temp : goal.invariant-loop-temp
+invariant-loop-temp l = l.slots ++ map type_seen (drop l.temp-index l.temps) ≡ l.initial.slots ++ map type_seen l.temps

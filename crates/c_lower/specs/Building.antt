@@ -1,0 +1,44 @@
+-- What was found in a program so far, and more.
+use Rattle.std.specs.Prelude.{◌≡◌, ℕ, None, List, [], ◌++◌}
+use Rattle.shape_data.specs.declared.program.Proc.{Proc}
+use Rattle.c_tokens.specs.declared.places.Refusal.{Refusal}
+use Rattle.c_grammar.specs.Trees.{Item, File}
+use Rattle.c_typing.specs.Tables.{Tables}
+use Rattle.c_lowering.specs.Programs.{item_refusals, items_refusals, item_procs, items_procs, files_refusals, files_procs}
+use Rattle.c_scopes.specs.Lowered.{lowered}
+use Rattle.c_types.specs.Firsts.{first_with}
+use Rattle.c_lower.specs.declared.building.Building.{Building}
+
+-- what is too large in a part of a program, and its procedures
+pub record Part : Type 0 where
+  pub refusals : List Refusal
+  pub procs : List Proc
+
+abbrev pub no_part : Part
+no_part = record { refusals = []; procs = [] }
+
+infixr 30 ◌⊹◌
+abbrev pub ◌⊹◌ : Part → Part → Part
+one ⊹ other = record { refusals = one.refusals ++ other.refusals; procs = one.procs ++ other.procs }
+
+abbrev pub item_part : Tables → List ℕ → Item → Part
+item_part tables file one = record { refusals = item_refusals tables one; procs = item_procs tables file one }
+
+abbrev pub items_part : Tables → List ℕ → List Item → Part
+items_part tables file items = record { refusals = items_refusals tables items; procs = items_procs tables file items }
+
+-- what was found before, with what is found in a part: what is too large, and where nothing is the procedures
+pub record Adds (part : Part) (before after : Building) : Type 0 where
+  pub first : after.first ≡ lowered before.first part.refusals
+  pub procs : part.refusals ≡ [] → after.procs ≡ before.procs ++ part.procs
+
+-- with what is left to be found, all is found
+pub record AddsUpTo (left all : Part) (before now : Building) : Type 0 where
+  pub whole : (after : Building) → Adds left now after → Adds all before after
+
+-- with what is left to be found in files, from one on, all is found
+pub record IsBuiltUpTo (tables : Tables) (files : List File) (names : List (List ℕ)) (left : List File) (left_names : List (List ℕ)) (unit : ℕ)
+    (now : Building) : Type 0 where
+  pub refusal : first_with now.first.found (files_refusals tables unit left) ≡ first_with None (files_refusals tables 0 files)
+  pub none : files_refusals tables 0 files ≡ [] → files_refusals tables unit left ≡ []
+  pub procs : files_refusals tables 0 files ≡ [] → now.procs ++ files_procs tables left_names left ≡ files_procs tables names files

@@ -1,0 +1,3 @@
+pub mod Sized
+pub mod Building
+pub mod Lowering

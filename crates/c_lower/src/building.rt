@@ -1,0 +1,12 @@
+//! What is found in a program so far.
+use c_scopes::first::First;
+use shape_data::Row;
+use shape_data::program::Proc;
+
+/// What is found in a program so far: what is too large and comes first, and the procedures, of which those that are too large may be
+/// left out.
+#[derive(Drop)]
+pub struct Building {
+    pub first: First,
+    pub procs: Row<Proc>,
+}

@@ -1,0 +1,37 @@
+//! The fields of structures are counted (C11 6.7.2.1).
+ghost use Rattle.std.specs.Prelude.{◌≡◌, nat_le, length, map};
+ghost use Rattle.c_typing.specs.Items.{field_names};
+ghost use Rattle.c_lowering.specs.Programs.{MOST_FIELDS, fields_refusals};
+ghost use Rattle.c_tree.specs.Syntax.{fields_tree};
+ghost use Rattle.c_scopes.specs.Lowered.{lowered};
+
+use c_scopes::first::First;
+use c_tree::{FieldDecl, Place};
+
+/// Most fields of a structure.
+const MOST_FIELDS: usize = 16;
+
+/// A structure with more fields than that.
+const FIELDS: u16 = 134;
+
+/// Whether there are no more than so many fields.
+fn are_few(lines: &[FieldDecl]) -> bool
+    ensures { result ≡ nat_le (length (field_names (map fields_tree lines.now))) MOST_FIELDS }
+{
+    let mut left = MOST_FIELDS;
+    for line in lines {
+        let others = line.others.len();
+        if left <= others {
+            return false;
+        }
+        left -= others + 1;
+    }
+    true
+}
+
+/// Refuses a structure with too many fields.
+pub fn fields_refusals(place: Place, lines: &[FieldDecl], first: &mut First)
+    ensures { first.new ≡ lowered first.old (fields_refusals place (map fields_tree lines.now)) }
+{
+    first.unless(are_few(lines), place, FIELDS);
+}

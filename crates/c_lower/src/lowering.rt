@@ -1,0 +1,96 @@
+//! The lowering of a program.
+ghost use Rattle.std.specs.Prelude.{◌≡◌, ◌<◌, [], IfOk, IfErr, None, All, length, map};
+ghost use Rattle.c_tree.specs.Syntax.{unit_tree};
+ghost use Rattle.c_typing.specs.Programs as typing;
+ghost use Rattle.c_types.specs.Typing.{files_of};
+ghost use Rattle.c_lowering.specs.Numbers.{FileHasIntNumbers};
+ghost use Rattle.c_texts.specs.Fields.{HasFewFields};
+ghost use Rattle.c_lowering.specs.Programs.{files_refusals, files_procs, first_too_large, program_of};
+ghost use Rattle.c_lower.specs.Lowering.{IsLowerFault};
+
+use crate::building::Building;
+use crate::fault::LowerFault;
+use crate::items::items;
+use c_scopes::first::First;
+use c_scopes::tables::Tables;
+use c_tree::{Name, Unit};
+use c_types::Typed;
+use c_typing::laws::first_refusal;
+use c_values::context::Context;
+use shape_data::program::Program;
+use shape_data::{Row, copy_of};
+use std::alloc::{AllocError, Global};
+
+/// What the files declare.
+fn declared<'a>(alloc: Global, units: &'a [Unit]) -> Result<Tables<'a>, AllocError>
+    ensures { IfOk result (λ tables. tables ≡ typing.tables_of (files_of units.now)) }
+{
+    let mut tables = Tables::new(alloc);
+    for unit in units {
+        tables.declare_all(unit.items.as_slice())?;
+    }
+    Ok(tables)
+}
+
+/// What is too large in the files, and the procedures where nothing is.
+fn build<'a>(
+    alloc: Global,
+    context: &mut Context<'a>,
+    units: &'a [Unit],
+    files: &[Name],
+) -> Result<Building, AllocError>
+    requires names { length files.now ≡ length units.now }
+    requires countable { length units.now < 4294967296 }
+    requires numbers { All FileHasIntNumbers (files_of units.now) }
+    ensures refusal { IfOk result (λ built. built.first.found ≡ typing.first_of (files_refusals context.old.env.tables 0 (files_of units.now))) }
+    ensures procs { IfOk result (λ built. files_refusals context.old.env.tables 0 (files_of units.now) ≡ [] → built.procs ≡ files_procs context.old.env.tables files.now (files_of units.now)) }
+{
+    let mut built = Building {
+        first: First {
+            unit: 0,
+            found: None,
+        },
+        procs: Row::new(alloc),
+    };
+    for (place, unit) in units.iter().enumerate() {
+        built.first.unit = place as u32;
+        items(
+            alloc,
+            context,
+            &files[place],
+            unit.items.as_slice(),
+            &mut built,
+        )?;
+    }
+    Ok(built)
+}
+
+/// Lowers a program that keeps the typing rules. `files` are the names of its files, one for each unit, in their order; the program has
+/// the structures in the order of their first definitions (C11 6.7.2.1), and the procedures in the order of their definitions (C11
+/// 6.9.1), file by file. Expressions are lowered as C11 6.5 says, operands from the left; statements as 6.8 says.
+///
+/// # Errors
+///
+/// The first refusal of what is too large, by file, line, column and code: `unit` counts the files from 0. And want of memory.
+pub fn lower(alloc: Global, typed: &Typed, files: &[Name]) -> Result<Program, LowerFault>
+    requires names { length files.now ≡ length typed.now.units }
+    requires countable { length typed.now.units < 4294967296 }
+    requires numbers { All FileHasIntNumbers (files_of typed.now.units) }
+    requires fields { All HasFewFields (files_of typed.now.units) }
+    ensures program { IfOk result (λ program. program ≡ program_of files.now (files_of typed.now.units)) }
+    ensures small { IfOk result (λ _. first_too_large (files_of typed.now.units) ≡ None) }
+    ensures fault { IfErr result (λ fault. IsLowerFault (files_of typed.now.units) fault) }
+{
+    first_refusal();
+    let units = typed.units.as_slice();
+    let mut context = Context::new(alloc, declared(alloc, units)?);
+    let built = build(alloc, &mut context, units, files)?;
+    let Building { first, procs } = built;
+    match first.found {
+        Some(at) => Err(LowerFault::Refused(at)),
+        None => Ok(Program {
+            structs: copy_of(&typed.structs)?,
+            procs,
+        }),
+    }
+}

@@ -1,0 +1,66 @@
+//! Which procedures are too large.
+ghost use Rattle.std.specs.Prelude.{◌≡◌, ◌<◌, ◌≤◌, length};
+ghost use Rattle.c_typing.specs.Items.{listed};
+ghost use Rattle.c_tree.specs.Syntax.{params_tree};
+ghost use Rattle.c_scopes.specs.Lowered.{lowered};
+ghost use Rattle.c_lower.specs.Sized.{refusals_of, all_fit};
+
+use c_scopes::first::First;
+use c_tree::{Params, Place};
+
+/// Most nodes of a procedure.
+pub const MOST_NODES: u32 = 512;
+
+/// A procedure with more nodes than that.
+pub const NODES: u16 = 131;
+
+/// A procedure with too many slots.
+const SLOTS: u16 = 132;
+
+/// A procedure with too many parameters.
+const PARAMETERS: u16 = 133;
+
+/// How many nodes, parameters, other locals and temporaries a procedure has.
+#[derive(Clone, Copy)]
+pub struct Sizes {
+    pub nodes: usize,
+    pub params: u32,
+    pub locals: u32,
+    pub temps: usize,
+}
+
+/// How many parameters there are.
+pub fn param_count(params: &Params) -> u32
+    requires { length (listed (params_tree params.now)) < 2147483648 }
+    ensures { result ≡ length (listed (params_tree params.now)) }
+{
+    match params {
+        Params::Empty => 0,
+        Params::Void(_) => 0,
+        Params::Listed(_, others) => others.len() as u32 + 1,
+    }
+}
+
+impl Sizes {
+    /// Whether none is too large.
+    pub fn fit(self) -> bool
+        requires params { self.params < 2147483648 }
+        requires locals { self.locals ≤ 512 }
+        ensures { result ≡ all_fit self }
+    {
+        self.nodes <= 512 && self.params + self.locals <= 32 && self.temps <= 16 && self.params <= 8
+    }
+
+    /// Refuses each that is too large.
+    #[tactic(auto, using(c_scopes::proofs::Lowering::lowering))]
+    pub fn refuse(self, place: Place, first: &mut First)
+        requires params { self.params < 2147483648 }
+        requires locals { self.locals ≤ 512 }
+        ensures { first.new ≡ lowered first.old (refusals_of self place) }
+    {
+        first.unless(self.nodes <= 512, place, NODES);
+        first.unless(self.params + self.locals <= 32, place, SLOTS);
+        first.unless(self.temps <= 16, place, SLOTS);
+        first.unless(self.params <= 8, place, PARAMETERS);
+    }
+}

@@ -1,0 +1,132 @@
+//! The slots of a procedure: its parameters, its locals and its temporaries.
+ghost use Rattle.std.specs.Prelude.{◌≡◌, ◌++◌, ◌∷◌, [], IfOk, OnOk, map};
+ghost use Rattle.c_grammar.specs.Trees.{Param as ParamTree};
+ghost use Rattle.c_typing.specs.Tables.{param_kind};
+ghost use Rattle.c_typing.specs.Items.{listed, with_name, param_names};
+ghost use Rattle.c_typing.specs.Programs.{known};
+ghost use Rattle.c_lowering.specs.Statements.{stmts_kinds};
+ghost use Rattle.c_lowering.specs.Programs.{name_text, param_types};
+ghost use Rattle.c_tree.specs.Syntax.{param_tree, params_tree, head_tree, block_tree};
+ghost use Rattle.c_scopes.specs.Seen.{type_seen};
+
+use crate::locals::{known, push_block, type_of};
+use c_scopes::kinds::CType;
+use c_scopes::objects::param_kind;
+use c_scopes::tables::Tables;
+use c_tree::{Block, Head, Name, Param, Params};
+use shape_data::program::Ty;
+use shape_data::{Row, copy_of};
+use std::alloc::{AllocError, Global};
+
+/// The type of one more parameter.
+fn push_param<'a>(
+    tables: &Tables<'a>,
+    param: &'a Param,
+    slots: &mut Row<Ty>,
+) -> Result<(), AllocError>
+    ensures { OnOk result (slots.new ≡ slots.old ++ known (param_kind tables.now (param_tree param.now)) ∷ []) }
+{
+    slots.push(known(param_kind(tables, param))?)
+}
+
+/// The types of parameters behind the first.
+#[tactic(auto, using(crate::proofs::Appending::appending))]
+fn push_more_params<'a>(
+    tables: &Tables<'a>,
+    params: &'a [Param],
+    slots: &mut Row<Ty>,
+) -> Result<(), AllocError>
+    ensures { OnOk result (slots.new ≡ slots.old ++ map (λ (p : ParamTree). known (param_kind tables.now p)) (map param_tree params.now)) }
+{
+    for param in params {
+        push_param(tables, param, slots)?;
+    }
+    Ok(())
+}
+
+/// The types of a procedure's parameters.
+#[tactic(auto, using(crate::proofs::Appending::appending))]
+fn push_params<'a>(
+    tables: &Tables<'a>,
+    params: &'a Params,
+    slots: &mut Row<Ty>,
+) -> Result<(), AllocError>
+    ensures { OnOk result (slots.new ≡ slots.old ++ map (λ (p : ParamTree). known (param_kind tables.now p)) (listed (params_tree params.now))) }
+{
+    match params {
+        Params::Empty => Ok(()),
+        Params::Void(_) => Ok(()),
+        Params::Listed(first, others) => {
+            push_param(tables, first, slots)?;
+            push_more_params(tables, others.as_slice(), slots)
+        }
+    }
+}
+
+/// The types of temporaries.
+#[tactic(auto, using(crate::proofs::Appending::appending))]
+fn push_temps(temps: &[CType], slots: &mut Row<Ty>) -> Result<(), AllocError>
+    ensures { OnOk result (slots.new ≡ slots.old ++ map type_seen temps.now) }
+{
+    for temp in temps {
+        slots.push(type_of(*temp)?)?;
+    }
+    Ok(())
+}
+
+/// The types of a procedure's slots.
+#[tactic(auto, using(crate::proofs::Appending::appending))]
+pub fn slot_types<'a>(
+    alloc: Global,
+    tables: &Tables<'a>,
+    head: &'a Head,
+    block: &'a Block,
+    temps: &[CType],
+) -> Result<Row<Ty>, AllocError>
+    ensures { IfOk result (λ slots. slots ≡ param_types tables.now (head_tree head.now) ++ stmts_kinds tables.now (block_tree block.now).body ++ map type_seen temps.now) }
+{
+    let mut slots = Row::new(alloc);
+    push_params(tables, &head.params, &mut slots)?;
+    push_block(tables, block, &mut slots)?;
+    push_temps(temps, &mut slots)?;
+    Ok(slots)
+}
+
+/// The name of the parameter, if it has one.
+#[tactic(auto, using(crate::proofs::Appending::appending))]
+fn push_name(param: &Param, names: &mut Row<Name>) -> Result<(), AllocError>
+    ensures { OnOk result (names.new ≡ names.old ++ map name_text (with_name (param_tree param.now).name [])) }
+{
+    match &param.name {
+        None => Ok(()),
+        Some(name) => names.push(copy_of(&name.text)?),
+    }
+}
+
+/// The names of parameters that have one, behind the first.
+#[tactic(auto, using(crate::proofs::Appending::naming))]
+fn push_more_names(params: &[Param], names: &mut Row<Name>) -> Result<(), AllocError>
+    ensures { OnOk result (names.new ≡ names.old ++ map name_text (param_names (map param_tree params.now))) }
+{
+    for param in params {
+        push_name(param, names)?;
+    }
+    Ok(())
+}
+
+/// The names of a procedure's parameters that have one.
+#[tactic(auto, using(crate::proofs::Appending::naming))]
+pub fn name_texts(alloc: Global, params: &Params) -> Result<Row<Name>, AllocError>
+    ensures { IfOk result (λ names. names ≡ map name_text (param_names (listed (params_tree params.now)))) }
+{
+    let mut names = Row::new(alloc);
+    match params {
+        Params::Empty => {}
+        Params::Void(_) => {}
+        Params::Listed(first, others) => {
+            push_name(first, &mut names)?;
+            push_more_names(others.as_slice(), &mut names)?;
+        }
+    }
+    Ok(names)
+}
