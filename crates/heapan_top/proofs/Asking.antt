@@ -1,46 +1,82 @@
--- A stream asks for one thing at most, and a long one for nothing.
-use Rattle.std.proofs.Common.{◌≡◌, ℕ, ◌<◌, ◌≤◌, List, ◌∷◌, ◌++◌, length, length-append, refl, sym, ap, ◌∙◌, arith, inl, inr}
-use Rattle.std.specs.Prelude.{Some}
+-- A stream asks for one thing, and a long one for nothing.
+use Rattle.std.proofs.Common.{◌≡◌, ℕ, ◌<◌, ◌≤◌, Bool, true, false, List, ◌∷◌, ◌++◌, length, length-append, refl, sym, ap, ◌∙◌, subst, arith, inl, inr, ◌⊎◌}
 use Rattle.std.specs.Fmt.{decimal}
 use Rattle.std.proofs.lemmas.Fmt.{length-decimal-le}
-use Rattle.shape_data.specs.declared.program.Cmd.TheVariants as cmd
-use Rattle.shape_data.specs.declared.program.Node.{Node}
-use Rattle.shape_data.specs.declared.program.Operand.{Operand}
-use Rattle.shape_data.specs.declared.program.Proc.{Proc}
-use Rattle.c_syntax.proofs.OneReading.{one_procedure}
+use Rattle.shape_data.specs.declared.program.Program.{Program}
+use Rattle.heapan_top.specs.declared.programs.Refused.{Refused}
 use Rattle.heapan_top.specs.Parts.{IsEnding}
-use Rattle.heapan_top.specs.Replies.{Asked, Asks, FirstReturns, Nothing, One, Other}
+use Rattle.heapan_top.specs.Programs.{IsRefused, IsProgramOf}
+use Rattle.heapan_top.specs.Replies.{Asked, Asks, Nothing, NoProgram, NotYet, Report, all_return}
 use Rattle.heapan_top.specs.Request.{IsRequest}
+use Rattle.heapan_top.proofs.OneProgram.{one_refused, one_program, program_or_refused, refused_or_program}
 use Rattle.heapan_top.proofs.RequestLemmas.{request-IsPut, request_once}
 
--- what a procedure returns first of all is one operand
-pub first_once : (proc : Proc) (value other : Operand) → FirstReturns proc value → FirstReturns proc other → value ≡ other
-first_once proc value other first second =
-    let nodes : Some first.node ≡ Some second.node = sym first.is_first ∙ second.is_first in
-    let same : first.node ≡ second.node = cc in
-    let commands : cmd.Return value ≡ cmd.Return other = sym first.is_return ∙ ap (λ (node : Node). node.cmd) same ∙ second.is_return in
-    cc
+-- what a report on a text of this name is
+data Means (name text : List ℕ) : Asked → Type 0 where
+  no_program : (refused : Refused) → IsRefused name text refused → Means name text (NoProgram name refused)
+  not_yet : (program : Program) → IsProgramOf name text program → all_return program ≡ false → Means name text (NotYet name)
+  report : (program : Program) → IsProgramOf name text program → all_return program ≡ true → Means name text (Report program)
 
-pub asked_once : (stream : List ℕ) (one other : Asked) → Asks stream one → Asks stream other → one ≡ other
-asked_once stream Nothing Nothing never never' = refl
-asked_once stream Nothing (Other name) never (file, is, no_unit) = absurd (never name file is)
-asked_once stream Nothing (One proc value) never (name, file, is, spells, first) = absurd (never name file is)
-asked_once stream (Other name) Nothing (file, is, no_unit) never = absurd (never name file is)
-asked_once stream (Other name) (Other name') (file, is, no_unit) (file', is', no_unit') =
-    ap Other (request_once stream name file name' file' is is').0
-asked_once stream (Other name) (One proc value) (file, is, no_unit) (name', file', is', spells, first) =
-    let same = request_once stream name file name' file' is is' in
-    absurd (no_unit proc (rw (same.0, same.1) spells))
-asked_once stream (One proc value) Nothing (name, file, is, spells, first) never = absurd (never name file is)
-asked_once stream (One proc value) (Other name') (name, file, is, spells, first) (file', is', no_unit) =
-    let same = request_once stream name' file' name file is' is in
-    absurd (no_unit proc (rw (same.0, same.1) spells))
-asked_once stream (One proc value) (One proc' value') (name, file, is, spells, first) (name', file', is', spells', first') =
-    let same = request_once stream name file name' file' is is' in
-    let one : proc ≡ proc' = one_procedure name file proc proc' spells (rw (same.0, same.1) spells') in
-    let first_is : FirstReturns proc value' = rw one first' in
-    let value_is = first_once proc value value' first first_is in
-    cc
+-- a program is analysed or not
+analysed_or_not : (name text : List ℕ) (one other : Program) → IsProgramOf name text one → IsProgramOf name text other → all_return one ≡ true → all_return other ≡ false → ⊥
+analysed_or_not name text one other p q returns not =
+    let same : true ≡ false = sym returns ∙ ap all_return (one_program name text one other p q) ∙ not in cc
+
+means_one : (name text : List ℕ) (one other : Asked) → Means name text one → Means name text other → one ≡ other
+means_one name text _ _ (no_program refused r) (no_program refused' r') = ap (NoProgram name) (one_refused name text refused refused' r r')
+means_one name text _ _ (no_program refused r) (not_yet program p later) = absurd (program_or_refused name text program refused p r)
+means_one name text _ _ (no_program refused r) (report program p all) = absurd (program_or_refused name text program refused p r)
+means_one name text _ _ (not_yet program p later) (no_program refused r) = absurd (program_or_refused name text program refused p r)
+means_one name text _ _ (not_yet program p later) (not_yet program' p' later') = refl
+means_one name text _ _ (not_yet program p later) (report program' p' all) = absurd (analysed_or_not name text program' program p' p all later)
+means_one name text _ _ (report program p all) (no_program refused r) = absurd (program_or_refused name text program refused p r)
+means_one name text _ _ (report program p all) (not_yet program' p' later) = absurd (analysed_or_not name text program program' p p' all later)
+means_one name text _ _ (report program p all) (report program' p' all') = ap Report (one_program name text program program' p p')
+
+module _ (stream : List ℕ) where
+  asks_of : (name text : List ℕ) (asked : Asked) → IsRequest stream name text → Asks stream asked → Means name text asked
+  asks_of name text _ is (Asks.nothing never) = absurd (never name text is)
+  asks_of name text _ is (Asks.no_program name' text' refused is' r) = of_one (request_once stream name' text' name text is' is)
+    where
+      of_one : (name' ≡ name) × (text' ≡ text) → Means name text (NoProgram name' refused)
+      of_one (n, t) = subst (λ n. Means n text (NoProgram name' refused)) n (subst (λ t. Means name' t (NoProgram name' refused)) t (no_program refused r))
+  asks_of name text _ is (Asks.not_yet name' text' program is' p later) = of_one (request_once stream name' text' name text is' is)
+    where
+      of_one : (name' ≡ name) × (text' ≡ text) → Means name text (NotYet name')
+      of_one (n, t) = subst (λ n. Means n text (NotYet name')) n (subst (λ t. Means name' t (NotYet name')) t (not_yet program p later))
+  asks_of name text _ is (Asks.report name' text' program is' p all) = of_one (request_once stream name' text' name text is' is)
+    where
+      of_one : (name' ≡ name) × (text' ≡ text) → Means name text (Report program)
+      of_one (n, t) = subst (λ n. Means n text (Report program)) n (subst (λ t. Means name' t (Report program)) t (report program p all))
+
+  -- two things that one request asks for
+  asked_by_one : (name text : List ℕ) (one other : Asked) → IsRequest stream name text → Asks stream one → Asks stream other → one ≡ other
+  asked_by_one name text one other is a b = means_one name text one other (asks_of name text one is a) (asks_of name text other is b)
+
+  pub asked_once : (one other : Asked) → Asks stream one → Asks stream other → one ≡ other
+  asked_once _ _ (Asks.nothing never) (Asks.nothing never') = refl
+  asked_once _ _ (Asks.nothing never) (Asks.no_program name text refused is r) = absurd (never name text is)
+  asked_once _ _ (Asks.nothing never) (Asks.not_yet name text program is p later) = absurd (never name text is)
+  asked_once _ _ (Asks.nothing never) (Asks.report name text program is p all) = absurd (never name text is)
+  asked_once one other (Asks.no_program name text refused is r) b = asked_by_one name text _ other is (Asks.no_program name text refused is r) b
+  asked_once one other (Asks.not_yet name text program is p later) b = asked_by_one name text _ other is (Asks.not_yet name text program is p later) b
+  asked_once one other (Asks.report name text program is p all) b = asked_by_one name text _ other is (Asks.report name text program is p all) b
+
+  -- a request asks for something
+  request_asks : (name text : List ℕ) → IsRequest stream name text → (asked : Asked) × Asks stream asked
+  request_asks name text is = by_text (refused_or_program name text)
+    where
+      by_program : (program : Program) → IsProgramOf name text program → (b : Bool) → all_return program ≡ b → (asked : Asked) × Asks stream asked
+      by_program program p true e = (Report program, Asks.report name text program is p e)
+      by_program program p false e = (NotYet name, Asks.not_yet name text program is p e)
+
+      by_text : ((refused : Refused) × IsRefused name text refused) ⊎ ((program : Program) × IsProgramOf name text program) → (asked : Asked) × Asks stream asked
+      by_text (inl (refused, r)) = (NoProgram name refused, Asks.no_program name text refused is r)
+      by_text (inr (program, p)) = by_program program p (all_return program) refl
+
+  -- it cannot be that a stream asks for nothing at all
+  pub asked_some : ((asked : Asked) → Asks stream asked → ⊥) → ⊥
+  asked_some never = never Nothing (Asks.nothing (λ name text is. let (asked, asks) = request_asks name text is in never asked asks))
 
 -- a request has fewer bytes than are read at most
 request_short : (stream name file : List ℕ) → IsRequest stream name file → length stream < 1048800
@@ -60,4 +96,4 @@ request_short stream name file is =
 
 -- a longer stream asks for nothing
 pub long_asks : (stream : List ℕ) → 1048800 ≤ length stream → Asks stream Nothing
-long_asks stream long name file is = let short = request_short stream name file is in absurd (omega arith)
+long_asks stream long = Asks.nothing (λ name file is. let short = request_short stream name file is in absurd (omega arith))

@@ -1,5 +1,7 @@
 pub mod Appending
 pub mod Asking
+pub mod Counting
+pub mod OneProgram
 pub mod Printing
 pub mod Reporting
 pub mod RequestLemmas

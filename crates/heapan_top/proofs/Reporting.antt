@@ -1,47 +1,82 @@
--- From a request and the report on its file to the reply to the stream.
-use Rattle.std.proofs.Common.{◌≡◌, ℕ, List, refl}
-use Rattle.shape_data.specs.declared.program.Operand.{Operand}
-use Rattle.shape_data.specs.declared.program.Proc.{Proc}
-use Rattle.c_syntax.specs.Unit.{Spells}
+-- From what the front end answers to the program that a file is, and from a report to the reply to the stream.
+use Rattle.std.proofs.Common.{◌≡◌, ℕ, Bool, true, false, List, [], ◌∷◌, Option, Some, None, inl, inr, refl, sym, ap, ◌∙◌}
+use Rattle.std.specs.Prelude.{slice_get}
+use Rattle.std.specs.Option.{option_map, option_or}
+use Rattle.shape_data.specs.declared.program.Program.{Program}
+use Rattle.c_grammar.specs.Trees.{File}
+use Rattle.c_typing.specs.Programs.{IsWellTyped, first_of, first_refusal}
+use Rattle.c_units.specs.Units.{IsUnitOf}
+use Rattle.c_lowering.specs.Programs.{first_too_large}
+use Rattle.c_front.specs.declared.fault.FrontFault.{FrontFault}
+use Rattle.c_front.specs.declared.fault.FrontFault.TheVariants as front
+use Rattle.c_front.specs.Typing.{IsFrontFault}
+use Rattle.c_lower.specs.declared.fault.LowerFault.{LowerFault}
+use Rattle.c_lower.specs.declared.fault.LowerFault.TheVariants as lower
+use Rattle.c_lower.specs.Lowering.{IsLowerFault}
+use Rattle.heapan_top.specs.declared.programs.Refused.{Refused}
 use Rattle.heapan_top.specs.declared.status.Status.TheVariants as status
-use Rattle.heapan_top.specs.Parts.{IsReply, IsReplyOn, IsReportOn}
-use Rattle.heapan_top.specs.Replies.{Asked, FirstReturns, Nothing, One, Other, reply_to}
-use Rattle.heapan_top.specs.Request.{IsRequest}
-use Rattle.heapan_top.proofs.Printing.{unit_first}
+use Rattle.heapan_top.specs.Parts.{IsProgramFault, IsReply, IsReportOn, asked_by, reply_on, of_front, of_lowering}
+use Rattle.heapan_top.specs.Programs.{IsRefused, IsProgramOf, of_refusal, of_place, of_proc, program_in, refused_in, MOST_PROCEDURES}
+use Rattle.heapan_top.specs.Replies.{Asks, NoProgram, NotYet, Report, all_return, reply_to}
 
--- a procedure that a file spells returns something first of all
-pub spelled_first : (name file : List ℕ) (proc : Proc) → Spells name file proc → (value : Operand) × FirstReturns proc value
-spelled_first name file proc spells = (spells.is_unit.value, unit_first name spells.tokens proc spells.is_unit)
+-- PROGRAMS
 
-pub report-IsReplyOn : (name file text : List ℕ) (proc : Proc) (value : Operand) → Spells name file proc → FirstReturns proc value → text ≡ reply_to (One proc value) → IsReplyOn name file text
-report-IsReplyOn name file text proc value spells first is = record {
-  asked = One proc value;
-  is_report = (spells, first);
-  is_text = is;
-}
+-- which of three stands first
+abbrev of_three : {A : Type 0} → Option A → Option A → Option A → Option A
+of_three one other third = option_or one (option_or other third)
 
-pub refusal-IsReplyOn : (name file text : List ℕ) → ((proc : Proc) → Spells name file proc → ⊥) → text ≡ reply_to (Other name) → IsReplyOn name file text
-refusal-IsReplyOn name file text no_unit is = record {
-  asked = Other name;
-  is_report = (refl, no_unit);
-  is_text = is;
-}
+module _ (name text : List ℕ) where
+  pub front_fault : (fault : FrontFault) → IsFrontFault text fault → IsProgramFault name text (of_front fault)
+  front_fault (front.Refused refusal) (inl r) = inl (refusal, r, refl)
+  front_fault (front.Refused refusal) (inr r) =
+      let at : refused_in name r.file ≡ Some (of_place r.at) =
+      ap (λ o. of_three (option_map of_place o) (option_map of_place (first_too_large (r.file ∷ []))) (option_map of_proc (slice_get (program_in name r.file).procs MOST_PROCEDURES))) r.first in
+      inr (r.file, r.unit, at ∙ ap (λ x. Some (of_refusal x)) r.there)
+  front_fault front.OutOfMemory h = tt
 
--- the reply to a request is the reply to the stream
-pub request-IsReply : (stream name file text : List ℕ) → IsRequest stream name file → IsReplyOn name file text → IsReply stream text status.Done
-request-IsReply stream name file text is reply = with_asked reply.asked reply.is_report reply.is_text
-  where
-    with_asked : (asked : Asked) → IsReportOn name file asked → text ≡ reply_to asked → IsReply stream text status.Done
-    with_asked Nothing report same = absurd report
-    with_asked (Other other) (other_is, no_unit) same = record {
-      asked = Other other;
-      asks = (file, rw other_is is, rw other_is no_unit);
-      is_text = same;
-      is_end = refl;
+  module _ (file : File) (unit : IsUnitOf text file) (typed : IsWellTyped (file ∷ [])) where
+    -- nothing is refused for its types
+    typed_refused : refused_in name file ≡ option_or (option_map of_place (first_too_large (file ∷ []))) (option_map of_proc (slice_get (program_in name file).procs MOST_PROCEDURES))
+    typed_refused =
+        let none : first_refusal (file ∷ []) ≡ None = ap first_of typed in
+        ap (λ o. of_three (option_map of_place o) (option_map of_place (first_too_large (file ∷ []))) (option_map of_proc (slice_get (program_in name file).procs MOST_PROCEDURES))) none
+
+    pub lower_fault : (fault : LowerFault) → IsLowerFault (file ∷ []) fault → IsProgramFault name text (of_lowering fault)
+    lower_fault (lower.Refused at) first =
+        inr (file, unit, typed_refused ∙ ap (λ o. option_or (option_map of_place o) (option_map of_proc (slice_get (program_in name file).procs MOST_PROCEDURES))) first)
+    lower_fault lower.OutOfMemory h = tt
+
+    -- nothing is refused as too large
+    small_refused : first_too_large (file ∷ []) ≡ None → refused_in name file ≡ option_map of_proc (slice_get (program_in name file).procs MOST_PROCEDURES)
+    small_refused small = typed_refused ∙ ap (λ o. option_or (option_map of_place o) (option_map of_proc (slice_get (program_in name file).procs MOST_PROCEDURES))) small
+
+    pub too_many : (program : Program) (refused : Refused) → first_too_large (file ∷ []) ≡ None → program ≡ program_in name file
+        → Some refused ≡ option_map of_proc (slice_get program.procs MOST_PROCEDURES) → IsRefused name text refused
+    too_many program refused small is there =
+        inr (file, unit, small_refused small ∙ ap (λ (p : Program). option_map of_proc (slice_get p.procs MOST_PROCEDURES)) (sym is) ∙ sym there)
+
+    pub few_enough : (program : Program) → first_too_large (file ∷ []) ≡ None → program ≡ program_in name file
+        → None ≡ option_map of_proc (slice_get program.procs MOST_PROCEDURES) → IsProgramOf name text program
+    few_enough program small is there = record {
+      file = file;
+      unit = unit;
+      accepted = small_refused small ∙ ap (λ (p : Program). option_map of_proc (slice_get p.procs MOST_PROCEDURES)) (sym is) ∙ sym there;
+      means = is;
     }
-    with_asked (One proc value) (spells, first) same = record {
-      asked = One proc value;
-      asks = (name, file, is, spells, first);
-      is_text = same;
-      is_end = refl;
-    }
+
+  -- REPORTS
+
+  pub refusal-IsReportOn : (bytes : List ℕ) (refused : Refused) → IsRefused name text refused → bytes ≡ reply_to (NoProgram name refused) → IsReportOn name text bytes
+  refusal-IsReportOn bytes refused r same stream is = record {
+    asked = NoProgram name refused;
+    asks = Asks.no_program name text refused is r;
+    is_text = same;
+    is_end = refl;
+  }
+
+  pub program-IsReportOn : (bytes : List ℕ) (program : Program) → IsProgramOf name text program → bytes ≡ reply_on name program → IsReportOn name text bytes
+  program-IsReportOn bytes program p same stream is = by (all_return program) refl same
+    where
+      by : (b : Bool) → all_return program ≡ b → bytes ≡ reply_to (asked_by name program b) → IsReply stream bytes status.Done
+      by true all same = record { asked = Report program; asks = Asks.report name text program is p all; is_text = same; is_end = refl }
+      by false later same = record { asked = NotYet name; asks = Asks.not_yet name text program is p later; is_text = same; is_end = refl }

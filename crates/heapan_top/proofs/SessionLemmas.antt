@@ -4,17 +4,19 @@ use Rattle.std.specs.Prelude.{IfSome}
 use Rattle.io_ports.specs.Bytes.{before_left}
 use Rattle.heapan_top.specs.declared.status.Status.{Status}
 use Rattle.heapan_top.specs.declared.status.Status.TheVariants as status
-use Rattle.heapan_top.specs.Headline.{Answers, Appends, AppendsSome, BeginsReply}
+use Rattle.heapan_top.specs.Headline.{Answers, Appends, AppendsSome, AreRightWords, BeginsReply, Completes}
 use Rattle.heapan_top.specs.Parts.{Ends, IsReply, status_after}
-use Rattle.heapan_top.specs.Replies.{Asked, Asks, Nothing, One, Other, reply_to}
+use Rattle.heapan_top.specs.Replies.{Asked, Asks, Nothing, NoProgram, NotYet, Report, reply_to}
+use Rattle.heapan_top.specs.Request.{IsRequest}
 use Rattle.heapan_top.proofs.Asking.{asked_once, long_asks}
 
 module _ (old new : Option (List ℕ)) where
   -- all was written
   answers_all : (stream : List ℕ) (asked : Asked) → Asks stream asked → Appends old new (reply_to asked) → Answers stream old new (status_after asked)
   answers_all stream Nothing asks all = (asks, refl, refl, all)
-  answers_all stream (Other name) asks all = (Other name, asks, (λ same. cc), all)
-  answers_all stream (One proc value) asks all = (One proc value, asks, (λ same. cc), all)
+  answers_all stream (NoProgram name refused) asks all = (NoProgram name refused, asks, (λ same. cc), all)
+  answers_all stream (NotYet name) asks all = (NotYet name, asks, (λ same. cc), all)
+  answers_all stream (Report program) asks all = (Report program, asks, (λ same. cc), all)
 
   -- a front was written
   begins : (stream text : List ℕ) (planned : Status) → IsReply stream text planned → AppendsSome old new text → BeginsReply stream old new
@@ -63,3 +65,25 @@ done_is_short old new bytes status.Usage answers is size = answers
 done_is_short old new bytes status.ReadFault answers is size = cc
 done_is_short old new bytes status.WriteFault answers is size = cc
 done_is_short old new bytes status.NoMemory answers is size = cc
+
+-- what is no request is none
+nothing_never : (stream : List ℕ) → Asks stream Nothing → (name text : List ℕ) → IsRequest stream name text → ⊥
+nothing_never stream (Asks.nothing never) = never
+
+-- where nothing failed, right words are answered in full, unless memory wants
+completes : (old new : Option (List ℕ)) (words : List (List ℕ)) (stream : List ℕ) (ended : Status) → AreRightWords words → Answers stream old new ended
+    → (ended ≡ status.ReadFault → ⊥) → (ended ≡ status.WriteFault → ⊥) → Completes words stream ended
+completes old new words stream status.Done right (asked, asks, some, all) read write =
+    ((λ wrong. absurd (wrong right)), (λ _ nothing. absurd (some (asked_once stream asked Nothing asks nothing))), (λ _ name text is. inl refl))
+completes old new words stream (status.Refused command offset) right (asks, first, start, all) read write =
+    ((λ wrong. absurd (wrong right)), (λ _ nothing. inl (rw (first, start) refl)), (λ _ name text is. absurd (nothing_never stream asks name text is)))
+completes old new words stream status.Usage right answers read write = absurd answers
+completes old new words stream status.ReadFault right answers read write = absurd (read refl)
+completes old new words stream status.WriteFault right answers read write = absurd (write refl)
+completes old new words stream status.NoMemory right answers read write =
+    ((λ wrong. absurd (wrong right)), (λ _ nothing. inr refl), (λ _ name text is. inr refl))
+
+pub completes_left : (old new left : Option (List ℕ)) (words : List (List ℕ)) (ended : Status) → AreRightWords words → IfSome left (λ stream. Answers stream old new ended)
+    → (ended ≡ status.ReadFault → ⊥) → (ended ≡ status.WriteFault → ⊥) → IfSome left (λ stream. Completes words stream ended)
+completes_left old new None words ended right answers read write = tt
+completes_left old new (Some stream) words ended right answers read write = completes old new words stream ended right answers read write

@@ -1,15 +1,14 @@
 -- What the one call that does everything promises: which bytes are written, and which status comes when.
-use Rattle.std.specs.Prelude.{◌≡◌, ◌≢◌, ◌≤◌, ℕ, length, List, [], ◌∷◌, ◌⊎◌, codes, map, take}
+use Rattle.std.specs.Prelude.{◌≡◌, ◌≢◌, ◌≤◌, ℕ, length, List, [], ◌∷◌, ◌⊎◌, All, IfSome, codes, map, slice_get, take}
 use Rattle.std.specs.Borrow.{Bor}
 use Rattle.std.specs.declared.option.Option.{Option}
-use Rattle.shape_data.specs.declared.program.Operand.{Operand}
-use Rattle.shape_data.specs.declared.program.Proc.{Proc}
+use Rattle.shape_data.specs.declared.program.Program.{Program}
 use Rattle.shape_data.specs.Valid.{Valid}
 use Rattle.shape_data.specs.WellFormed.{IsProgram}
 use Rattle.io_ports.specs.Bytes.{after_held, before_left, IsNothingLeft}
 use Rattle.heapan_top.specs.declared.status.Status.{Status}
 use Rattle.heapan_top.specs.declared.status.Status.TheVariants as status
-use Rattle.heapan_top.specs.Replies.{Asked, Asks, Nothing, One, program_of, spec_of, reply_to}
+use Rattle.heapan_top.specs.Replies.{Asked, Asks, Nothing, Report, specs_of, reply_to}
 use Rattle.heapan_top.specs.Request.{IsRequest}
 use Rattle.heapan_top.specs.Text.{line_of}
 
@@ -66,13 +65,17 @@ abbrev pub Reads : Option (List ℕ) → Option (List ℕ) → Status → Type 0
 Reads old new ended =
     (bytes : List ℕ) × (old ≡ before_left bytes new) × (length bytes ≤ 1048800) × (IsAnswered ended → IsNothingLeft new ⊎ (length bytes ≡ 1048800))
 
--- what is spelled is a well-formed program, in which the summary that is printed of its procedure is valid
+-- each spec that is printed of a procedure of the program, by the procedure's place, is valid for it
+abbrev pub AreValid : Program → Type 0
+AreValid program = (number : ℕ) → IfSome (slice_get program.procs number) (λ proc. All (Valid program number) (specs_of proc))
+
+-- a program that is reported on is well formed, and what is printed of it is valid
 abbrev pub PrintsValid : List ℕ → Type 0
-PrintsValid stream = (proc : Proc) (value : Operand) → Asks stream (One proc value) → IsProgram (program_of proc) × Valid (program_of proc) 0 (spec_of value)
+PrintsValid stream = (program : Program) → Asks stream (Report program) → IsProgram program × AreValid program
 
 -- where no fault came, a request is answered in full, any other stream is refused, and other words meet the usage line, unless memory wants
 abbrev pub Completes : List (List ℕ) → List ℕ → Status → Type 0
 Completes words stream ended =
     ((AreRightWords words → ⊥) → (ended ≡ status.Usage) ⊎ (ended ≡ status.NoMemory))
     × (AreRightWords words → Asks stream Nothing → (ended ≡ status.Refused 1 0) ⊎ (ended ≡ status.NoMemory))
-    × (AreRightWords words → (name file : List ℕ) → IsRequest stream name file → (ended ≡ status.Done) ⊎ (ended ≡ status.NoMemory))
+    × (AreRightWords words → (name text : List ℕ) → IsRequest stream name text → (ended ≡ status.Done) ⊎ (ended ≡ status.NoMemory))

@@ -1,12 +1,19 @@
 -- What the parts of the program promise one another. No contract of a call that other crates see cites it.
-use Rattle.std.specs.Prelude.{◌≡◌, ◌≢◌, ℕ, List, ◌∷◌, ◌++◌, ◌⊎◌, All, codes}
+use Rattle.std.specs.Prelude.{◌≡◌, ◌≢◌, ℕ, Bool, true, false, List, ◌∷◌, ◌++◌, ◌⊎◌, All, codes}
 use Rattle.std.specs.declared.option.Option.{Option}
-use Rattle.shape_data.specs.declared.program.Proc.{Proc}
-use Rattle.c_syntax.specs.Unit.{Spells}
+use Rattle.shape_data.specs.declared.program.Program.{Program}
+use Rattle.c_front.specs.declared.fault.FrontFault.{FrontFault}
+use Rattle.c_front.specs.declared.fault.FrontFault.TheVariants as front
+use Rattle.c_lower.specs.declared.fault.LowerFault.{LowerFault}
+use Rattle.c_lower.specs.declared.fault.LowerFault.TheVariants as lower
+use Rattle.heapan_top.specs.declared.programs.ProgramFault.{ProgramFault}
+use Rattle.heapan_top.specs.declared.programs.ProgramFault.TheVariants as fault
 use Rattle.heapan_top.specs.declared.status.Status.{Status}
 use Rattle.heapan_top.specs.declared.status.Status.TheVariants as status
 use Rattle.heapan_top.specs.Headline.{Appends, AppendsSome}
-use Rattle.heapan_top.specs.Replies.{Asked, Asks, FirstReturns, Nothing, One, Other, reply_to}
+use Rattle.heapan_top.specs.Programs.{IsRefused, of_refusal, of_place}
+use Rattle.heapan_top.specs.Replies.{Asked, Asks, Nothing, NotYet, Report, all_return, reply_to}
+use Rattle.heapan_top.specs.Request.{IsRequest}
 
 -- the byte stands nowhere in the bytes
 abbrev pub IsAbsent : ℕ → List ℕ → Type 0
@@ -22,23 +29,31 @@ pub record IsPut (stream name digits body : List ℕ) : Type 0 where
 abbrev pub IsEnding : List ℕ → Type 0
 IsEnding ending = (ending ≡ codes "report") ⊎ (ending ≡ codes "report\n")
 
--- what a report on this file of this name is
-abbrev pub IsReportOn : List ℕ → List ℕ → Asked → Type 0
-IsReportOn name file Nothing = ⊥
-IsReportOn name file (Other other) = (other ≡ name) × ((proc : Proc) → Spells name file proc → ⊥)
-IsReportOn name file (One proc value) = Spells name file proc × FirstReturns proc value
+-- why a file is no program; want of memory says nothing
+abbrev pub IsProgramFault : List ℕ → List ℕ → ProgramFault → Type 0
+IsProgramFault name text (fault.Refused refused) = IsRefused name text refused
+IsProgramFault name text fault.OutOfMemory = Unit {0}
 
--- the bytes are such a report
-pub record IsReplyOn (name file text : List ℕ) : Type 0 where
-  pub asked : Asked
-  pub is_report : IsReportOn name file asked
-  pub is_text : text ≡ reply_to asked
+abbrev pub of_front : FrontFault → ProgramFault
+of_front (front.Refused refusal) = fault.Refused (of_refusal refusal)
+of_front front.OutOfMemory = fault.OutOfMemory
+
+abbrev pub of_lowering : LowerFault → ProgramFault
+of_lowering (lower.Refused at) = fault.Refused (of_place at)
+of_lowering lower.OutOfMemory = fault.OutOfMemory
+
+abbrev pub asked_by : List ℕ → Program → Bool → Asked
+asked_by name program true = Report program
+asked_by name program false = NotYet name
+
+-- the reply to a request for a report on a program
+abbrev pub reply_on : List ℕ → Program → List ℕ
+reply_on name program = reply_to (asked_by name program (all_return program))
 
 -- how a call ends that answers this
 abbrev pub status_after : Asked → Status
 status_after Nothing = status.Refused 1 0
-status_after (Other name) = status.Done
-status_after (One proc value) = status.Done
+status_after _ = status.Done
 
 -- the bytes are the reply to the stream, and the call ends so
 pub record IsReply (stream text : List ℕ) (ended : Status) : Type 0 where
@@ -46,6 +61,10 @@ pub record IsReply (stream text : List ℕ) (ended : Status) : Type 0 where
   pub asks : Asks stream asked
   pub is_text : text ≡ reply_to asked
   pub is_end : ended ≡ status_after asked
+
+-- the bytes are the reply to each stream that is a request for a report on this text of this name
+abbrev pub IsReportOn : List ℕ → List ℕ → List ℕ → Type 0
+IsReportOn name text bytes = (stream : List ℕ) → IsRequest stream name text → IsReply stream bytes status.Done
 
 -- the bytes were written and the call ends as it was to end, or a front of them and it ends in a fault
 abbrev pub Ends : Option (List ℕ) → Option (List ℕ) → List ℕ → Status → Status → Type 0

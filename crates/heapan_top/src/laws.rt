@@ -3,6 +3,10 @@ ghost use Rattle.std.specs.Prelude.{◌≡◌, ℕ, List};
 ghost use Rattle.heapan_top.specs.Headline.{PrintsValid};
 ghost use Rattle.heapan_top.specs.Replies.{Asked, Asks};
 
+use c_lowering::laws::programs_are_well_formed;
+use c_texts::laws::parsed_files_are_texts;
+use c_typing::laws::first_refusal;
+
 /// A stream asks for one thing at most.
 pub fn asked_is_one()
     ensures { (stream : List ℕ) (one other : Asked) → Asks stream one → Asks stream other → one ≡ other }
@@ -13,7 +17,11 @@ pub fn asked_is_some()
     ensures { (stream : List ℕ) → ((asked : Asked) → Asks stream asked → ⊥) → ⊥ }
 {}
 
-/// What a file spells is a well-formed program, in which the summary that is printed of its procedure is valid.
+/// A program that is reported on is well formed, and each spec that is printed of a procedure is valid for it.
 pub fn printed_is_valid()
     ensures { (stream : List ℕ) → PrintsValid stream }
-{}
+{
+    first_refusal();
+    parsed_files_are_texts();
+    programs_are_well_formed();
+}

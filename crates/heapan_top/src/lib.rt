@@ -2,6 +2,7 @@
 #![tactic(auto)]
 
 pub mod laws;
+mod programs;
 mod replies;
 mod requests;
 mod session;

@@ -1,22 +1,23 @@
 //! The reply to a stream, as a value: its bytes and the status that goes with them. It stands on the parser of
-//! requests, on the reader of C files and on the texts of a report.
-ghost use Rattle.std.specs.Prelude.{◌≡◌, ◌≤◌, ◌↔◌, ◌++◌, length, IfOk, IfSome, IfNone, codes};
-ghost use Rattle.shape_data.specs.declared.program.Operand.{Operand as AnyOperand};
-ghost use Rattle.shape_data.specs.declared.program.Proc.{Proc as AnyProc};
-ghost use Rattle.c_syntax.specs.Unit.{Spells};
-ghost use Rattle.heapan_top.specs.Parts.{IsReply, IsReplyOn};
-ghost use Rattle.heapan_top.specs.Replies.{FirstReturns, One, Other, exp_of, reply_to};
+//! requests, on the reader of programs and on the texts of a report.
+ghost use Rattle.std.specs.Prelude.{◌≡◌, ◌≤◌, ◌++◌, [], length, codes, IfOk, OnOk};
+ghost use Rattle.std.specs.List.{flat_map};
+ghost use Rattle.heapan_top.specs.Parts.{IsReply, IsReportOn, reply_on};
+ghost use Rattle.heapan_top.specs.Replies.{Report, all_return, block_of, exp_of, first_return, refused_line, reply_to, report_of};
 ghost use Rattle.heapan_top.specs.Request.{IsFileName};
 ghost use Rattle.heapan_top.specs.Text.{line_of};
 
+use crate::programs::{ProgramFault, program_of};
 use crate::requests::{Request, request_in};
 use crate::status::Status;
-use crate::texts::{push_block, push_total};
-use c_syntax::{Simple, simple_unit};
+use crate::texts::{push_block, push_head, push_refused, push_total};
 use shape_data::name::Name;
-use shape_data::program::{Cmd, Operand, Proc};
+use shape_data::program::{Cmd, Operand, Proc, Program};
 use shape_data::symbolic::Exp;
 use std::alloc::{AllocError, Global};
+
+/// The code of a file that is not analysed yet.
+const NOT_YET: u16 = 190;
 
 /// What is written in reply, and how the call then ends.
 #[derive(Drop, Debug)]
@@ -25,10 +26,9 @@ pub struct Reply {
     pub status: Status,
 }
 
-/// The operand that the procedure returns first of all.
+/// The operand that the procedure returns first of all, if it begins by returning.
 fn first_return(proc: &Proc) -> Option<Operand>
-    ensures some { IfSome result (FirstReturns proc.now) }
-    ensures none { IfNone result ((value : AnyOperand) → FirstReturns proc.now value → ⊥) }
+    ensures { result ≡ first_return proc.now }
 {
     match proc.flow.nodes.as_slice() {
         [first, ..] => match first.cmd {
@@ -39,58 +39,102 @@ fn first_return(proc: &Proc) -> Option<Operand>
     }
 }
 
-/// An operand as an expression over the parameters.
-fn exp_of(value: Operand) -> Exp
-    ensures { result ≡ exp_of value }
+/// Whether each procedure begins by returning.
+fn all_return(program: &Program) -> bool
+    ensures { result ≡ all_return program.now }
+{
+    program
+        .procs
+        .iter()
+        .all(|proc| first_return(proc).is_some())
+}
+
+/// An operand where a procedure begins, as an expression over the parameters.
+fn exp_of(params: &[Name], value: Operand) -> Exp
+    ensures { result ≡ exp_of params.now value }
 {
     match value {
-        Operand::Slot(slot) => Exp::Var(slot),
+        Operand::Slot(slot) => {
+            if (slot as usize) < params.len() {
+                Exp::Var(slot)
+            } else {
+                Exp::Const(0)
+            }
+        }
         Operand::Num(number) => Exp::Const(number),
     }
 }
 
-/// The report on a procedure that returns this first of all.
-fn report_on(alloc: Global, proc: &Proc, value: Operand) -> Result<Vec<u8>, AllocError>
-    ensures { IfOk result (λ text. text.items ≡ reply_to (One proc.now value)) }
+/// Appends the block of a procedure: with its one spec, where it begins by returning. No structure occurs in it.
+fn push_proc(text: &mut Vec<u8>, proc: &Proc) -> Result<(), AllocError>
+    ensures { OnOk result (text.new.items ≡ text.old.items ++ block_of [] proc.now) }
+{
+    match first_return(proc) {
+        Some(value) => push_block(text, proc, &exp_of(proc.flow.params.as_slice(), value)),
+        None => push_head(text, proc),
+    }
+}
+
+/// Appends the blocks of procedures.
+fn push_procs(text: &mut Vec<u8>, procs: &[Proc]) -> Result<(), AllocError>
+    ensures { OnOk result (text.new.items ≡ text.old.items ++ flat_map (block_of []) procs.now) }
+{
+    for proc in procs {
+        push_proc(text, proc)?;
+    }
+    Ok(())
+}
+
+/// Appends the report on a program.
+fn push_report(text: &mut Vec<u8>, program: &Program) -> Result<(), AllocError>
+    ensures { OnOk result (text.new.items ≡ text.old.items ++ report_of program.now) }
+{
+    push_procs(text, program.procs.as_slice())?;
+    let count = program.procs.len() as u64;
+    push_total(text, count, count, 0)
+}
+
+/// The report on a program whose procedures begin by returning.
+fn report_on(alloc: Global, program: &Program) -> Result<Vec<u8>, AllocError>
+    ensures { IfOk result (λ text. text.items ≡ reply_to (Report program.now)) }
 {
     let mut text = Vec::from_slice(alloc, b"ok\n")?;
-    push_block(&mut text, proc, &exp_of(value))?;
-    push_total(&mut text, 1, 1, 0)?;
+    push_report(&mut text, program)?;
     Ok(text)
 }
 
-/// The refusal of a file that is no procedure of the form that is analysed.
-fn refusal_of(alloc: Global, name: &[u8]) -> Result<Vec<u8>, AllocError>
-    ensures { IfOk result (λ text. text.items ≡ reply_to (Other name.now)) }
+/// The refusal of a file on a line, with a code.
+fn refusal_of(alloc: Global, name: &[u8], line: u32, code: u16) -> Result<Vec<u8>, AllocError>
+    ensures { IfOk result (λ text. text.items ≡ line_of (codes "ok") ++ refused_line name.now line code) }
 {
-    let mut text = Vec::from_slice(alloc, b"ok\nrefused ")?;
-    text.extend_from_slice(name)?;
-    text.extend_from_slice(b" 1 190\n")?;
+    let mut text = Vec::from_slice(alloc, b"ok\n")?;
+    push_refused(&mut text, name, line, code)?;
     Ok(text)
 }
 
-/// The procedure that the file is.
-fn unit_in(alloc: Global, request: &Request<'_>) -> Result<Simple, AllocError>
-    requires named { IsFileName request.now.name.now }
-    requires short { length request.now.file.now ≤ 1048576 }
-    ensures { IfOk result (λ simple. (proc : AnyProc) → (simple ≡ Simple.Is proc) ↔ Spells request.now.name.now request.now.file.now proc) }
+/// The reply to a request for a report on a program: a report, or that it is not analysed yet.
+fn reply_to_program(alloc: Global, name: &[u8], program: &Program) -> Result<Vec<u8>, AllocError>
+    ensures { IfOk result (λ text. text.items ≡ reply_on name.now program.now) }
 {
-    let name = Name::of(alloc, request.name)?;
-    simple_unit(alloc, request.file, &name)
+    if all_return(program) {
+        report_on(alloc, program)
+    } else {
+        refusal_of(alloc, name, 1, NOT_YET)
+    }
 }
 
 /// The reply to a request.
 fn reply_to_request(alloc: Global, request: &Request<'_>) -> Result<Vec<u8>, AllocError>
     requires named { IsFileName request.now.name.now }
     requires short { length request.now.file.now ≤ 1048576 }
-    ensures { IfOk result (λ text. IsReplyOn request.now.name.now request.now.file.now text.items) }
+    ensures { IfOk result (λ text. IsReportOn request.now.name.now request.now.file.now text.items) }
 {
-    match unit_in(alloc, request)? {
-        Simple::Is(proc) => match first_return(&proc) {
-            Some(value) => report_on(alloc, &proc, value),
-            None => unreachable!(),
-        },
-        Simple::Not => refusal_of(alloc, request.name),
+    match program_of(alloc, request.name, request.file) {
+        Ok(program) => reply_to_program(alloc, request.name, &program),
+        Err(ProgramFault::Refused(refused)) => {
+            refusal_of(alloc, request.name, refused.line, refused.code)
+        }
+        Err(ProgramFault::OutOfMemory) => Err(AllocError),
     }
 }
 

@@ -6,6 +6,7 @@ ghost use Rattle.io_ports.specs.Counts.{Rose};
 ghost use Rattle.heapan_top.specs.Headline.{Answers, AnswersOtherWords, AreRightWords, Completes, PrintsValid, Reads, word_bytes};
 ghost use Rattle.heapan_top.specs.Parts.{Ends};
 
+use crate::laws::printed_is_valid;
 use crate::replies::reply_for;
 use crate::status::{Outcome, Status};
 use io_ports::{ReadEnd, Sink, SinkFault, Source, read_up_to, write_all};
@@ -105,6 +106,7 @@ pub fn run<S: Source, K: Sink>(
         → (Rose (K.faults sink.old) (K.faults sink.new) → ⊥)
         → IfSome (S.left source.old) (λ stream. Completes (word_bytes words.now) stream result.status) }
 {
+    printed_is_valid();
     if !are_right_words(words) {
         return Outcome {
             status: answer_other_words(alloc, sink),

@@ -1,4 +1,7 @@
-//! The program over memory: the rows of its first path. The bytes that are wanted are those of the task.
+//! The program over memory. The bytes that are wanted are those of the task, or worked by hand from the definitions.
+
+mod tables;
+
 use crate::{Outcome, Status, run};
 use io_ports::{
     InPieces, MemorySink, MemorySource, ReadEnd, Sink, Source, SteadySink, SteadySource, read_up_to,
@@ -6,14 +9,15 @@ use io_ports::{
 use std::alloc::{AllocError, Global};
 use std::process::Abort;
 use std::test::Fail;
+use tables::{REFUSED, REPORTED, REPORTED_TOGETHER};
 
 /// The first example: what is read, and what is written.
 const IDENTITY: &[u8] = b"put a.c 24\nint id(int a){return a;}report\n";
 
 const IDENTITY_REPLY: &[u8] = b"ok\nid a.c 1\n pre emp\n post emp ret=a\ntotal 1 1 0\n";
 
-/// What a file that isn't analysed is answered.
-const REFUSED: &[u8] = b"ok\nrefused a.c 1 190\n";
+/// What a file without procedures is answered.
+const EMPTY: &[u8] = b"ok\ntotal 0 0 0\n";
 
 /// What a stream that is no request is answered.
 const MALFORMED: &[u8] = b"malformed 1 0\n";
@@ -80,76 +84,122 @@ fn the_example_is_answered_whatever_the_pieces(rt: HostRuntime) -> Result<(), Fa
     Ok(())
 }
 
-#[test]
-fn a_procedure_is_reported_by_what_it_returns(rt: HostRuntime) -> Result<(), Fail> {
-    let alloc = rt.alloc();
-    let rows: [(&[u8], &[u8]); 8] = [
-        (
-            b"int second(int a, int b) { return b; }",
-            b"ok\nsecond a.c 1\n pre emp\n post emp ret=b\ntotal 1 1 0\n",
-        ),
-        (
-            b"int first(int a, int b) { return a; }",
-            b"ok\nfirst a.c 1\n pre emp\n post emp ret=a\ntotal 1 1 0\n",
-        ),
-        (
-            b"int most(int a) { return 2147483647; }",
-            b"ok\nmost a.c 1\n pre emp\n post emp ret=2147483647\ntotal 1 1 0\n",
-        ),
-        (
-            b"int zero(void) { return 0; }",
-            b"ok\nzero a.c 1\n pre emp\n post emp ret=0\ntotal 1 1 0\n",
-        ),
-        (
-            b"int ten() { return 10; }",
-            b"ok\nten a.c 1\n pre emp\n post emp ret=10\ntotal 1 1 0\n",
-        ),
-        (
-            b"int\tf\n(\tint a\r\n,\tint\nb)\x0c{\treturn\nb\n;}\n",
-            b"ok\nf a.c 1\n pre emp\n post emp ret=b\ntotal 1 1 0\n",
-        ),
-        (
-            b"\n\n  int third(int x){return x;}",
-            b"ok\nthird a.c 3\n pre emp\n post emp ret=x\ntotal 1 1 0\n",
-        ),
-        (
-            b"int e(int a,int b,int c,int d,int e,int f,int g,int h){return h;}",
-            b"ok\ne a.c 1\n pre emp\n post emp ret=h\ntotal 1 1 0\n",
-        ),
-    ];
-    for (file, want) in rows {
-        answers(&rt, alloc, put(alloc, file)?.as_slice(), want, Status::Done)?;
+/// Each file is answered with these bytes, and the call is Done.
+fn all_answer(rt: &impl Abort, alloc: Global, rows: &[(&str, &str)]) -> Result<(), Fail> {
+    for row in rows {
+        let (file, want) = *row;
+        let stream = put(alloc, file.as_bytes())?;
+        answers(rt, alloc, stream.as_slice(), want.as_bytes(), Status::Done)?;
     }
     Ok(())
 }
 
+/// The file is refused on this line with this code.
+fn refuses(rt: &impl Abort, alloc: Global, file: &[u8], line: u32, code: u16) -> Result<(), Fail> {
+    let want = format!(in alloc; "ok\nrefused a.c {line} {code}\n")?;
+    let stream = put(alloc, file)?;
+    answers(rt, alloc, stream.as_slice(), want.as_bytes(), Status::Done)
+}
+
 #[test]
-fn other_files_are_refused(rt: HostRuntime) -> Result<(), Fail> {
+fn a_procedure_is_reported_by_what_it_returns(rt: HostRuntime) -> Result<(), Fail> {
+    all_answer(&rt, rt.alloc(), &REPORTED)
+}
+
+#[test]
+fn all_procedures_are_reported_in_order(rt: HostRuntime) -> Result<(), Fail> {
+    all_answer(&rt, rt.alloc(), &REPORTED_TOGETHER)
+}
+
+#[test]
+fn files_are_refused_by_their_first_cause(rt: HostRuntime) -> Result<(), Fail> {
     let alloc = rt.alloc();
-    answers(&rt, alloc, b"put a.c 5\nhelloreport", REFUSED, Status::Done)?;
-    answers(&rt, alloc, b"put a.c 0\nreport\n", REFUSED, Status::Done)?;
-    let rows: [&[u8]; 11] = [
-        b"int f(int a) { return -1; }",
-        b"int f(int a) { return -a; }",
-        b"int f(int a) { return 2147483648; }",
-        b"int f(int a) { return 01; }",
-        b"int f(int a) { return b; }",
-        b"int f(int a,int b,int c,int d,int e,int g,int h,int i,int j){return a;}",
-        b"int f(int a, int a) { return a; }",
-        b"int while(int a) { return a; }",
-        b"int f(int return) { return 1; }",
-        b"/* one */ int f(int a) { return a; }",
-        b"int f(int a) { return a; } int g(int a) { return a; }",
-    ];
-    for file in rows {
-        answers(
-            &rt,
-            alloc,
-            put(alloc, file)?.as_slice(),
-            REFUSED,
-            Status::Done,
-        )?;
+    for (file, code) in REFUSED {
+        refuses(&rt, alloc, file.as_bytes(), 1, code)?;
     }
+    Ok(())
+}
+
+/// A text, a piece so many times, and another text.
+fn repeated(
+    alloc: Global,
+    before: &[u8],
+    piece: &[u8],
+    times: usize,
+    behind: &[u8],
+) -> Result<Vec<u8>, AllocError> {
+    let mut text = Vec::from_slice(alloc, before)?;
+    for _ in 0..times {
+        text.extend_from_slice(piece)?;
+    }
+    text.extend_from_slice(behind)?;
+    Ok(text)
+}
+
+#[test]
+fn what_is_too_long_is_refused(rt: HostRuntime) -> Result<(), Fail> {
+    let alloc = rt.alloc();
+    let name = repeated(alloc, b"int ", b"a", 65, b"(void) { return 1; }")?;
+    refuses(&rt, alloc, name.as_slice(), 1, 105)?;
+    let open = repeated(alloc, b"int f(void) { return ", b"(", 70, b"1")?;
+    let nested = repeated(alloc, open.as_slice(), b")", 70, b"; }")?;
+    refuses(&rt, alloc, nested.as_slice(), 1, 112)?;
+    let body = repeated(alloc, b"int f(int a) { ", b"a = 1; ", 520, b"return a; }")?;
+    refuses(&rt, alloc, body.as_slice(), 1, 131)
+}
+
+/// A text, an int of each of the names, and another text.
+fn with_ints(
+    alloc: Global,
+    before: &[u8],
+    names: &[u8],
+    behind: &[u8],
+) -> Result<Vec<u8>, AllocError> {
+    let mut text = Vec::from_slice(alloc, before)?;
+    for name in names {
+        text.extend_from_slice(b"int ")?;
+        text.push(*name)?;
+        text.extend_from_slice(b"; ")?;
+    }
+    text.extend_from_slice(behind)?;
+    Ok(text)
+}
+
+#[test]
+fn what_has_too_many_parts_is_refused(rt: HostRuntime) -> Result<(), Fail> {
+    let alloc = rt.alloc();
+    let letters = b"abcdefghijklmnopqrstuvwxyzABCDEFG";
+    let locals = with_ints(alloc, b"void f(void) { ", letters, b"}")?;
+    refuses(&rt, alloc, locals.as_slice(), 1, 132)?;
+    let fields = with_ints(alloc, b"struct s { ", b"abcdefghijklmnopq", b"};")?;
+    refuses(&rt, alloc, fields.as_slice(), 1, 134)?;
+    let few = with_ints(alloc, b"struct s { ", b"abcdefghijklmnop", b"};")?;
+    let stream = put(alloc, few.as_slice())?;
+    answers(&rt, alloc, stream.as_slice(), EMPTY, Status::Done)
+}
+
+/// So many procedures, one on a line.
+fn procedures(alloc: Global, count: usize) -> Result<Vec<u8>, AllocError> {
+    let mut text = Vec::new(alloc);
+    for number in 0..count {
+        text.extend_from_slice(format!(in alloc; "void p{number}(void) {{ }}\n")?.as_bytes())?;
+    }
+    Ok(text)
+}
+
+#[test]
+fn a_procedure_too_many_is_refused_on_its_line(rt: HostRuntime) -> Result<(), Fail> {
+    let alloc = rt.alloc();
+    refuses(&rt, alloc, procedures(alloc, 1_025)?.as_slice(), 1_025, 142)?;
+    let stream = put(alloc, procedures(alloc, 1_024)?.as_slice())?;
+    let mut source = steady(alloc, stream.as_slice())?;
+    let mut sink = SteadySink::new(alloc)?;
+    assert_eq!(&rt; session(alloc, &mut source, &mut sink), Status::Done);
+    let held = sink.held();
+    assert!(&rt; held.starts_with(b"ok\np0 a.c 1\n pre emp\n post emp\np1 a.c 2\n".as_slice()));
+    assert!(&rt;
+        held.ends_with(b"p1023 a.c 1024\n pre emp\n post emp\ntotal 1024 1024 0\n".as_slice())
+    );
     Ok(())
 }
 
@@ -184,7 +234,7 @@ fn other_streams_are_malformed(rt: HostRuntime) -> Result<(), Fail> {
         &rt,
         alloc,
         b"put aZ09._-/aaaaaaaaaaaaaaaaaaaaaaaaaaaaaaaaaaaaaaaaaaaaaaaaaaaaaaaa 5\nhelloreport",
-        b"ok\nrefused aZ09._-/aaaaaaaaaaaaaaaaaaaaaaaaaaaaaaaaaaaaaaaaaaaaaaaaaaaaaaaa 1 190\n",
+        b"ok\nrefused aZ09._-/aaaaaaaaaaaaaaaaaaaaaaaaaaaaaaaaaaaaaaaaaaaaaaaaaaaaaaaa 1 111\n",
         Status::Done,
     )
 }
@@ -197,7 +247,7 @@ fn a_stream_may_be_long_but_not_too_long(rt: HostRuntime) -> Result<(), Fail> {
         &rt,
         alloc,
         put(alloc, file.as_slice())?.as_slice(),
-        REFUSED,
+        EMPTY,
         Status::Done,
     )?;
     for size in [1_048_577, 1_048_800, 2_000_000] {

@@ -4,6 +4,7 @@ ghost use Rattle.std.specs.Prelude.{◌≡◌, ◌∷◌, [], ◌++◌, codes, O
 ghost use Rattle.std.specs.Fmt.{decimal, signed_decimal};
 ghost use Rattle.shape_laws.specs.Returns.{returns_value};
 ghost use Rattle.shape_laws.specs.Symbolic.{emp};
+ghost use Rattle.heapan_top.specs.Replies.{refused_line};
 ghost use Rattle.heapan_top.specs.Text.{block, exp_text, heap_text, line_of, post_line, ret_text, spec_lines, total_line, variable_text};
 
 use itoa::Buffer;
@@ -73,9 +74,9 @@ fn push_emp(text: &mut Vec<u8>, params: &[Name]) -> Result<(), AllocError>
     text.extend_from_slice(b"emp")
 }
 
-/// Appends the first line of a procedure's block.
+/// Appends the first line of a procedure's block, which is all of it where it has no spec.
 #[tactic(auto, using(crate::proofs::Appending::appending))]
-fn push_head(text: &mut Vec<u8>, proc: &Proc) -> Result<(), AllocError>
+pub fn push_head(text: &mut Vec<u8>, proc: &Proc) -> Result<(), AllocError>
     ensures { OnOk result (text.new.items ≡ text.old.items
         ++ line_of (proc.now.flow.name ++ codes " " ++ proc.now.file ++ codes " " ++ decimal proc.now.line)) }
 {
@@ -120,5 +121,19 @@ pub fn push_total(text: &mut Vec<u8>, procs: u64, specs: u64, none: u64) -> Resu
     push_decimal(text, specs)?;
     text.extend_from_slice(b" ")?;
     push_decimal(text, none)?;
+    text.extend_from_slice(b"\n")
+}
+
+/// Appends the line that refuses a file.
+#[tactic(auto, using(crate::proofs::Appending::appending))]
+pub fn push_refused(text: &mut Vec<u8>, name: &[u8], line: u32, code: u16) -> Result<(), AllocError>
+    ensures { OnOk result (text.new.items ≡ text.old.items ++ refused_line name.now line code) }
+{
+    text.extend_from_slice(b"refused ")?;
+    text.extend_from_slice(name)?;
+    text.extend_from_slice(b" ")?;
+    push_decimal(text, u64::from(line))?;
+    text.extend_from_slice(b" ")?;
+    push_decimal(text, u64::from(code))?;
     text.extend_from_slice(b"\n")
 }

@@ -1,6 +1,6 @@
--- The procedure returns a parameter or a number at its first step.
-use Rattle.heapan_top.proofs.Printing.{printed-Valid}
+-- A program that is reported on is well formed, and its procedures return at their first step.
+use Rattle.heapan_top.proofs.Printing.{printed}
 use Rattle.heapan_top.proofs.laws.printed_is_valid.Goals as goal
 
 pub returns : goal.returns
-returns c = printed-Valid
+returns c = printed c.first_refusal.ensures c.parsed_files_are_texts.ensures c.programs_are_well_formed.ensures

@@ -1,5 +1,0 @@
-pub mod Finding
-pub mod Layout
-pub mod Names
-pub mod Reading
-pub mod Unit

@@ -1,0 +1,139 @@
+//! Files, and how a report on each is answered.
+
+/// Files of one procedure that returns at once, and the report.
+pub const REPORTED: [(&str, &str); 16] = [
+    (
+        "int second(int a, int b) { return b; }",
+        "ok\nsecond a.c 1\n pre emp\n post emp ret=b\ntotal 1 1 0\n",
+    ),
+    (
+        "int first(int a, int b) { return a; }",
+        "ok\nfirst a.c 1\n pre emp\n post emp ret=a\ntotal 1 1 0\n",
+    ),
+    (
+        "int most(int a) { return 2147483647; }",
+        "ok\nmost a.c 1\n pre emp\n post emp ret=2147483647\ntotal 1 1 0\n",
+    ),
+    (
+        "int zero(void) { return 0; }",
+        "ok\nzero a.c 1\n pre emp\n post emp ret=0\ntotal 1 1 0\n",
+    ),
+    (
+        "int ten() { return 10; }",
+        "ok\nten a.c 1\n pre emp\n post emp ret=10\ntotal 1 1 0\n",
+    ),
+    (
+        "int\tf\n(\tint a\r\n,\tint\nb)\x0c{\treturn\nb\n;}\n",
+        "ok\nf a.c 1\n pre emp\n post emp ret=b\ntotal 1 1 0\n",
+    ),
+    (
+        "\n\n  int third(int x){return x;}",
+        "ok\nthird a.c 3\n pre emp\n post emp ret=x\ntotal 1 1 0\n",
+    ),
+    (
+        "int e(int a,int b,int c,int d,int f,int g,int h,int i){return i;}",
+        "ok\ne a.c 1\n pre emp\n post emp ret=i\ntotal 1 1 0\n",
+    ),
+    (
+        "int f(int a) { return (a); }",
+        "ok\nf a.c 1\n pre emp\n post emp ret=a\ntotal 1 1 0\n",
+    ),
+    (
+        "/* one */ int f(int a) { return a; } // two",
+        "ok\nf a.c 1\n pre emp\n post emp ret=a\ntotal 1 1 0\n",
+    ),
+    (
+        "int f(int a) { ; { } return a; a = 1; }",
+        "ok\nf a.c 1\n pre emp\n post emp ret=a\ntotal 1 1 0\n",
+    ),
+    (
+        "struct s { int a; }; struct s *g(struct s *p) { return p; }",
+        "ok\ng a.c 1\n pre emp\n post emp ret=p\ntotal 1 1 0\n",
+    ),
+    (
+        "#include <stdlib.h>\ntypedef struct s { int a; } s;\ns *n(void) { return NULL; }",
+        "ok\nn a.c 3\n pre emp\n post emp ret=0\ntotal 1 1 0\n",
+    ),
+    (
+        "int g(int a); int f(int a) { return a; }",
+        "ok\nf a.c 1\n pre emp\n post emp ret=a\ntotal 1 1 0\n",
+    ),
+    (
+        "void h(int a) { }",
+        "ok\nh a.c 1\n pre emp\n post emp\ntotal 1 1 0\n",
+    ),
+    (
+        "void h(void) { return; }",
+        "ok\nh a.c 1\n pre emp\n post emp\ntotal 1 1 0\n",
+    ),
+];
+
+/// Files of no procedure, and of several, and the report.
+pub const REPORTED_TOGETHER: [(&str, &str); 5] = [
+    ("", "ok\ntotal 0 0 0\n"),
+    ("struct s { int a; };\n", "ok\ntotal 0 0 0\n"),
+    (
+        "int f(int a) { return a; } int g(int a) { return 7; }",
+        "ok\nf a.c 1\n pre emp\n post emp ret=a\ng a.c 1\n pre emp\n post emp ret=7\ntotal 2 2 0\n",
+    ),
+    (
+        "// one\n\nint f(int a) { return a; }\n\n/* two\n lines */ void g(void) {\n}\n",
+        "ok\nf a.c 3\n pre emp\n post emp ret=a\ng a.c 6\n pre emp\n post emp\ntotal 2 2 0\n",
+    ),
+    (
+        "void b(void) { }\nint\na(int x)\n{\n  return x;\n}\nvoid c(int y) { return; }\n",
+        "ok\nb a.c 1\n pre emp\n post emp\na a.c 2\n pre emp\n post emp ret=x\nc a.c 7\n pre emp\n post emp\ntotal 3 3 0\n",
+    ),
+];
+
+/// Files on one line that are refused, or not analysed yet, and the code.
+pub const REFUSED: [(&str, u16); 28] = [
+    ("int f(void) { return 'a'; }", 101),
+    ("/* x", 102),
+    ("int f(void) { return 2147483648; }", 103),
+    ("int f(void) { return 01; }", 103),
+    ("#define A 1", 104),
+    ("hello", 111),
+    ("int f(void) { return 1 }", 111),
+    ("int while(int a) { return a; }", 111),
+    ("int f(void) { return y; }", 121),
+    ("void f(void) { return 1; }", 122),
+    ("int f(void) { return 1; } int f(void) { return 2; }", 123),
+    ("int f(int a, int a) { return a; }", 123),
+    (
+        "int f(int a) { return a; } int g(void) { return f(); }",
+        124,
+    ),
+    ("struct s { int a; }; struct s { int b; };", 125),
+    ("int f(void) { int a = 1 + f(); return a; }", 126),
+    // Of two, the first by stage.
+    ("int f(void) { return y; } /* x", 102),
+    ("int f(void) { return y; } int", 111),
+    (
+        "int f(int a,int b,int c,int d,int e,int g,int h,int i,int j){return k;}",
+        121,
+    ),
+    (
+        "int f(int a,int b,int c,int d,int e,int g,int h,int i,int j){return a;}",
+        133,
+    ),
+    (
+        "int f(int a) { return -a; } int g(int a,int b,int c,int d,int e,int h,int i,int j,int k){return a;}",
+        133,
+    ),
+    // Some procedure does not begin by returning.
+    ("int f(int a) { return a + 1; }", 190),
+    ("int f(int a) { return -1; }", 190),
+    ("int f(int a) { return !a; }", 190),
+    ("int f(void) { }", 190),
+    ("int f(void) { int b; return b; }", 190),
+    ("int f(int a) { if (a) return 1; return 0; }", 190),
+    (
+        "struct s { int v; }; int g(struct s *p) { return p->v; }",
+        190,
+    ),
+    (
+        "int f(int a) { return a; } int g(int a) { return f(a); }",
+        190,
+    ),
+];
