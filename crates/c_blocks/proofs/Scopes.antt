@@ -1,5 +1,5 @@
 -- Places of a body, in one scope and in another.
-use Rattle.std.proofs.Common.{◌≡◌, ℕ, ◌≤◌, [], ◌++◌, length, refl, sym, ap, ◌∙◌, subst, append_assoc, arith}
+use Rattle.std.proofs.Common.{◌≡◌, ℕ, ◌≤◌, [], length, refl, sym, ap, ◌∙◌, subst, arith}
 use Rattle.std.proofs.lemmas.List.{length-append}
 use Rattle.c_lowering.specs.Contexts.{Context, within_scope}
 use Rattle.c_values.specs.Contexts.{IsWithin}
@@ -9,19 +9,6 @@ within_self c = record { tables = refl; around = refl; more = []; bound = refl; 
 
 pub within_same : (c after : Context) → after ≡ c → IsWithin c after
 within_same c after is = subst (IsWithin c) (sym is) (within_self c)
-
-pub within_then : (one other third : Context) → IsWithin one other → IsWithin other third → IsWithin one third
-within_then one other third h k = record {
-  tables = k.tables ∙ h.tables;
-  around = k.around ∙ h.around;
-  more = k.more ++ h.more;
-  bound = k.bound ∙ ap (λ xs. k.more ++ xs) h.bound ∙ sym (append_assoc k.more h.more one.bound);
-  first_local = k.first_local ∙ h.first_local;
-  first_temp = k.first_temp ∙ h.first_temp;
-  result = k.result ∙ h.result;
-  first_line = k.first_line ∙ h.first_line;
-  line = k.line ∙ h.line;
-}
 
 -- within a scope that was entered
 pub entered_within : (c entered inner : Context) → entered ≡ within_scope c → IsWithin entered inner → IsWithin (within_scope c) inner

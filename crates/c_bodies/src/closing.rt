@@ -16,22 +16,11 @@ use c_emit::drafts::{AS_THEY_ARE, Target, Ways};
 use c_emit::output::Output;
 use c_emit::uses::{Spot, Use};
 use c_scopes::kinds::CType;
+use c_simples::types::type_of;
 use c_tree::{Block, Place};
 use c_values::context::Context;
-use shape_data::copy_of;
-use shape_data::program::{Cmd, Operand, Ty};
+use shape_data::program::{Cmd, Operand};
 use std::alloc::AllocError;
-
-/// The type as data of its own.
-fn type_of(kind: CType) -> Result<Ty, AllocError>
-    ensures { IfOk result (λ ty. ty ≡ type_seen kind.entry) }
-{
-    match kind {
-        CType::Int => Ok(Ty::Int),
-        CType::Pointer(tag) => Ok(Ty::Ptr(copy_of(tag)?)),
-        CType::Void => Ok(Ty::Void),
-    }
-}
 
 /// Any value of the type is returned.
 fn close_with_value<'a>(

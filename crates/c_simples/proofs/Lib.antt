@@ -4,4 +4,4 @@ mod Zeroing
 mod Walking
 mod Trees
 mod Locals
-mod Within
+pub mod Within

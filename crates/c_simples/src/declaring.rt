@@ -16,6 +16,7 @@ ghost use Rattle.c_values.specs.Contexts.{on_line, IsWithin};
 ghost use Rattle.c_simples.specs.Simples.{EmitsPiece};
 ghost use Rattle.c_simples.specs.Declaring.{state, Declares};
 
+use crate::types::type_of;
 use c_emit::drafts::Target;
 use c_emit::output::Output;
 use c_emit::uses::Use;
@@ -25,20 +26,8 @@ use c_statements::locals::place_of_specifier;
 use c_tree::{Expr, Initialized, Local, Place, TypeSpecifier};
 use c_values::context::{Context, known};
 use c_values::values::lower;
-use shape_data::copy_of;
-use shape_data::program::{Cmd, Ty};
+use shape_data::program::Cmd;
 use std::alloc::AllocError;
-
-/// The type as data of its own.
-fn type_of(kind: CType) -> Result<Ty, AllocError>
-    ensures { IfOk result (λ found. found ≡ type_seen kind.entry) }
-{
-    match kind {
-        CType::Int => Ok(Ty::Int),
-        CType::Pointer(tag) => Ok(Ty::Ptr(copy_of(tag)?)),
-        CType::Void => Ok(Ty::Void),
-    }
-}
 
 /// The slot holds any value of the type.
 fn any<'a>(line: u32, to: u32, kind: CType<'a>, out: &mut Output<'a>) -> Result<(), AllocError>

@@ -15,7 +15,8 @@ use Rattle.c_blocks.specs.Laying.{state, EmitsLowered, EmitsWithin}
 use Rattle.c_blocks.proofs.Branching.{jumped, if_laid, if_else_laid}
 use Rattle.c_blocks.proofs.Rounds.{while_laid, do_laid, for_laid}
 use Rattle.c_blocks.proofs.Rows.{stmts_turn, numbers_at, one_more}
-use Rattle.c_blocks.proofs.Scopes.{within_then, entered_within}
+use Rattle.c_simples.proofs.Within.{within_then}
+use Rattle.c_blocks.proofs.Scopes.{entered_within}
 use Rattle.c_blocks.proofs.Trees.{local_is, simple_is, break_is, continue_is, return_is}
 use Rattle.c_blocks.proofs.stmts.+stmts.Goals as goal
 
