@@ -17,6 +17,7 @@ pub record Places : Type 0 where
   pub holds : ℕ
   pub fails : ℕ
 
+-- the exits of code, those of a test left aside
 abbrev pub exits : Places → Exits
 exits p = record { next = p.next; breaks = p.breaks; continues = p.continues }
 
@@ -24,6 +25,7 @@ exits p = record { next = p.next; breaks = p.breaks; continues = p.continues }
 abbrev pub at_start : Places
 at_start = record { next = 0; breaks = 0; continues = 0; holds = 0; fails = 0 }
 
+-- the place that a target is
 abbrev pub resolve : Places → Target → ℕ
 resolve p (At place) = place
 resolve p Next = p.next
@@ -32,6 +34,7 @@ resolve p Continues = p.continues
 resolve p Holds = p.holds
 resolve p Fails = p.fails
 
+-- the target that a way leads to
 abbrev pub redirect : Ways → Target → Target
 redirect w (At place) = At place
 redirect w Next = w.next
@@ -48,6 +51,7 @@ as_they_are = record { next = Next; breaks = Breaks; continues = Continues; hold
 abbrev pub next_at : Target → Ways
 next_at begin = record as_they_are { next = begin }
 
+-- a draft whose exits lead where the ways say
 abbrev pub redirected : Ways → Draft → Draft
 redirected w d = record d { next = redirect w d.next; other = redirect w d.other }
 

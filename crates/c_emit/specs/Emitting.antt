@@ -87,6 +87,7 @@ pub record Makes (making : Making) (cmd : Cmd) (old new : Out) : Type 0 where
   pub before : EmitsStraight making.code making.temps old new
   pub is : (to next other : ℕ) → aimed (put_to cmd to) next other ≡ making.make to next
 
+-- the code before a command was emitted, where there is room for it, and this is the command
 abbrev pub EmitsMaking : Making → Cmd → ℕ → Out → Out → Type 0
 EmitsMaking making cmd first old new = HasRoom first making.code.size old → Makes making cmd old new
 

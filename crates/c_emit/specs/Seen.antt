@@ -3,5 +3,6 @@ use Rattle.c_lowering.specs.Temporaries as temporaries
 use Rattle.c_scopes.specs.Seen.{type_seen}
 use Rattle.c_emit.specs.declared.output.Temp.{Temp}
 
+-- a temporary
 abbrev pub temp_seen : Temp → temporaries.Temp
 temp_seen temp = record { kind = type_seen temp.kind; used = temp.used }

@@ -26,6 +26,7 @@ pub record Loop : Type 0 where
   pub past : ℕ
   pub visible : List ℕ
 
+-- code that may be left by its exits, laid from a place on
 pub record Code : Type 0 where
   -- how many nodes it has
   pub size : ℕ
@@ -52,6 +53,7 @@ node line command = record { line = line; cmd = command; head = None }
 abbrev pub jump : (Exits → ℕ) → Code
 jump exit = record { size = 0; entry = λ at exits. exit exits; nodes = λ at exits. []; loops = λ at. [] }
 
+-- no node: a run goes on behind it
 abbrev pub nothing : Code
 nothing = jump (λ exits. exits.next)
 
@@ -76,6 +78,7 @@ one ⨾ other = record {
 
 -- STRAIGHT CODE
 
+-- no node
 abbrev pub no_nodes : Straight
 no_nodes = record { size = 0; nodes = λ at. [] }
 
@@ -100,6 +103,7 @@ before ⊳ code = record {
 
 -- TESTS
 
+-- one node that compares two operands; `pointers` says whether one of them is a pointer
 abbrev pub branch : ℕ → TestOp → Bool → Operand → Operand → Test
 branch line compare pointers left right = record {
   size = 1;
@@ -180,11 +184,12 @@ repeat_first visible body test = record {
 
 -- PROCEDURES
 
--- a run of a procedure begins at node 0. Where a `do` is left by `break` or `continue` before its first node, the code begins at
--- another node; then a test that always holds stands before it
+-- a run of a procedure begins at node 0. Code that begins with a `do` may begin at another node than its first, since `break` leaves the
+-- `do` before any node of it, or `continue` goes past nodes to its test; then a test that always holds stands before the code
 abbrev pub begun_at : ℕ → Code → Code
 begun_at zero code = code
 begun_at entry code = choose (branch 0 op.Ne false (Num (pos 1)) (Num (pos 0))) nothing nothing ⨾ code
 
+-- a procedure's code, its run beginning at node 0
 abbrev pub begun : Code → Code
 begun code = begun_at (code.entry 0 (onto 0)) code

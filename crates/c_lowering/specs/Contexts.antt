@@ -13,6 +13,7 @@ pub record Bound : Type 0 where
   pub name : List ℕ
   pub slot : ℕ
 
+-- what a place of a body is lowered with
 pub record Context : Type 0 where
   -- what names mean to the typing rules
   pub env : Env
@@ -27,6 +28,7 @@ pub record Context : Type 0 where
   pub first_line : ℕ
   pub line : ℕ
 
+-- the slot of the first of these variables that has the name
 abbrev pub slot_in : List Bound → List ℕ → ℕ
 slot_in [] n = 0
 slot_in (first ∷ others) n = if bytes_eq first.name n then first.slot else slot_in others n
@@ -35,6 +37,7 @@ slot_in (first ∷ others) n = if bytes_eq first.name n then first.slot else slo
 abbrev pub slot_of : Context → Name → ℕ
 slot_of c n = slot_in c.bound n.text
 
+-- the slot of a variable in scope
 abbrev pub slot_of_bound : Bound → ℕ
 slot_of_bound one = one.slot
 
@@ -55,10 +58,12 @@ abbrev pub tag_of : Ty → List ℕ
 tag_of (Ptr tag) = tag
 tag_of _ = codes "_"
 
+-- the place of the first of these fields that has the name
 abbrev pub place_in : List FieldKind → List ℕ → ℕ
 place_in [] n = 0
 place_in (first ∷ others) n = if bytes_eq first.name.text n then 0 else suc (place_in others n)
 
+-- the place of a field in the structure that was found
 abbrev pub place_by : Tables → Option Structure → List ℕ → ℕ
 place_by tables None n = 0
 place_by tables (Some found) n = place_in (field_kinds tables found.lines) n

@@ -9,6 +9,7 @@ use Rattle.c_typing.specs.Examples.{at, named, variable, node, plain_name, point
 use Rattle.c_typing.specs.Tables.{declared_by}
 use Rattle.c_lowering.specs.Programs.{flow_of}
 
+-- `int f(struct node *p)`
 abbrev pub head : Head
 head = record {
   specifier = Specifier.Int (at 1);
@@ -16,10 +17,12 @@ head = record {
   params = Params.Listed (record { specifier = Specifier.Struct (at 7) (named (codes "node") 14); stars = 1; name = Some (named (codes "p") 20) }) [];
 }
 
+-- statements as a body
 abbrev pub body : List Stmt → Stmts
 body [] = Stmts.NoStmts
 body (first ∷ others) = Stmts.Next first (body others)
 
+-- the place of the closing brace
 abbrev pub end : Place
 end = record { line = 5; column = 1 }
 
@@ -27,6 +30,7 @@ end = record { line = 5; column = 1 }
 abbrev pub nodes : List Stmt → List Node
 nodes statements = (flow_of (declared_by (node ∷ [])) head (body statements) end).nodes
 
+-- `p`
 abbrev pub p : Expr
 p = variable (codes "p") 1
 
@@ -34,9 +38,11 @@ p = variable (codes "p") 1
 abbrev pub p_v : Expr
 p_v = Expr.Members p (named (codes "v") 4) []
 
+-- `p->n`
 abbrev pub p_n : Expr
 p_n = Expr.Members p (named (codes "n") 4) []
 
+-- `LEFT = RIGHT;`
 abbrev pub assign : Expr → Expr → Stmt
 assign left right = Stmt.Do (Simple.Assign left AssignOp.Set right)
 
@@ -56,6 +62,7 @@ node_local name value = record {
 abbrev pub new_node : Expr
 new_node = Expr.Malloc (at 1) None (Specifier.Struct (at 15) (named (codes "node") 22))
 
+-- `return VALUE;`
 abbrev pub returns : Expr → Stmt
 returns value = Stmt.Return (at 1) (Some value)
 
@@ -63,8 +70,10 @@ returns value = Stmt.Return (at 1) (Some value)
 abbrev pub step : Cmd → Node
 step command = record { line = 0; cmd = command; head = None }
 
+-- a node on the brace's line
 abbrev pub closing : Cmd → Node
 closing command = record { line = 4; cmd = command; head = None }
 
+-- a node on line 1 that is a loop's head
 abbrev pub loop : List ℕ → List ℕ → Cmd → Node
 loop ints dead command = record { line = 0; cmd = command; head = Some (record { ints = ints; dead = dead }) }

@@ -13,8 +13,8 @@ use Rattle.c_lowering.specs.Texts.{IsText}
 use Rattle.c_lowering.specs.Programs.{first_too_large, program_of}
 use Rattle.c_lowering.specs.Examples.{body, nodes, p, p_v, p_n, assign, int_local, node_local, new_node, returns, step, closing, loop}
 
--- the program that files are is well formed, where nothing is refused in them, one name is given for each, and structures and
--- procedures can be counted
+-- the program that files are is well formed, where nothing is refused in them, they have what every file that was parsed has
+-- (`Texts`), one name is given for each, and structures and procedures can be counted
 abbrev pub HaveWellFormed : Type 0
 HaveWellFormed =
     (names : List (List ℕ)) (files : List File) → IsWellTyped files → first_too_large files ≡ None → All IsText files → length names ≡ length files

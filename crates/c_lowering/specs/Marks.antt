@@ -8,9 +8,10 @@ use Rattle.shape_data.specs.declared.program.Ty.{Ty}
 use Rattle.shape_data.specs.declared.program.Ty.TheVariants.{Int}
 use Rattle.c_lowering.specs.Code.{Loop}
 
-abbrev pub is_number : Option ℕ → ℕ → Bool
-is_number None n = false
-is_number (Some one) n = one == n
+-- the result of a call goes to the slot
+abbrev pub goes_to : Option ℕ → ℕ → Bool
+goes_to None n = false
+goes_to (Some one) n = one == n
 
 -- a command assigns the slot
 abbrev pub assigns : Cmd → ℕ → Bool
@@ -19,7 +20,7 @@ assigns (cmd.Arith to op left right next) slot = to == slot
 assigns (cmd.Any to kind next) slot = to == slot
 assigns (cmd.Load to base kind field next) slot = to == slot
 assigns (cmd.New to kind next) slot = to == slot
-assigns (cmd.Call to callee args next) slot = is_number to slot
+assigns (cmd.Call to callee args next) slot = goes_to to slot
 assigns _ slot = false
 
 -- some node assigns the slot
@@ -36,6 +37,7 @@ abbrev pub assigned_in : List Node → List Loop → ℕ → Bool
 assigned_in nodes [] slot = false
 assigned_in nodes (first ∷ others) slot = assigned (nodes_of nodes first) slot || assigned_in nodes others slot
 
+-- the type is `int`
 abbrev pub is_int : Ty → Bool
 is_int Int = true
 is_int _ = false
@@ -46,6 +48,7 @@ slots_that passes slot [] = []
 slots_that passes slot (kind ∷ kinds) =
     if passes slot kind then slot ∷ slots_that passes (suc slot) kinds else slots_that passes (suc slot) kinds
 
+-- the slot is one of these
 abbrev pub is_listed : List ℕ → ℕ → Bool
 is_listed [] n = false
 is_listed (first ∷ others) n = (first == n) || is_listed others n
@@ -58,6 +61,7 @@ mark slots nodes first others = record {
   dead = slots_that (λ slot kind. not (is_listed first.visible slot)) 0 slots;
 }
 
+-- the mark that the loops with their head at a node give it, if there are any
 abbrev pub mark_by : List Ty → List Node → List Loop → Option HeadMark
 mark_by slots nodes [] = None
 mark_by slots nodes (first ∷ others) = Some (mark slots nodes first others)
@@ -73,5 +77,6 @@ marked_from slots nodes loops place [] = []
 marked_from slots nodes loops place (first ∷ others) =
     record first { head = mark_by slots nodes (loops_at place loops) } ∷ marked_from slots nodes loops (suc place) others
 
+-- all nodes, with the marks of these loops
 abbrev pub marked : List Ty → List Loop → List Node → List Node
 marked slots loops nodes = marked_from slots nodes loops 0 nodes

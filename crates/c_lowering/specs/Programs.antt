@@ -25,6 +25,7 @@ use Rattle.c_lowering.specs.Marks.{marked}
 
 -- PROCEDURES
 
+-- a parameter as a variable in scope, before others; one without a name is none
 abbrev pub bound_param : ℕ → Option Name → List Bound → List Bound
 bound_param slot None behind = behind
 bound_param slot (Some n) behind = record { name = n.text; slot = slot } ∷ behind
@@ -34,9 +35,11 @@ abbrev pub bound_params : ℕ → List Param → List Bound → List Bound
 bound_params slot [] behind = behind
 bound_params slot (first ∷ others) behind = bound_params (suc slot) others (bound_param slot first.name behind)
 
+-- the types of the parameters
 abbrev pub param_types : Tables → Head → List Ty
 param_types tables head = map (λ p. known (param_kind tables p)) (listed head.params)
 
+-- the type of the result
 abbrev pub result_type : Tables → Head → Ty
 result_type tables head = known (kind_of_result tables head)
 
@@ -64,6 +67,7 @@ abbrev pub closed_by : Ty → Context → List Temp → Lowered → Lowered
 closed_by Void c temps l = record { code = l.code ⨾ command c.line (λ next. cmd.Return (Num (pos 0))); behind = l.behind }
 closed_by kind c temps l = any_value c kind (take_temp kind temps) l
 
+-- what closes a body that ends with these temporaries and this line
 abbrev pub closed_from : Ty → State → Lowered → Lowered
 closed_from result here l = closed_by result here.context here.temps l
 
@@ -75,11 +79,13 @@ closed result place l = closed_from result (from_place l.behind place) l
 abbrev pub opened : Lowered → Lowered
 opened l = record l { code = begun l.code }
 
+-- a body as the code of its procedure
 abbrev pub lowered_body : Tables → Head → Stmts → Place → Lowered
 lowered_body tables head body place =
     opened (closed (result_type tables head) place
     (stmts body (record { temps = []; locals = 0; context = at_body tables head (length (stmts_kinds tables body)) })))
 
+-- the type of a temporary
 abbrev pub temp_kind : Temp → Ty
 temp_kind temp = temp.kind
 
@@ -87,6 +93,7 @@ temp_kind temp = temp.kind
 abbrev pub slot_types : Tables → Head → Stmts → List Temp → List Ty
 slot_types tables head body temps = param_types tables head ++ stmts_kinds tables body ++ map temp_kind temps
 
+-- the text of a name
 abbrev pub name_text : Name → List ℕ
 name_text n = n.text
 
@@ -100,35 +107,45 @@ flow_by tables head body l = record {
   nodes = marked (slot_types tables head body l.behind.temps) (l.code.loops 0) (l.code.nodes 0 (onto 0));
 }
 
+-- the flow form of a procedure
 abbrev pub flow_of : Tables → Head → Stmts → Place → Flow
 flow_of tables head body place = flow_by tables head body (lowered_body tables head body place)
 
 -- WHAT IS TOO LARGE, and where that is refused
 
+-- how many nodes a procedure may have
 abbrev pub MOST_NODES : ℕ
 MOST_NODES = 512
 
+-- how many parameters and locals together
 abbrev pub MOST_LOCALS : ℕ
 MOST_LOCALS = 32
 
+-- how many temporaries
 abbrev pub MOST_TEMPORARIES : ℕ
 MOST_TEMPORARIES = 16
 
+-- how many parameters
 abbrev pub MOST_PARAMETERS : ℕ
 MOST_PARAMETERS = 8
 
+-- how many fields a structure may have
 abbrev pub MOST_FIELDS : ℕ
 MOST_FIELDS = 16
 
+-- the code of more nodes
 abbrev pub NODES : ℕ
 NODES = 131
 
+-- the code of more locals or temporaries
 abbrev pub SLOTS : ℕ
 SLOTS = 132
 
+-- the code of more parameters
 abbrev pub PARAMETERS : ℕ
 PARAMETERS = 133
 
+-- the code of more fields
 abbrev pub FIELDS : ℕ
 FIELDS = 134
 
@@ -140,9 +157,11 @@ size_refusals tables head body l =
     ++ unless (nat_le (length l.behind.temps) MOST_TEMPORARIES) (place_of_head head) SLOTS
     ++ unless (nat_le (length (listed head.params)) MOST_PARAMETERS) (place_of_head head) PARAMETERS
 
+-- a structure, at the first token of its declaration, `typedef` included
 abbrev pub fields_refusals : Place → List Fields → List Refusal
 fields_refusals place lines = unless (nat_le (length (field_names lines)) MOST_FIELDS) place FIELDS
 
+-- an item: only structures and definitions of procedures may be too large
 abbrev pub item_refusals : Tables → Item → List Refusal
 item_refusals tables (Item.StructItem place tag lines) = fields_refusals place lines
 item_refusals tables (Item.TypedefStruct place tag lines alias) = fields_refusals place lines
@@ -150,10 +169,12 @@ item_refusals tables (Item.TypedefAlias place tag alias) = []
 item_refusals tables (Item.Prototype head) = []
 item_refusals tables (Item.Definition head place body end) = size_refusals tables head body (lowered_body tables head body end)
 
+-- items in their order
 abbrev pub items_refusals : Tables → List Item → List Refusal
 items_refusals tables [] = []
 items_refusals tables (first ∷ others) = item_refusals tables first ++ items_refusals tables others
 
+-- files in their order, numbered from one on
 abbrev pub files_refusals : Tables → ℕ → List File → List At
 files_refusals tables unit [] = []
 files_refusals tables unit (file ∷ files) = map (in_unit unit) (items_refusals tables file.items) ++ files_refusals tables (suc unit) files
@@ -164,13 +185,16 @@ first_too_large files = first_of (files_refusals (tables_of files) 0 files)
 
 -- PROGRAMS
 
+-- a procedure: its flow form, its file, and the line of its first token
 abbrev pub proc_of : Tables → List ℕ → Head → Stmts → Place → Proc
 proc_of tables file head body end = record { flow = flow_of tables head body end; file = file; line = (place_of_head head).line }
 
+-- the procedure that an item defines, if it defines one
 abbrev pub item_procs : Tables → List ℕ → Item → List Proc
 item_procs tables file (Item.Definition head place body end) = proc_of tables file head body end ∷ []
 item_procs tables file _ = []
 
+-- the procedures that items define, in their order
 abbrev pub items_procs : Tables → List ℕ → List Item → List Proc
 items_procs tables file [] = []
 items_procs tables file (first ∷ others) = item_procs tables file first ++ items_procs tables file others

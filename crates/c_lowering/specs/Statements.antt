@@ -26,6 +26,7 @@ pub data Target : Type 0 where
   Variable : ℕ → Target
   Member : Lowering → Field → Target
 
+-- the last of one or more members, behind a pointer
 abbrev pub member_target : Context → Lowering → Name → List Name → Target
 member_target c base field [] = Member base (field_behind c base.kind field)
 member_target c base field (next ∷ others) = member_target c (member c base (field_behind c base.kind field)) next others
@@ -54,6 +55,7 @@ assign c (Member base field) value temps =
 abbrev pub field_at_hand : Context → Field → Operand → Lowering
 field_at_hand c field pointer = made c field.kind (λ temps. load_by field (record { code = no_nodes; operand = pointer; temps = temps }))
 
+-- the pointer, then the new value, then the store
 abbrev pub store_back : Context → Field → Value → Value → Piece
 store_back c field base value = record {
   code = (base.code ⊹ value.code) ⊳ command c.line (cmd.Store (slot_read base.operand) field.tag field.place value.operand);
@@ -66,19 +68,23 @@ update c (Variable to) op by temps = (arithmetic c op (at_hand c Int (Slot to)) 
 update c (Member base field) op by temps =
     base.value temps ▹ (λ b. (arithmetic c op (field_at_hand c field b.operand) by).value b.temps ▹ (λ v. store_back c field b v))
 
+-- the assignment that its operator says
 abbrev pub assign_by : Context → Target → AssignOp → Expr → List Temp → Piece
 assign_by c to AssignOp.Set value temps = assign c to value temps
 assign_by c to AssignOp.AddTo value temps = update c to arith.Add (lowering c value) temps
 assign_by c to AssignOp.SubtractFrom value temps = update c to arith.Sub (lowering c value) temps
 assign_by c to AssignOp.MultiplyBy value temps = update c to arith.Mul (lowering c value) temps
 
+-- what `++` and `--` do to what they step
 abbrev pub step_by : StepOp → ArithOp
 step_by StepOp.Increment = arith.Add
 step_by StepOp.Decrement = arith.Sub
 
+-- a call as a statement: no slot takes its result (C11 6.5.2.2)
 abbrev pub call : Context → Name → Arguments → Piece
 call c callee args = record { code = args.code ⊳ command c.line (cmd.Call None callee.text args.operands); temps = args.temps }
 
+-- behind code, 0 goes into the temporary that was taken
 abbrev pub zero_in : Context → Straight → Taken → Piece
 zero_in c code taken = record { code = code ⊳ command c.line (cmd.Copy (slot_taken c taken) (Num (pos 0))); temps = taken.temps }
 
@@ -87,15 +93,18 @@ abbrev pub free_by : Context → Ty → Straight → Operand → List Temp → P
 free_by c kind code (Slot slot) temps = record { code = code ⊳ command c.line (cmd.Free slot (tag_of kind)); temps = temps }
 free_by c kind code (Num n) temps = zero_in c code (take_temp Int temps)
 
+-- the pointer, then the command
 abbrev pub free : Context → Lowering → List Temp → Piece
 free c pointer temps = pointer.value temps ▹ (λ v. free_by c pointer.kind v.code v.operand v.temps)
 
+-- an assignment, a step, a call or a `free`
 abbrev pub simple : Context → Simple → List Temp → Piece
 simple c (Simple.Assign left op right) temps = assign_by c (target c left) op right temps
 simple c (Simple.Step left op) temps = update c (target c left) (step_by op) (at_hand c Int (Num (pos 1))) temps
 simple c (Simple.Perform callee args) temps = call c callee (arguments (no_arguments temps) (lowerings c args))
 simple c (Simple.Free place pointer) temps = free c (lowering c pointer) temps
 
+-- the first token of a simple statement
 abbrev pub place_of_simple : Simple → Place
 place_of_simple (Simple.Assign left op right) = place_of_expr left
 place_of_simple (Simple.Step left op) = place_of_expr left
@@ -110,6 +119,7 @@ pub record State : Type 0 where
   pub locals : ℕ
   pub context : Context
 
+-- the code of a piece of text, and what stands behind it
 pub record Lowered : Type 0 where
   pub code : Code
   pub behind : State
@@ -124,6 +134,7 @@ abbrev pub initial : Context → ℕ → Ty → Option Expr → List Temp → Pi
 initial c to kind None temps = record { code = command c.line (cmd.Any to kind); temps = temps }
 initial c to kind (Some value) temps = (lowering c value).into to temps
 
+-- one declarator, with its initializer
 abbrev pub local : Specifier → Initialized → State → Lowered
 local specifier one before =
     initial (with_local before.context before.locals specifier one) (before.context.first_local + before.locals)
@@ -133,12 +144,15 @@ local specifier one before =
       behind = record { temps = piece.temps; locals = suc before.locals; context = with_local before.context before.locals specifier one };
     })
 
+-- one piece of text behind another
 abbrev pub joined : Lowered → Lowered → Lowered
 joined one other = record { code = one.code ⨾ other.code; behind = other.behind }
 
+-- what has no code and declares nothing
 abbrev pub no_code : State → Lowered
 no_code before = record { code = nothing; behind = before }
 
+-- declarators in the order of the text
 abbrev pub locals : Specifier → List Initialized → State → Lowered
 locals specifier [] before = no_code before
 locals specifier (first ∷ others) before =
@@ -158,13 +172,16 @@ from_place before place = record before { temps = released before.temps; context
 abbrev pub with_names : State → State → State
 with_names before behind = record behind { context = before.context }
 
+-- a piece whose scope ends with it
 abbrev pub scope_left : State → Lowered → Lowered
 scope_left before l = record { code = l.code; behind = with_names before l.behind }
 
+-- a simple statement that begins with these temporaries and this line
 abbrev pub simple_from : State → State → Simple → Lowered
 simple_from before here s =
     simple here.context s here.temps ▹ (λ piece. record { code = piece.code; behind = record before { temps = piece.temps } })
 
+-- a condition that begins with these temporaries and this line
 abbrev pub condition_from : State → Expr → Tested
 condition_from here e = (lowering here.context e).test here.temps
 
@@ -177,6 +194,7 @@ abbrev pub for_condition : State → Place → Option Expr → Tested
 for_condition before place None = condition_from (from_place before place) (Expr.Number place 1)
 for_condition before place (Some e) = condition before e
 
+-- the same place, with these temporaries
 abbrev pub with_temps : State → List Temp → State
 with_temps before temps = record before { temps = temps }
 
@@ -190,6 +208,7 @@ for_init before place ForInit.NoInit = no_code before
 for_init before place (ForInit.Locals l) = declaration l (from_place before place)
 for_init before place (ForInit.Once s) = simple_from before (from_place before place) s
 
+-- the step of a `for`: its nodes have the line of its own first token
 abbrev pub for_step : State → Option Simple → Lowered
 for_step before None = no_code before
 for_step before (Some s) = simple_from before (from_place before (place_of_simple s)) s
@@ -198,10 +217,12 @@ for_step before (Some s) = simple_from before (from_place before (place_of_simpl
 abbrev pub return_value : Context → Value → Piece
 return_value c v = record { code = v.code ⊳ command c.line (λ next. cmd.Return v.operand); temps = v.temps }
 
+-- the value is returned, or 0 where there is none
 abbrev pub returned : Context → Option Expr → List Temp → Piece
 returned c None temps = record { code = command c.line (λ next. cmd.Return (Num (pos 0))); temps = temps }
 returned c (Some value) temps = return_value c ((wanted c c.result value).value temps)
 
+-- a `return` that begins with these temporaries and this line
 abbrev pub return_from : State → State → Option Expr → Lowered
 return_from before here value =
     returned here.context value here.temps ▹ (λ piece. record { code = piece.code; behind = record before { temps = piece.temps } })
@@ -240,25 +261,30 @@ abbrev mutual
   stmt (Stmt.Continue place) before = record { code = jump (λ exits. exits.continues); behind = before }
   stmt (Stmt.Return place value) before = return_from before (from_place before place) value
 
+  -- statements in the order of the text
   pub stmts : Stmts → State → Lowered
   stmts Stmts.NoStmts before = no_code before
   stmts (Stmts.Next first others) before = stmt first before ▹ (λ one. joined one (stmts others one.behind))
 
 -- THE LOCALS OF A BODY, in the order of the text: their types
 
+-- the types of declarators
 abbrev pub kinds_of_locals : Tables → Specifier → List Initialized → List Ty
 kinds_of_locals tables specifier [] = []
 kinds_of_locals tables specifier (first ∷ others) =
     known (object_kind tables specifier first.declarator.stars) ∷ kinds_of_locals tables specifier others
 
+-- those of a declaration
 abbrev pub declared_kinds : Tables → Local → List Ty
 declared_kinds tables l = kinds_of_locals tables l.specifier (l.first ∷ l.others)
 
+-- those of what a `for` begins with
 abbrev pub init_kinds : Tables → ForInit → List Ty
 init_kinds tables (ForInit.Locals l) = declared_kinds tables l
 init_kinds tables _ = []
 
 abbrev mutual
+  -- those in a statement
   pub stmt_kinds : Tables → Stmt → List Ty
   stmt_kinds tables (Stmt.Block place body end) = stmts_kinds tables body
   stmt_kinds tables (Stmt.Declare l) = declared_kinds tables l
@@ -269,6 +295,7 @@ abbrev mutual
   stmt_kinds tables (Stmt.For place first e step body) = init_kinds tables first ++ stmt_kinds tables body
   stmt_kinds tables _ = []
 
+  -- those in statements
   pub stmts_kinds : Tables → Stmts → List Ty
   stmts_kinds tables Stmts.NoStmts = []
   stmts_kinds tables (Stmts.Next first others) = stmt_kinds tables first ++ stmts_kinds tables others

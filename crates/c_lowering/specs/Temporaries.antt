@@ -8,6 +8,7 @@ pub record Temp : Type 0 where
   pub kind : Ty
   pub used : Bool
 
+-- the temporary, not used by what begins
 abbrev pub released_one : Temp → Temp
 released_one temp = record temp { used = false }
 
@@ -20,9 +21,11 @@ pub record Taken : Type 0 where
   pub place : ℕ
   pub temps : List Temp
 
+-- what was taken of those behind a first one, among all
 abbrev pub behind_temp : Temp → Taken → Taken
 behind_temp first taken = record { place = suc taken.place; temps = first ∷ taken.temps }
 
+-- a value of the type may take the temporary
 abbrev pub is_free : Ty → Temp → Bool
 is_free kind temp = same_type temp.kind kind && not temp.used
 

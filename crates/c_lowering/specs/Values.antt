@@ -27,6 +27,7 @@ pub record Value : Type 0 where
   pub operand : Operand
   pub temps : List Temp
 
+-- the code of a test, and the temporaries behind it
 pub record Tested : Type 0 where
   pub test : Test
   pub temps : List Temp
@@ -44,6 +45,7 @@ pub record Lowering : Type 0 where
   pub into : ℕ → List Temp → Piece
   pub test : List Temp → Tested
 
+-- the type is a pointer
 abbrev pub is_pointer : Ty → Bool
 is_pointer (Ptr tag) = true
 is_pointer _ = false
@@ -68,6 +70,7 @@ at_hand c kind operand = record {
   test = λ temps. not_zero c kind (record { code = no_nodes; operand = operand; temps = temps });
 }
 
+-- the command puts its value into the slot
 abbrev pub put_into : Context → ℕ → Making → Piece
 put_into c to making = record { code = making.code ⊳ command c.line (making.make to); temps = making.temps }
 
@@ -75,6 +78,7 @@ put_into c to making = record { code = making.code ⊳ command c.line (making.ma
 abbrev pub read_from : ℕ → Code → List Temp → Value
 read_from slot code temps = record { code = straight code; operand = Slot slot; temps = temps }
 
+-- the command puts its value into the temporary that was taken, and the value is read from there
 abbrev pub put_into_temp : Context → Making → Taken → Value
 put_into_temp c making taken = read_from (slot_taken c taken) (put_into c (slot_taken c taken) making).code taken.temps
 
@@ -98,6 +102,7 @@ put_truth c to tested = record {
   temps = tested.temps;
 }
 
+-- what a piece left in the slot, 1 or 0, as a value
 abbrev pub truth_value : ℕ → Piece → Value
 truth_value slot piece = read_from slot piece.code piece.temps
 

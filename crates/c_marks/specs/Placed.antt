@@ -6,6 +6,7 @@ use Rattle.shape_data.specs.declared.program.Ty.{Ty}
 use Rattle.c_lowering.specs.Code.{Loop}
 use Rattle.c_lowering.specs.Marks.{loops_at, mark_by}
 
+-- the first of loops
 abbrev pub first_loop : List Loop → Option Loop
 first_loop [] = None
 first_loop (first ∷ others) = Some first

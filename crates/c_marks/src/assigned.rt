@@ -1,14 +1,14 @@
 //! Which slots the nodes of loops assign.
 ghost use Rattle.std.specs.Prelude.{◌≡◌, ◌==◌, map, take, drop};
-ghost use Rattle.c_lowering.specs.Marks.{is_number, assigns, assigned, nodes_of, assigned_in, loops_at};
+ghost use Rattle.c_lowering.specs.Marks.{goes_to, assigns, assigned, nodes_of, assigned_in, loops_at};
 ghost use Rattle.c_marks.specs.Seen.{loop_seen};
 
 use crate::loops::Loop;
 use shape_data::program::{Cmd, Node};
 
 /// Whether there is a number, and it is this one.
-fn is_number(one: Option<u32>, number: u32) -> bool
-    ensures { result ≡ is_number one number }
+fn goes_to(one: Option<u32>, number: u32) -> bool
+    ensures { result ≡ goes_to one number }
 {
     match one {
         None => false,
@@ -28,7 +28,7 @@ fn assigns(cmd: &Cmd, slot: u32) -> bool
         Cmd::Store { .. } => false,
         Cmd::New { to, .. } => *to == slot,
         Cmd::Free { .. } => false,
-        Cmd::Call { to, .. } => is_number(*to, slot),
+        Cmd::Call { to, .. } => goes_to(*to, slot),
         Cmd::Branch { .. } => false,
         Cmd::Return { .. } => false,
     }

@@ -10,10 +10,12 @@ use Rattle.c_lowering.specs.Numbers.{HasIntNumbers}
 use Rattle.c_simples.specs.declared.updating.Amount.{Amount}
 use Rattle.c_simples.specs.declared.updating.Amount.TheVariants.{One, Of}
 
+-- the amount as an expression
 abbrev pub amount : Context → Amount → Lowering
 amount c One = at_hand c Int (Num (pos 1))
 amount c (Of value) = lowering c (expr_tree value.now)
 
+-- its numbers are values of an int
 abbrev pub AmountHasIntNumbers : Amount → Type 0
 AmountHasIntNumbers One = Unit {0}
 AmountHasIntNumbers (Of value) = HasIntNumbers (expr_tree value.now)

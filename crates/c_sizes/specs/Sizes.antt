@@ -34,6 +34,7 @@ comparison_uses left right = truth_uses (left.value + right.value + 1)
 abbrev pub logical_uses : Uses → Uses → Uses
 logical_uses left right = truth_uses (left.test + right.test)
 
+-- what an operator makes of its operands
 abbrev pub binary_uses : BinaryOp → Uses → Uses → Uses
 binary_uses BinaryOp.Or left right = logical_uses left right
 binary_uses BinaryOp.And left right = logical_uses left right
@@ -93,12 +94,14 @@ abbrev pub update_size : Option ℕ → Uses → ℕ
 update_size None by = by.value + 1
 update_size (Some pointer) by = pointer + by.value + 3
 
+-- the assignment that its operator says
 abbrev pub assign_by_size : AssignOp → Option ℕ → Uses → ℕ
 assign_by_size AssignOp.Set to value = assign_size to value
 assign_by_size AssignOp.AddTo to value = update_size to value
 assign_by_size AssignOp.SubtractFrom to value = update_size to value
 assign_by_size AssignOp.MultiplyBy to value = update_size to value
 
+-- an assignment, a step, a call (C11 6.5.2.2) or a `free` (C11 7.22.3.3)
 abbrev pub simple_size : Simple → ℕ
 simple_size (Simple.Assign left op right) = assign_by_size op (target_size left) (expr_uses right)
 simple_size (Simple.Step left op) = update_size (target_size left) at_hand_uses
@@ -112,10 +115,12 @@ abbrev pub initial_size : Option Expr → ℕ
 initial_size None = 1
 initial_size (Some value) = (expr_uses value).into
 
+-- declarators
 abbrev pub locals_size : List Initialized → ℕ
 locals_size [] = 0
 locals_size (first ∷ others) = initial_size first.value + locals_size others
 
+-- a declaration
 abbrev pub declaration_size : Local → ℕ
 declaration_size l = initial_size l.first.value + locals_size l.others
 
@@ -132,6 +137,7 @@ abbrev pub condition_size : Option Expr → ℕ
 condition_size None = 1
 condition_size (Some e) = (expr_uses e).test
 
+-- the step of a `for`
 abbrev pub step_size : Option Simple → ℕ
 step_size None = 0
 step_size (Some s) = simple_size s
@@ -164,14 +170,17 @@ abbrev mutual
 
 -- HOW MANY LOCALS ARE DECLARED
 
+-- how many locals a declaration declares
 abbrev pub declared : Local → ℕ
 declared l = length l.others + 1
 
+-- how many what a `for` begins with declares
 abbrev pub init_locals : ForInit → ℕ
 init_locals (ForInit.Locals l) = declared l
 init_locals _ = 0
 
 abbrev mutual
+  -- how many a statement declares
   pub stmt_locals : Stmt → ℕ
   stmt_locals (Stmt.Block place body end) = stmts_locals body
   stmt_locals (Stmt.Declare l) = declared l
@@ -182,6 +191,7 @@ abbrev mutual
   stmt_locals (Stmt.For place first e step body) = init_locals first + stmt_locals body
   stmt_locals _ = 0
 
+  -- how many statements declare
   pub stmts_locals : Stmts → ℕ
   stmts_locals Stmts.NoStmts = 0
   stmts_locals (Stmts.Next first others) = stmt_locals first + stmts_locals others

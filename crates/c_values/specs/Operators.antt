@@ -5,6 +5,7 @@ use Rattle.c_lowering.specs.Expressions.{arithmetic, comparison, conjunction, di
 use Rattle.c_values.specs.declared.values.Operation.{Operation}
 use Rattle.c_values.specs.declared.values.Operation.TheVariants.{Arith, Compare, Both, Either}
 
+-- what an operation makes of its operands
 abbrev pub binary_of : Context → Operation → Lowering → Lowering → Lowering
 binary_of c (Arith op) l r = arithmetic c op l r
 binary_of c (Compare op) l r = comparison c op l r

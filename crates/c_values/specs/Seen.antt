@@ -3,6 +3,7 @@ use Rattle.std.specs.Prelude.{List, map, reverse}
 use Rattle.c_lowering.specs.Contexts as contexts
 use Rattle.c_values.specs.declared.context.Bound.{Bound}
 
+-- a variable in scope
 abbrev pub bound_seen : Bound → contexts.Bound
 bound_seen one = record { name = one.name.now; slot = one.slot }
 
