@@ -12,7 +12,7 @@ use Rattle.c_typing.specs.Programs.{tables_of}
 use Rattle.c_typing.proofs.KnownTables.{look_up, all_append}
 use Rattle.c_lowering.specs.Numbers.{IsIntNumber}
 use Rattle.c_lowering.specs.Contexts.{place_in, place_by}
-use Rattle.c_texts.specs.Fields.{ItemHasFewFields, HasFewFields}
+use Rattle.c_texts.specs.Fields.{ItemHasCountableFields, HasCountableFields}
 use Rattle.c_values.specs.Contexts.{FieldsFit}
 
 -- each field has a name
@@ -38,7 +38,7 @@ abbrev HasFew : Structure → Type 0
 HasFew one = IsIntNumber (length (field_names one.lines))
 
 abbrev AllHaveFew : List Item → Type 0
-AllHaveFew items = AllByRecursion ItemHasFewFields items
+AllHaveFew items = AllByRecursion ItemHasCountableFields items
 
 few_structures : (items : List Item) → AllHaveFew items → AllByRecursion HasFew (declared_by items).structures
 few_structures [] h = tt
@@ -61,11 +61,11 @@ by_recursion : {X : Type 0} (P : X → Type 0) (xs : List X) → All P xs → Al
 by_recursion P [] h = tt
 by_recursion P (x ∷ xs) h = (h 0 x (omega arith), by_recursion P xs (λ i d within. h (suc i) d (omega (arith, within))))
 
-items_few : (files : List File) → AllByRecursion HasFewFields files → AllHaveFew (items_of files)
+items_few : (files : List File) → AllByRecursion HasCountableFields files → AllHaveFew (items_of files)
 items_few [] h = tt
-items_few (file ∷ files) h = all_append ItemHasFewFields file.items (items_of files) (by_recursion ItemHasFewFields file.items h.0) (items_few files h.1)
+items_few (file ∷ files) h = all_append ItemHasCountableFields file.items (items_of files) (by_recursion ItemHasCountableFields file.items h.0) (items_few files h.1)
 
-pub fields_fit : (files : List File) → All HasFewFields files → FieldsFit (tables_of files)
+pub fields_fit : (files : List File) → All HasCountableFields files → FieldsFit (tables_of files)
 fields_fit files h = λ tag n.
     place_few (tables_of files) (structure_in (tables_of files).structures tag) n
-    (found_few (tables_of files).structures (few_structures (items_of files) (items_few files (by_recursion HasFewFields files h))) tag)
+    (found_few (tables_of files).structures (few_structures (items_of files) (items_few files (by_recursion HasCountableFields files h))) tag)

@@ -1,4 +1,4 @@
--- What was found in a program so far, and more.
+-- What was found in the part of a program that was read, and what a further part adds.
 use Rattle.std.specs.Prelude.{◌≡◌, ℕ, None, List, [], ◌++◌}
 use Rattle.shape_data.specs.declared.program.Proc.{Proc}
 use Rattle.c_tokens.specs.declared.places.Refusal.{Refusal}
@@ -14,20 +14,24 @@ pub record Part : Type 0 where
   pub refusals : List Refusal
   pub procs : List Proc
 
+-- nothing
 abbrev pub no_part : Part
 no_part = record { refusals = []; procs = [] }
 
 infixr 30 ◌⊹◌
+-- one part, and another behind it
 abbrev pub ◌⊹◌ : Part → Part → Part
 one ⊹ other = record { refusals = one.refusals ++ other.refusals; procs = one.procs ++ other.procs }
 
+-- what is found in an item
 abbrev pub item_part : Tables → List ℕ → Item → Part
 item_part tables file one = record { refusals = item_refusals tables one; procs = item_procs tables file one }
 
+-- what is found in items
 abbrev pub items_part : Tables → List ℕ → List Item → Part
 items_part tables file items = record { refusals = items_refusals tables items; procs = items_procs tables file items }
 
--- what was found before, with what is found in a part: what is too large, and where nothing is the procedures
+-- afterwards stands what stood before, with what is found in a part: the first that is too large, and the procedures, if in the part nothing is too large
 pub record Adds (part : Part) (before after : Building) : Type 0 where
   pub first : after.first ≡ lowered before.first part.refusals
   pub procs : part.refusals ≡ [] → after.procs ≡ before.procs ++ part.procs

@@ -1,4 +1,4 @@
--- When lowering gives which answer.
+-- Which fault lowering may give.
 use Rattle.std.specs.Prelude.{◌≡◌, Some, List}
 use Rattle.c_grammar.specs.Trees.{File}
 use Rattle.c_lowering.specs.Programs.{first_too_large}

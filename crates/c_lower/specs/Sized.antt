@@ -6,6 +6,7 @@ use Rattle.c_typing.specs.Types.{unless}
 use Rattle.c_lowering.specs.Programs.{MOST_NODES, MOST_LOCALS, MOST_TEMPORARIES, MOST_PARAMETERS, NODES, SLOTS, PARAMETERS}
 use Rattle.c_lower.specs.declared.sizes.Sizes.{Sizes}
 
+-- what is refused in such a procedure, whose first token stands there
 abbrev pub refusals_of : Sizes → Place → List Refusal
 refusals_of sizes place =
     unless (nat_le sizes.nodes MOST_NODES) place NODES

@@ -4,7 +4,7 @@ ghost use Rattle.c_tree.specs.Syntax.{unit_tree};
 ghost use Rattle.c_typing.specs.Programs as typing;
 ghost use Rattle.c_types.specs.Typing.{files_of};
 ghost use Rattle.c_lowering.specs.Numbers.{FileHasIntNumbers};
-ghost use Rattle.c_texts.specs.Fields.{HasFewFields};
+ghost use Rattle.c_texts.specs.Fields.{HasCountableFields};
 ghost use Rattle.c_lowering.specs.Programs.{files_refusals, files_procs, first_too_large, program_of};
 ghost use Rattle.c_lower.specs.Lowering.{IsLowerFault};
 
@@ -67,7 +67,8 @@ fn build<'a>(
 
 /// Lowers a program that keeps the typing rules. `files` are the names of its files, one for each unit, in their order; the program has
 /// the structures in the order of their first definitions (C11 6.7.2.1), and the procedures in the order of their definitions (C11
-/// 6.9.1), file by file. Expressions are lowered as C11 6.5 says, operands from the left; statements as 6.8 says.
+/// 6.9.1), file by file. Expressions are lowered as C11 6.5 says, and statements as 6.8 says; operands are
+/// evaluated from the left, an order that C leaves open.
 ///
 /// # Errors
 ///
@@ -76,7 +77,7 @@ pub fn lower(alloc: Global, typed: &Typed, files: &[Name]) -> Result<Program, Lo
     requires names { length files.now ≡ length typed.now.units }
     requires countable { length typed.now.units < 4294967296 }
     requires numbers { All FileHasIntNumbers (files_of typed.now.units) }
-    requires fields { All HasFewFields (files_of typed.now.units) }
+    requires fields { All HasCountableFields (files_of typed.now.units) }
     ensures program { IfOk result (λ program. program ≡ program_of files.now (files_of typed.now.units)) }
     ensures small { IfOk result (λ _. first_too_large (files_of typed.now.units) ≡ None) }
     ensures fault { IfErr result (λ fault. IsLowerFault (files_of typed.now.units) fault) }

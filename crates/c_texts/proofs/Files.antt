@@ -8,7 +8,7 @@ use Rattle.c_grammar.specs.Spelling.{name, item}
 use Rattle.c_typing.specs.Tables.{tag_or}
 use Rattle.c_lowering.specs.Texts.{IsNamed, IsItemNamed, AreItemLines}
 use Rattle.c_lowering.specs.Numbers.{ItemHasIntNumbers}
-use Rattle.c_texts.specs.Fields.{ItemHasFewFields}
+use Rattle.c_texts.specs.Fields.{ItemHasCountableFields}
 use Rattle.c_texts.specs.Laws.{HaveTexts}
 use Rattle.c_texts.proofs.GoodWords.{words_good}
 use Rattle.c_texts.proofs.Steps.{then, ends, a_word, a_word_at, a_name, Shows, all_shown, maybe_shown}
@@ -20,7 +20,7 @@ record IsFitItem (i : Item) : Type 0 where
   named : IsItemNamed i
   lines : AreItemLines i
   numbers : ItemHasIntNumbers i
-  fields : ItemHasFewFields i
+  fields : ItemHasCountableFields i
 
 tag_named : (tag : Option Name) (alias : Name) → IfSome tag IsNamed → IsNamed alias → IsNamed (tag_or tag alias)
 tag_named None alias h k = k
@@ -66,5 +66,5 @@ files_are_texts text tokens file short has (mid, h, k) =
         lines = All-weaker IsFitItem AreItemLines (λ i fit. fit.lines) file.items each;
       };
       numbers = All-weaker IsFitItem ItemHasIntNumbers (λ i fit. fit.numbers) file.items each;
-      fields = All-weaker IsFitItem ItemHasFewFields (λ i fit. fit.fields) file.items each;
+      fields = All-weaker IsFitItem ItemHasCountableFields (λ i fit. fit.fields) file.items each;
     }

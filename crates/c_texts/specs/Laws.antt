@@ -1,4 +1,4 @@
--- What the law of files that were parsed says.
+-- What every file that was parsed has.
 use Rattle.std.specs.Prelude.{ℕ, ◌<◌, List, length}
 use Rattle.c_tokens.specs.declared.token.Token.{Token}
 use Rattle.c_tokens.specs.Grammar.{HasTokens}
@@ -7,13 +7,13 @@ use Rattle.c_grammar.specs.Spelling.{Spells}
 use Rattle.c_grammar.specs.Trees.{File}
 use Rattle.c_lowering.specs.Texts.{IsText}
 use Rattle.c_lowering.specs.Numbers.{FileHasIntNumbers}
-use Rattle.c_texts.specs.Fields.{HasFewFields}
+use Rattle.c_texts.specs.Fields.{HasCountableFields}
 
 -- what lowering asks of a file
 pub record IsParsed (file : File) : Type 0 where
   pub text : IsText file
   pub numbers : FileHasIntNumbers file
-  pub fields : HasFewFields file
+  pub fields : HasCountableFields file
 
 -- a file that the words of a text spell has all of it, where lines and columns of the text are 32-bit numbers
 abbrev pub HaveTexts : Type 0

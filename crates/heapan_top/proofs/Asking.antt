@@ -5,7 +5,7 @@ use Rattle.std.proofs.lemmas.Fmt.{length-decimal-le}
 use Rattle.shape_data.specs.declared.program.Program.{Program}
 use Rattle.heapan_top.specs.declared.programs.Refused.{Refused}
 use Rattle.heapan_top.specs.Parts.{IsEnding}
-use Rattle.heapan_top.specs.Programs.{IsRefused, IsProgramOf}
+use Rattle.heapan_top.specs.Programs.{IsRefusedFile, IsProgramOf}
 use Rattle.heapan_top.specs.Replies.{Asked, Asks, Nothing, NoProgram, NotYet, Report, all_return}
 use Rattle.heapan_top.specs.Request.{IsRequest}
 use Rattle.heapan_top.proofs.OneProgram.{one_refused, one_program, program_or_refused, refused_or_program}
@@ -13,7 +13,7 @@ use Rattle.heapan_top.proofs.RequestLemmas.{request-IsPut, request_once}
 
 -- what a report on a text of this name is
 data Means (name text : List ℕ) : Asked → Type 0 where
-  no_program : (refused : Refused) → IsRefused name text refused → Means name text (NoProgram name refused)
+  no_program : (refused : Refused) → IsRefusedFile name text refused → Means name text (NoProgram name refused)
   not_yet : (program : Program) → IsProgramOf name text program → all_return program ≡ false → Means name text (NotYet name)
   report : (program : Program) → IsProgramOf name text program → all_return program ≡ true → Means name text (Report program)
 
@@ -70,7 +70,7 @@ module _ (stream : List ℕ) where
       by_program program p true e = (Report program, Asks.report name text program is p e)
       by_program program p false e = (NotYet name, Asks.not_yet name text program is p e)
 
-      by_text : ((refused : Refused) × IsRefused name text refused) ⊎ ((program : Program) × IsProgramOf name text program) → (asked : Asked) × Asks stream asked
+      by_text : ((refused : Refused) × IsRefusedFile name text refused) ⊎ ((program : Program) × IsProgramOf name text program) → (asked : Asked) × Asks stream asked
       by_text (inl (refused, r)) = (NoProgram name refused, Asks.no_program name text refused is r)
       by_text (inr (program, p)) = by_program program p (all_return program) refl
 

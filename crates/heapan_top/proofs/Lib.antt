@@ -7,4 +7,5 @@ pub mod Reporting
 pub mod RequestLemmas
 pub mod Results
 pub mod SessionLemmas
+pub mod Totals
 pub mod Words

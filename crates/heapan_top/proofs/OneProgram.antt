@@ -14,7 +14,7 @@ use Rattle.c_grammar.proofs.OneTree.{one_tree}
 use Rattle.c_grammar.proofs.Refused as words
 use Rattle.c_units.specs.Units.{IsUnitOf, IsRefusedText}
 use Rattle.heapan_top.specs.declared.programs.Refused.{Refused}
-use Rattle.heapan_top.specs.Programs.{IsRefused, IsProgramOf, of_refusal, program_in, refused_in}
+use Rattle.heapan_top.specs.Programs.{IsRefusedFile, IsProgramOf, of_refusal, program_in, refused_in}
 
 pub one_file : (text : List ℕ) (one other : File) → IsUnitOf text one → IsUnitOf text other → one ≡ other
 one_file text one other u v =
@@ -36,7 +36,7 @@ file_or_refused text file refusal u (inr (tokens, has, at)) =
     words.not_both (words_of tokens) file refusal (subst (λ ts. Spells file (words_of ts)) same u.spells) u.levels at
 
 module _ (name text : List ℕ) where
-  pub one_refused : (one other : Refused) → IsRefused name text one → IsRefused name text other → one ≡ other
+  pub one_refused : (one other : Refused) → IsRefusedFile name text one → IsRefusedFile name text other → one ≡ other
   one_refused one other (inl (refusal, r, is)) (inl (refusal', r', is')) =
       is ∙ ap of_refusal (one_refused_text text refusal refusal' r r') ∙ sym is'
   one_refused one other (inl (refusal, r, is)) (inr (file, u, at)) = absurd (file_or_refused text file refusal u r)
@@ -47,28 +47,28 @@ module _ (name text : List ℕ) where
   pub one_program : (one other : Program) → IsProgramOf name text one → IsProgramOf name text other → one ≡ other
   one_program one other p q = p.means ∙ ap (program_in name) (one_file text p.file q.file p.unit q.unit) ∙ sym q.means
 
-  pub program_or_refused : (program : Program) (refused : Refused) → IsProgramOf name text program → IsRefused name text refused → ⊥
+  pub program_or_refused : (program : Program) (refused : Refused) → IsProgramOf name text program → IsRefusedFile name text refused → ⊥
   program_or_refused program refused p (inl (refusal, r, is)) = file_or_refused text p.file refusal p.unit r
   program_or_refused program refused p (inr (file, u, at)) =
       let same : None ≡ Some refused = sym p.accepted ∙ ap (refused_in name) (one_file text p.file file p.unit u) ∙ at in cc
 
   -- and one of the two
-  pub refused_or_program : ((refused : Refused) × IsRefused name text refused) ⊎ ((program : Program) × IsProgramOf name text program)
+  pub refused_or_program : ((refused : Refused) × IsRefusedFile name text refused) ⊎ ((program : Program) × IsProgramOf name text program)
   refused_or_program = at_tokens (either text)
     where
       at_file : (file : File) → IsUnitOf text file → (found : Option Refused) → refused_in name file ≡ found
-          → ((refused : Refused) × IsRefused name text refused) ⊎ ((program : Program) × IsProgramOf name text program)
+          → ((refused : Refused) × IsRefusedFile name text refused) ⊎ ((program : Program) × IsProgramOf name text program)
       at_file file u (Some refused) is = inl (refused, inr (file, u, is))
       at_file file u None is = inr (program_in name file, record { file = file; unit = u; accepted = is; means = refl })
 
       at_words : (tokens : List Token) → HasTokens text tokens
           → ((file : File) × Spells file (words_of tokens) × (file_nesting file ≤ MOST_LEVELS)) ⊎ ((refusal : Refusal) × RefusedAt (words_of tokens) refusal)
-          → ((refused : Refused) × IsRefused name text refused) ⊎ ((program : Program) × IsProgramOf name text program)
+          → ((refused : Refused) × IsRefusedFile name text refused) ⊎ ((program : Program) × IsProgramOf name text program)
       at_words tokens has (inl (file, spells, levels)) =
           at_file file (record { tokens = tokens; has = has; spells = spells; levels = levels }) (refused_in name file) refl
       at_words tokens has (inr (refusal, at)) = inl (of_refusal refusal, inl (refusal, inr (tokens, has, at), refl))
 
       at_tokens : ((tokens : List Token) × HasTokens text tokens) ⊎ ((refusal : Refusal) × Refuses text refusal)
-          → ((refused : Refused) × IsRefused name text refused) ⊎ ((program : Program) × IsProgramOf name text program)
+          → ((refused : Refused) × IsRefusedFile name text refused) ⊎ ((program : Program) × IsProgramOf name text program)
       at_tokens (inl (tokens, has)) = at_words tokens has (words.either tokens (listed text tokens has))
       at_tokens (inr (refusal, r)) = inl (of_refusal refusal, inl (refusal, inl r, refl))

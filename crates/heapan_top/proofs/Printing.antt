@@ -27,7 +27,7 @@ use Rattle.c_lowering.specs.Programs.{first_too_large}
 use Rattle.c_lowering.specs.Texts.{IsText}
 use Rattle.c_texts.specs.Laws.{HaveTexts}
 use Rattle.heapan_top.specs.Headline.{AreValid, PrintsValid}
-use Rattle.heapan_top.specs.Programs.{of_place, of_proc, program_in, refused_in, MOST_PROCEDURES}
+use Rattle.heapan_top.specs.Programs.{IsProgramOf, of_place, of_proc, program_in, refused_in, MOST_PROCEDURES}
 use Rattle.heapan_top.specs.Replies.{Asks, returned_by, returned_at, first_return, spec_of, specs_by, specs_of}
 use Rattle.heapan_top.proofs.Counting.{text_items, structs_few}
 
@@ -126,10 +126,16 @@ module _ (first : HaveFirst) (texts : HaveTexts) (well_formed : HaveWellFormed) 
       let named : IsText file = (texts text unit.tokens file (omega arith) unit.has unit.spells).text in
       well_formed (name ∷ []) (file ∷ []) typed small (All-cons IsText file [] named (All-nil IsText)) refl (omega arith) (omega arith)
 
-  pub printed : (stream : List ℕ) → PrintsValid stream
-  printed stream _ (Asks.report name text program is p all) =
-      let fine : IsProgram program = subst IsProgram (sym p.means) (file-IsProgram name text p.file is.short p.unit p.accepted) in
-      (fine, valid-AreValid program fine)
+  pub accepted : (name text : List ℕ) (program : Program) → length text ≤ 1048576 → IsProgramOf name text program → IsProgram program
+  accepted name text program short p = subst IsProgram (sym p.means) (file-IsProgram name text p.file short p.unit p.accepted)
+
+-- WHAT IS REPORTED ON
+
+pub printed : ((name text : List ℕ) (program : Program) → length text ≤ 1048576 → IsProgramOf name text program → IsProgram program)
+    → (stream : List ℕ) → PrintsValid stream
+printed well_formed stream _ (Asks.report name text program is p all) =
+    let fine = well_formed name text program is.short p in
+    (fine, valid-AreValid program fine)
 
 pub left_prints : (left : Option (List ℕ)) → ((stream : List ℕ) → PrintsValid stream) → IfSome left PrintsValid
 left_prints None printed = tt

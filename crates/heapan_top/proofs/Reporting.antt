@@ -16,7 +16,7 @@ use Rattle.c_lower.specs.Lowering.{IsLowerFault}
 use Rattle.heapan_top.specs.declared.programs.Refused.{Refused}
 use Rattle.heapan_top.specs.declared.status.Status.TheVariants as status
 use Rattle.heapan_top.specs.Parts.{IsProgramFault, IsReply, IsReportOn, asked_by, reply_on, of_front, of_lowering}
-use Rattle.heapan_top.specs.Programs.{IsRefused, IsProgramOf, of_refusal, of_place, of_proc, program_in, refused_in, MOST_PROCEDURES}
+use Rattle.heapan_top.specs.Programs.{IsRefusedFile, IsProgramOf, of_refusal, of_place, of_proc, program_in, refused_in, MOST_PROCEDURES}
 use Rattle.heapan_top.specs.Replies.{Asks, NoProgram, NotYet, Report, all_return, reply_to}
 
 -- PROGRAMS
@@ -51,7 +51,7 @@ module _ (name text : List ℕ) where
     small_refused small = typed_refused ∙ ap (λ o. option_or (option_map of_place o) (option_map of_proc (slice_get (program_in name file).procs MOST_PROCEDURES))) small
 
     pub too_many : (program : Program) (refused : Refused) → first_too_large (file ∷ []) ≡ None → program ≡ program_in name file
-        → Some refused ≡ option_map of_proc (slice_get program.procs MOST_PROCEDURES) → IsRefused name text refused
+        → Some refused ≡ option_map of_proc (slice_get program.procs MOST_PROCEDURES) → IsRefusedFile name text refused
     too_many program refused small is there =
         inr (file, unit, small_refused small ∙ ap (λ (p : Program). option_map of_proc (slice_get p.procs MOST_PROCEDURES)) (sym is) ∙ sym there)
 
@@ -66,7 +66,7 @@ module _ (name text : List ℕ) where
 
   -- REPORTS
 
-  pub refusal-IsReportOn : (bytes : List ℕ) (refused : Refused) → IsRefused name text refused → bytes ≡ reply_to (NoProgram name refused) → IsReportOn name text bytes
+  pub refusal-IsReportOn : (bytes : List ℕ) (refused : Refused) → IsRefusedFile name text refused → bytes ≡ reply_to (NoProgram name refused) → IsReportOn name text bytes
   refusal-IsReportOn bytes refused r same stream is = record {
     asked = NoProgram name refused;
     asks = Asks.no_program name text refused is r;

@@ -54,16 +54,17 @@ AnswersOtherWords old new status.ReadFault = ⊥
 AnswersOtherWords old new status.WriteFault = AppendsSome old new usage_line
 AnswersOtherWords old new status.NoMemory = AppendsSome old new usage_line
 
--- the stream was answered in full
-abbrev pub IsAnswered : Status → Type 0
-IsAnswered status.Done = Unit {0}
-IsAnswered (status.Refused command offset) = Unit {0}
-IsAnswered _ = ⊥
+-- the reading had ended, and a reply was written, in full or up to a fault
+abbrev pub HasReplied : Status → Type 0
+HasReplied status.Done = Unit {0}
+HasReplied (status.Refused command offset) = Unit {0}
+HasReplied status.WriteFault = Unit {0}
+HasReplied _ = ⊥
 
--- a front of the bytes left was read, of at most 1,048,800 bytes; where the stream was answered, that many or all
-abbrev pub Reads : Option (List ℕ) → Option (List ℕ) → Status → Type 0
-Reads old new ended =
-    (bytes : List ℕ) × (old ≡ before_left bytes new) × (length bytes ≤ 1048800) × (IsAnswered ended → IsNothingLeft new ⊎ (length bytes ≡ 1048800))
+-- a front of the bytes left was read, of at most 1,048,800 bytes; where a reply was written, that many or all
+abbrev pub HasRead : Option (List ℕ) → Option (List ℕ) → Status → Type 0
+HasRead old new ended =
+    (bytes : List ℕ) × (old ≡ before_left bytes new) × (length bytes ≤ 1048800) × (HasReplied ended → IsNothingLeft new ⊎ (length bytes ≡ 1048800))
 
 -- each spec that is printed of a procedure of the program, by the procedure's place, is valid for it
 abbrev pub AreValid : Program → Type 0

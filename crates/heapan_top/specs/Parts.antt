@@ -11,7 +11,7 @@ use Rattle.heapan_top.specs.declared.programs.ProgramFault.TheVariants as fault
 use Rattle.heapan_top.specs.declared.status.Status.{Status}
 use Rattle.heapan_top.specs.declared.status.Status.TheVariants as status
 use Rattle.heapan_top.specs.Headline.{Appends, AppendsSome}
-use Rattle.heapan_top.specs.Programs.{IsRefused, of_refusal, of_place}
+use Rattle.heapan_top.specs.Programs.{IsRefusedFile, of_refusal, of_place}
 use Rattle.heapan_top.specs.Replies.{Asked, Asks, Nothing, NotYet, Report, all_return, reply_to}
 use Rattle.heapan_top.specs.Request.{IsRequest}
 
@@ -19,7 +19,7 @@ use Rattle.heapan_top.specs.Request.{IsRequest}
 abbrev pub IsAbsent : ℕ → List ℕ → Type 0
 IsAbsent byte bytes = All (λ b. b ≢ byte) bytes
 
--- `put `, a name with no space in it, a space, digits with no line feed among them, a line feed, and a body
+-- `put `, a name with no space in it, a space, bytes without a line feed for the length, a line feed, and a body
 pub record IsPut (stream name digits body : List ℕ) : Type 0 where
   pub text : stream ≡ codes "put " ++ (name ++ 32 ∷ (digits ++ 10 ∷ body))
   pub no_space : IsAbsent 32 name
@@ -31,17 +31,20 @@ IsEnding ending = (ending ≡ codes "report") ⊎ (ending ≡ codes "report\n")
 
 -- why a file is no program; want of memory says nothing
 abbrev pub IsProgramFault : List ℕ → List ℕ → ProgramFault → Type 0
-IsProgramFault name text (fault.Refused refused) = IsRefused name text refused
+IsProgramFault name text (fault.Refused refused) = IsRefusedFile name text refused
 IsProgramFault name text fault.OutOfMemory = Unit {0}
 
+-- a fault of the parser or of the type checker, as one of the program's
 abbrev pub of_front : FrontFault → ProgramFault
 of_front (front.Refused refusal) = fault.Refused (of_refusal refusal)
 of_front front.OutOfMemory = fault.OutOfMemory
 
+-- a fault of lowering, as one of the program's
 abbrev pub of_lowering : LowerFault → ProgramFault
 of_lowering (lower.Refused at) = fault.Refused (of_place at)
 of_lowering lower.OutOfMemory = fault.OutOfMemory
 
+-- what is asked for by a request whose file is this program, where each of its procedures begins by returning, and where not
 abbrev pub asked_by : List ℕ → Program → Bool → Asked
 asked_by name program true = Report program
 asked_by name program false = NotYet name

@@ -15,7 +15,7 @@ use Rattle.heapan_top.specs.declared.programs.Refused.{Refused}
 abbrev pub MOST_PROCEDURES : ℕ
 MOST_PROCEDURES = 1024
 
--- the code of one more
+-- the code of a file with more procedures
 abbrev pub TOO_MANY : ℕ
 TOO_MANY = 142
 
@@ -23,6 +23,7 @@ TOO_MANY = 142
 abbrev pub of_refusal : Refusal → Refused
 of_refusal refusal = record { line = refusal.line; code = refusal.code }
 
+-- a refusal with its place, but for its unit and its column
 abbrev pub of_place : At → Refused
 of_place at = of_refusal at.refusal
 
@@ -42,8 +43,8 @@ refused_in name file =
     (option_map of_proc (slice_get (program_in name file).procs MOST_PROCEDURES)))
 
 -- the text is refused there: it is no file, or the file that it is is refused
-abbrev pub IsRefused : List ℕ → List ℕ → Refused → Type 0
-IsRefused name text refused =
+abbrev pub IsRefusedFile : List ℕ → List ℕ → Refused → Type 0
+IsRefusedFile name text refused =
     ((refusal : Refusal) × IsRefusedText text refusal × (refused ≡ of_refusal refusal))
     ⊎ ((file : File) × IsUnitOf text file × (refused_in name file ≡ Some refused))
 

@@ -1,6 +1,9 @@
 //! What is true of streams, whatever the program does with them.
-ghost use Rattle.std.specs.Prelude.{◌≡◌, ℕ, List};
+ghost use Rattle.std.specs.Prelude.{◌≡◌, ◌≤◌, ℕ, List, length};
+ghost use Rattle.shape_data.specs.declared.program.Program.{Program};
+ghost use Rattle.shape_data.specs.WellFormed.{IsProgram};
 ghost use Rattle.heapan_top.specs.Headline.{PrintsValid};
+ghost use Rattle.heapan_top.specs.Programs.{IsProgramOf};
 ghost use Rattle.heapan_top.specs.Replies.{Asked, Asks};
 
 use c_lowering::laws::programs_are_well_formed;
@@ -17,11 +20,18 @@ pub fn asked_is_some()
     ensures { (stream : List ℕ) → ((asked : Asked) → Asks stream asked → ⊥) → ⊥ }
 {}
 
-/// A program that is reported on is well formed, and each spec that is printed of a procedure is valid for it.
-pub fn printed_is_valid()
-    ensures { (stream : List ℕ) → PrintsValid stream }
+/// A file in which nothing is refused is a well formed program, whether it is analysed yet or not.
+pub fn accepted_is_well_formed()
+    ensures { (name text : List ℕ) (program : Program) → length text ≤ 1048576 → IsProgramOf name text program → IsProgram program }
 {
     first_refusal();
     parsed_files_are_texts();
     programs_are_well_formed();
+}
+
+/// A program that is reported on is well formed, and each spec that is printed of a procedure is valid for it.
+pub fn printed_is_valid()
+    ensures { (stream : List ℕ) → PrintsValid stream }
+{
+    accepted_is_well_formed();
 }

@@ -1,9 +1,9 @@
 //! The reply to a stream, as a value: its bytes and the status that goes with them. It stands on the parser of
 //! requests, on the reader of programs and on the texts of a report.
 ghost use Rattle.std.specs.Prelude.{◌≡◌, ◌≤◌, ◌++◌, [], length, codes, IfOk, OnOk};
-ghost use Rattle.std.specs.List.{flat_map};
+ghost use Rattle.std.specs.List.{count_by, flat_map};
 ghost use Rattle.heapan_top.specs.Parts.{IsReply, IsReportOn, reply_on};
-ghost use Rattle.heapan_top.specs.Replies.{Report, all_return, block_of, exp_of, first_return, refused_line, reply_to, report_of};
+ghost use Rattle.heapan_top.specs.Replies.{Report, all_return, block_of, exp_of, first_return, refused_line, reply_to, report_of, returns_first, totals_of};
 ghost use Rattle.heapan_top.specs.Request.{IsFileName};
 ghost use Rattle.heapan_top.specs.Text.{line_of};
 
@@ -39,14 +39,18 @@ fn first_return(proc: &Proc) -> Option<Operand>
     }
 }
 
+/// Whether the procedure begins by returning.
+fn returns_first(proc: &Proc) -> bool
+    ensures { result ≡ returns_first proc.now }
+{
+    first_return(proc).is_some()
+}
+
 /// Whether each procedure begins by returning.
 fn all_return(program: &Program) -> bool
     ensures { result ≡ all_return program.now }
 {
-    program
-        .procs
-        .iter()
-        .all(|proc| first_return(proc).is_some())
+    program.procs.iter().all(|proc| returns_first(proc))
 }
 
 /// An operand where a procedure begins, as an expression over the parameters.
@@ -85,13 +89,38 @@ fn push_procs(text: &mut Vec<u8>, procs: &[Proc]) -> Result<(), AllocError>
     Ok(())
 }
 
+/// How many specs are printed of procedures: one of each that begins by returning.
+fn count_specs(procs: &[Proc]) -> usize
+    ensures { result ≡ count_by returns_first procs.now }
+{
+    let mut count = 0;
+    for proc in procs {
+        if returns_first(proc) {
+            count += 1;
+        }
+    }
+    count
+}
+
+/// Appends the total line of procedures.
+fn push_totals(text: &mut Vec<u8>, procs: &[Proc]) -> Result<(), AllocError>
+    ensures { OnOk result (text.new.items ≡ text.old.items ++ totals_of procs.now) }
+{
+    let specs = count_specs(procs);
+    push_total(
+        text,
+        procs.len() as u64,
+        specs as u64,
+        (procs.len() - specs) as u64,
+    )
+}
+
 /// Appends the report on a program.
 fn push_report(text: &mut Vec<u8>, program: &Program) -> Result<(), AllocError>
     ensures { OnOk result (text.new.items ≡ text.old.items ++ report_of program.now) }
 {
     push_procs(text, program.procs.as_slice())?;
-    let count = program.procs.len() as u64;
-    push_total(text, count, count, 0)
+    push_totals(text, program.procs.as_slice())
 }
 
 /// The report on a program whose procedures begin by returning.

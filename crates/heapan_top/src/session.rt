@@ -3,7 +3,7 @@
 ghost use Rattle.std.specs.Prelude.{◌≡◌, ◌≢◌, ◌↔◌, ℕ, IsTrue, IfSome};
 ghost use Rattle.io_ports.specs.Bytes.{IsNothingLeft};
 ghost use Rattle.io_ports.specs.Counts.{Rose};
-ghost use Rattle.heapan_top.specs.Headline.{Answers, AnswersOtherWords, AreRightWords, Completes, PrintsValid, Reads, word_bytes};
+ghost use Rattle.heapan_top.specs.Headline.{Answers, AnswersOtherWords, AreRightWords, Completes, HasRead, PrintsValid, word_bytes};
 ghost use Rattle.heapan_top.specs.Parts.{Ends};
 
 use crate::laws::printed_is_valid;
@@ -61,7 +61,7 @@ fn answer_bytes<K: Sink>(alloc: Global, sink: &mut K, bytes: &[u8]) -> Status
 /// Answers the stream that the source holds.
 fn answer_stream<S: Source, K: Sink>(alloc: Global, source: &mut S, sink: &mut K) -> Status
     ensures answers { IfSome (S.left source.old) (λ stream. Answers stream (K.held sink.old) (K.held sink.new) result) }
-    ensures reads { Reads (S.left source.old) (S.left source.new) result }
+    ensures reads { HasRead (S.left source.old) (S.left source.new) result }
     ensures to_the_end { result ≡ Status.Done → IsNothingLeft (S.left source.new) }
     ensures silent { result ≡ Status.ReadFault → sink.new ≡ sink.old }
     ensures usage { result ≢ Status.Usage }
@@ -87,7 +87,7 @@ pub fn run<S: Source, K: Sink>(
     ensures replies { AreRightWords (word_bytes words.now)
         → IfSome (S.left source.old) (λ stream. Answers stream (K.held sink.old) (K.held sink.new) result.status) }
     ensures reads { AreRightWords (word_bytes words.now)
-        → Reads (S.left source.old) (S.left source.new) result.status }
+        → HasRead (S.left source.old) (S.left source.new) result.status }
     ensures valid { IfSome (S.left source.old) PrintsValid }
     ensures other_words { (AreRightWords (word_bytes words.now) → ⊥)
         → AnswersOtherWords (K.held sink.old) (K.held sink.new) result.status }

@@ -1,5 +1,6 @@
-//! The program over memory. The bytes that are wanted are those of the task, or worked by hand from the definitions.
+//! The program over memory. The bytes that are wanted are those of the README, or worked by hand from the definitions.
 
+mod flows;
 mod tables;
 
 use crate::{Outcome, Status, run};
@@ -9,7 +10,7 @@ use io_ports::{
 use std::alloc::{AllocError, Global};
 use std::process::Abort;
 use std::test::Fail;
-use tables::{REFUSED, REPORTED, REPORTED_TOGETHER};
+use tables::{REFUSED, REFUSED_BELOW, REPORTED, REPORTED_TOGETHER};
 
 /// The first example: what is read, and what is written.
 const IDENTITY: &[u8] = b"put a.c 24\nint id(int a){return a;}report\n";
@@ -120,6 +121,15 @@ fn files_are_refused_by_their_first_cause(rt: HostRuntime) -> Result<(), Fail> {
     Ok(())
 }
 
+#[test]
+fn files_are_refused_where_their_first_cause_stands(rt: HostRuntime) -> Result<(), Fail> {
+    let alloc = rt.alloc();
+    for (file, line, code) in REFUSED_BELOW {
+        refuses(&rt, alloc, file.as_bytes(), line, code)?;
+    }
+    Ok(())
+}
+
 /// A text, a piece so many times, and another text.
 fn repeated(
     alloc: Global,
@@ -148,6 +158,42 @@ fn what_is_too_long_is_refused(rt: HostRuntime) -> Result<(), Fail> {
     refuses(&rt, alloc, body.as_slice(), 1, 131)
 }
 
+/// A text with so many pieces passes as far as the last refusal, and with one more it has this code.
+fn passes_up_to(
+    rt: &impl Abort,
+    alloc: Global,
+    parts: [&[u8]; 3],
+    most: usize,
+    code: u16,
+) -> Result<(), Fail> {
+    let [before, piece, behind] = parts;
+    let few = repeated(alloc, before, piece, most, behind)?;
+    refuses(rt, alloc, few.as_slice(), 1, 190)?;
+    let many = repeated(alloc, before, piece, most.saturating_add(1), behind)?;
+    refuses(rt, alloc, many.as_slice(), 1, code)
+}
+
+#[test]
+fn limits_are_reached(rt: HostRuntime) -> Result<(), Fail> {
+    let alloc = rt.alloc();
+    // With the node that closes the body, 512 nodes.
+    passes_up_to(
+        &rt,
+        alloc,
+        [b"void f(int a) { ", b"a = 1; ", b"}"],
+        511,
+        131,
+    )?;
+    // Each addition takes a temporary.
+    passes_up_to(
+        &rt,
+        alloc,
+        [b"int f(int a) { return a", b" + a", b"; }"],
+        16,
+        132,
+    )
+}
+
 /// A text, an int of each of the names, and another text.
 fn with_ints(
     alloc: Global,
@@ -171,6 +217,8 @@ fn what_has_too_many_parts_is_refused(rt: HostRuntime) -> Result<(), Fail> {
     let letters = b"abcdefghijklmnopqrstuvwxyzABCDEFG";
     let locals = with_ints(alloc, b"void f(void) { ", letters, b"}")?;
     refuses(&rt, alloc, locals.as_slice(), 1, 132)?;
+    let fewer = with_ints(alloc, b"void f(void) { ", &letters[1..], b"}")?;
+    refuses(&rt, alloc, fewer.as_slice(), 1, 190)?;
     let fields = with_ints(alloc, b"struct s { ", b"abcdefghijklmnopq", b"};")?;
     refuses(&rt, alloc, fields.as_slice(), 1, 134)?;
     let few = with_ints(alloc, b"struct s { ", b"abcdefghijklmnop", b"};")?;

@@ -1,56 +1,25 @@
 //! The texts of a report, each made in one place. A function appends its text to what is there; where memory
 //! wants, what it leaves is not said.
 ghost use Rattle.std.specs.Prelude.{◌≡◌, ◌∷◌, [], ◌++◌, codes, OnOk};
-ghost use Rattle.std.specs.Fmt.{decimal, signed_decimal};
+ghost use Rattle.std.specs.Fmt.{decimal};
 ghost use Rattle.shape_laws.specs.Returns.{returns_value};
 ghost use Rattle.shape_laws.specs.Symbolic.{emp};
 ghost use Rattle.heapan_top.specs.Replies.{refused_line};
-ghost use Rattle.heapan_top.specs.Text.{block, exp_text, heap_text, line_of, post_line, ret_text, spec_lines, total_line, variable_text};
+ghost use Rattle.sym_text.specs.Text.{heap_text};
+ghost use Rattle.heapan_top.specs.Text.{block, line_of, ret_text, spec_lines, total_line};
 
 use itoa::Buffer;
 use shape_data::name::Name;
 use shape_data::program::{Proc, Ty};
-use shape_data::symbolic::{Exp, FIRST_EXISTENTIAL};
+use shape_data::symbolic::Exp;
 use std::alloc::AllocError;
+use sym_text::push_exp;
 
 /// Appends a number in decimal.
 fn push_decimal(text: &mut Vec<u8>, number: u64) -> Result<(), AllocError>
     ensures { OnOk result (text.new.items ≡ text.old.items ++ decimal number) }
 {
     text.extend_from_slice(Buffer::new().format(number).as_bytes())
-}
-
-/// Appends a signed number in decimal.
-fn push_signed_decimal(text: &mut Vec<u8>, number: i32) -> Result<(), AllocError>
-    ensures { OnOk result (text.new.items ≡ text.old.items ++ signed_decimal number) }
-{
-    text.extend_from_slice(Buffer::new().format(number).as_bytes())
-}
-
-/// Appends a variable.
-#[tactic(auto, using(crate::proofs::Appending::appending))]
-fn push_variable(text: &mut Vec<u8>, params: &[Name], variable: u32) -> Result<(), AllocError>
-    ensures { OnOk result (text.new.items ≡ text.old.items ++ variable_text params.now variable) }
-{
-    if (variable as usize) < params.len() {
-        return text.extend_from_slice(params[variable as usize].as_bytes());
-    }
-    if variable < FIRST_EXISTENTIAL {
-        text.extend_from_slice(b"$")?;
-        return push_decimal(text, u64::from(variable) - params.len() as u64 + 1);
-    }
-    text.extend_from_slice(b"?")?;
-    push_decimal(text, u64::from(variable - (FIRST_EXISTENTIAL - 1)))
-}
-
-/// Appends an expression.
-fn push_exp(text: &mut Vec<u8>, params: &[Name], exp: &Exp) -> Result<(), AllocError>
-    ensures { OnOk result (text.new.items ≡ text.old.items ++ exp_text params.now exp.now) }
-{
-    match exp {
-        Exp::Var(variable) => push_variable(text, params, *variable),
-        Exp::Const(number) => push_signed_decimal(text, *number),
-    }
 }
 
 /// Appends ` ret=EXP`, unless the procedure is void.
@@ -61,7 +30,7 @@ fn push_ret(text: &mut Vec<u8>, params: &[Name], ty: &Ty, ret: &Exp) -> Result<(
     match ty {
         Ty::Int | Ty::Ptr(_) => {
             text.extend_from_slice(b" ret=")?;
-            push_exp(text, params, ret)
+            push_exp(text, params, *ret)
         }
         Ty::Void => Ok(()),
     }

@@ -21,4 +21,4 @@ mod words;
 
 pub use fault::BadSpec;
 pub use heaps::{read_heap, read_post};
-pub use printing::{print_heap, print_post};
+pub use printing::{print_heap, print_post, push_exp};

@@ -44,8 +44,12 @@ fn push_variable(text: &mut Vec<u8>, params: &[Name], variable: u32) -> Result<(
     push_decimal(text, u64::from(variable - (FIRST_EXISTENTIAL - 1)))
 }
 
-/// Appends an expression.
-fn push_exp(text: &mut Vec<u8>, params: &[Name], exp: Exp) -> Result<(), AllocError>
+/// Appends the text of an expression over these parameters, as [`print_heap`] writes it.
+///
+/// # Errors
+///
+/// Only want of memory; what the text then is, is not said.
+pub fn push_exp(text: &mut Vec<u8>, params: &[Name], exp: Exp) -> Result<(), AllocError>
     ensures { OnOk result (text.new.items ≡ text.old.items ++ exp_text params.now exp) }
 {
     match exp {

@@ -137,3 +137,40 @@ pub const REFUSED: [(&str, u16); 28] = [
         190,
     ),
 ];
+
+/// Files that are refused, the line, and the code.
+pub const REFUSED_BELOW: [(&str, u32, u16); 12] = [
+    ("int f(void) {\n  return 'a';\n}\n", 2, 101),
+    ("\n\n/* x\n\n", 3, 102),
+    ("int f(int a) {\n  return a\n}\n", 3, 111),
+    ("int f(void) {\n  return\n  y;\n}\n", 3, 121),
+    (
+        "struct s { int a; };\nvoid f(struct s *p) {\n  int b;\n  b = p;\n}",
+        4,
+        122,
+    ),
+    (
+        "int f(void) { return 1; }\nint\nf(void) { return 2; }\n",
+        3,
+        123,
+    ),
+    (
+        "int g(int a);\nint f(void) {\n  g(1,\n    2);\n  return 1;\n}",
+        3,
+        124,
+    ),
+    ("struct s { int a; };\nstruct s { int b; };", 2, 125),
+    ("int f(int a) {\n  a = 1;\n  a = f(1) + 1;\n}", 3, 126),
+    (
+        "int k(int a) { return a; }\nint\nf(int a,int b,int c,int d,int e,int g,int h,int i,\nint j){return a;}",
+        2,
+        133,
+    ),
+    (
+        "int k(int a) { return a; }\ntypedef\nstruct s { int a,b,c,d,e,f,g,h,i,j,k,l,m,n,o,p,\nq; } t;",
+        2,
+        134,
+    ),
+    // What is not analysed yet stands on line 1.
+    ("\n\nint f(int a) { return -a; }", 1, 190),
+];

@@ -3,4 +3,4 @@ use Rattle.heapan_top.proofs.Printing.{printed}
 use Rattle.heapan_top.proofs.laws.printed_is_valid.Goals as goal
 
 pub returns : goal.returns
-returns c = printed c.first_refusal.ensures c.parsed_files_are_texts.ensures c.programs_are_well_formed.ensures
+returns c = printed c.accepted_is_well_formed.ensures
