@@ -3,35 +3,23 @@ ghost use Rattle.std.specs.Prelude.{◌≡◌, ◌++◌, ◌∷◌, [], IfOk, On
 ghost use Rattle.c_typing.specs.Programs.{known};
 ghost use Rattle.c_lowering.specs.Statements.{kinds_of_locals, declared_kinds, init_kinds, stmt_kinds, stmts_kinds};
 ghost use Rattle.c_tree.specs.Syntax.{specifier_tree, initialized_tree, local_tree, init_tree, stmt_tree, block_tree};
-ghost use Rattle.c_scopes.specs.Seen.{type_seen, kind_seen};
+ghost use Rattle.c_scopes.specs.Seen.{kind_seen};
 
-use c_scopes::kinds::{CType, Kind};
+use c_scopes::kinds::Kind;
 use c_scopes::objects::object_kind;
 use c_scopes::tables::Tables;
+use c_simples::types::type_of;
 use c_tree::{Block, ForInit, Initialized, Local, Stmt, TypeSpecifier};
+use c_values::context;
+use shape_data::Row;
 use shape_data::program::Ty;
-use shape_data::{Row, copy_of};
 use std::alloc::AllocError;
-
-/// The type as data of its own.
-pub fn type_of(kind: CType) -> Result<Ty, AllocError>
-    ensures { IfOk result (λ ty. ty ≡ type_seen kind.entry) }
-{
-    match kind {
-        CType::Int => Ok(Ty::Int),
-        CType::Pointer(tag) => Ok(Ty::Ptr(copy_of(tag)?)),
-        CType::Void => Ok(Ty::Void),
-    }
-}
 
 /// The type, where it is known.
 pub fn known(kind: Kind) -> Result<Ty, AllocError>
     ensures { IfOk result (λ ty. ty ≡ known (kind_seen kind.entry)) }
 {
-    match kind {
-        None => Ok(Ty::Int),
-        Some(kind) => type_of(kind),
-    }
+    type_of(context::known(kind))
 }
 
 /// The type of one more local.

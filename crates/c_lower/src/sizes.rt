@@ -11,7 +11,16 @@ use c_tree::{Params, Place};
 /// Most nodes of a procedure.
 pub const MOST_NODES: u32 = 512;
 
-/// A procedure with more nodes than that.
+/// Most parameters and other locals of a procedure together.
+const MOST_LOCALS: u32 = 32;
+
+/// Most temporaries of a procedure.
+const MOST_TEMPORARIES: usize = 16;
+
+/// Most parameters of a procedure.
+const MOST_PARAMETERS: u32 = 8;
+
+/// A procedure with too many nodes.
 pub const NODES: u16 = 131;
 
 /// A procedure with too many slots.
@@ -48,7 +57,10 @@ impl Sizes {
         requires locals { self.locals ≤ 512 }
         ensures { result ≡ all_fit self }
     {
-        self.nodes <= 512 && self.params + self.locals <= 32 && self.temps <= 16 && self.params <= 8
+        self.nodes <= MOST_NODES as usize
+            && self.params + self.locals <= MOST_LOCALS
+            && self.temps <= MOST_TEMPORARIES
+            && self.params <= MOST_PARAMETERS
     }
 
     /// Refuses each that is too large.
@@ -58,9 +70,9 @@ impl Sizes {
         requires locals { self.locals ≤ 512 }
         ensures { first.new ≡ lowered first.old (refusals_of self place) }
     {
-        first.unless(self.nodes <= 512, place, NODES);
-        first.unless(self.params + self.locals <= 32, place, SLOTS);
-        first.unless(self.temps <= 16, place, SLOTS);
-        first.unless(self.params <= 8, place, PARAMETERS);
+        first.unless(self.nodes <= MOST_NODES as usize, place, NODES);
+        first.unless(self.params + self.locals <= MOST_LOCALS, place, SLOTS);
+        first.unless(self.temps <= MOST_TEMPORARIES, place, SLOTS);
+        first.unless(self.params <= MOST_PARAMETERS, place, PARAMETERS);
     }
 }

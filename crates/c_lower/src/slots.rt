@@ -9,10 +9,11 @@ ghost use Rattle.c_lowering.specs.Programs.{name_text, param_types};
 ghost use Rattle.c_tree.specs.Syntax.{param_tree, params_tree, head_tree, block_tree};
 ghost use Rattle.c_scopes.specs.Seen.{type_seen};
 
-use crate::locals::{known, push_block, type_of};
+use crate::locals::{known, push_block};
 use c_scopes::kinds::CType;
 use c_scopes::objects::param_kind;
 use c_scopes::tables::Tables;
+use c_simples::types::type_of;
 use c_tree::{Block, Head, Name, Param, Params};
 use shape_data::program::Ty;
 use shape_data::{Row, copy_of};
