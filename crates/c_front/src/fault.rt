@@ -1,40 +1,39 @@
-//! Why a text is no program.
-use c_tokens::Refusal;
-use c_types::TypeFault;
-use c_units::ReadFault;
+//! Why a text is no C file.
+use c_parse_exprs::SyntaxFault;
+use c_tokens::{Refusal, TokenFault};
 
-/// Why a text is no program: its first refusal, of tokens (codes 101 to 105), else of syntax (111 and 112), else of types (121 to
-/// 126); or want of memory.
+/// Why a text is read as no file: its first refusal, of tokens (codes 101 to 105) or else of syntax (111 and 112), or want of
+/// memory.
 #[derive(Clone, Copy, Debug)]
-pub enum FrontFault {
+pub enum ReadFault {
     Refused(Refusal),
     OutOfMemory,
 }
 
-impl From<ReadFault> for FrontFault {
+impl From<TokenFault> for ReadFault {
     ghost use Rattle.std.specs.Prelude.{◌≡◌};
-    ghost use Rattle.c_front.specs.Typing.{of_reading};
+    ghost use Rattle.c_front.specs.Units.{of_tokens};
 
-    ghost from_gives = { λ fault given. given ≡ of_reading fault };
+    ghost from_gives = { λ fault given. given ≡ of_tokens fault };
 
-    fn from(fault: ReadFault) -> FrontFault {
+    fn from(fault: TokenFault) -> ReadFault {
         match fault {
-            ReadFault::Refused(refusal) => FrontFault::Refused(refusal),
-            ReadFault::OutOfMemory => FrontFault::OutOfMemory,
+            TokenFault::Refused(refusal) => ReadFault::Refused(refusal),
+            TokenFault::OutOfMemory => ReadFault::OutOfMemory,
         }
     }
 }
 
-impl From<TypeFault> for FrontFault {
+impl From<SyntaxFault> for ReadFault {
     ghost use Rattle.std.specs.Prelude.{◌≡◌};
-    ghost use Rattle.c_front.specs.Typing.{of_types};
+    ghost use Rattle.c_front.specs.Units.{of_syntax};
 
-    ghost from_gives = { λ fault given. given ≡ of_types fault };
+    ghost from_gives = { λ fault given. given ≡ of_syntax fault };
 
-    fn from(fault: TypeFault) -> FrontFault {
+    fn from(fault: SyntaxFault) -> ReadFault {
         match fault {
-            TypeFault::Refused(at) => FrontFault::Refused(at.refusal),
-            TypeFault::OutOfMemory => FrontFault::OutOfMemory,
+            SyntaxFault::Refused(refusal) => ReadFault::Refused(refusal),
+            SyntaxFault::OutOfMemory => ReadFault::OutOfMemory,
         }
     }
 }

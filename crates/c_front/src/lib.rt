@@ -1,10 +1,12 @@
-//! The front end as far as types: a C file's text to the typed program that it is, or its first refusal.
+//! A C file's text and its syntax tree, each from the other: [`read_unit`] reads, and [`print`] writes. What is printed of a
+//! file reads back as that file, up to places.
 #![tactic(auto)]
 
-mod checking;
 mod fault;
+mod reading;
 #[cfg(test)]
 mod tests;
 
-pub use checking::typed_file;
-pub use fault::FrontFault;
+pub use c_print::print;
+pub use fault::ReadFault;
+pub use reading::read_unit;

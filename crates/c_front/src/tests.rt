@@ -1,140 +1,151 @@
-//! Small programs: what is refused in them, and the types of their expressions, worked by hand from the typing rules.
-
-mod tables;
-
-use crate::{FrontFault, typed_file};
-use c_types::{TypeFault, check};
-use c_units::read_unit;
-use shape_data::program::Ty;
+//! Texts that are read, printed and read again.
+use crate::{ReadFault, print, read_unit};
 use std::alloc::Global;
 use std::rt::HostRuntime;
 use std::test::Fail;
-use tables::{FILES, KINDS, REFUSED, STACK, WELL_TYPED};
 
-/// What every row stands behind.
-const BEFORE: &[u8] =
-    b"struct node { int v; struct node *n; }; typedef struct node node; int g(int a); void h(void); node *k(void); ";
+/// A module of stacks.
+const STACK: &[u8] = b"#include <stdlib.h>
 
-/// The row behind what every row stands behind, without its mark.
-fn text_of(alloc: Global, row: &str) -> Result<Vec<u8>, Fail> {
-    let mut text = Vec::new(alloc);
-    text.extend_from_slice(BEFORE)?;
-    for byte in row.as_bytes() {
-        if *byte != b'@' {
-            text.push(*byte)?;
-        }
-    }
-    if text.len() > 100_000 {
-        return Err("too long")?;
-    }
-    Ok(text)
+typedef struct node {
+  int data;
+  struct node *next;
+} node;
+
+typedef struct stack {
+  node *head;
+  int size;
+} stack;
+
+stack *make(void) {
+  stack *q = malloc(sizeof(stack));
+  if (q == NULL) return NULL;
+  q->head = NULL;
+  q->size = 0;
+  return q;
 }
 
-/// The code and the column of the first refusal; 0 and 0 where there is none.
-fn refusal(alloc: Global, text: &[u8]) -> Result<(u16, u32), Fail> {
-    if text.len() > 100_000 {
+int empty(stack *q) {
+  return q->size == 0;
+}
+
+int push(stack *q, int v) {
+  node *n = malloc(sizeof(node));
+  if (!n) return 0;
+  n->data = v;
+  n->next = q->head;
+  q->head = n;
+  q->size++;
+  return 1;
+}
+
+int pop(stack *q) {
+  node *n = q->head;
+  if (n == NULL) return 0;
+  int v = n->data;
+  q->head = n->next;
+  q->size--;
+  free(n);
+  return v;
+}
+
+void clear(stack *q) {
+  while (q->head != NULL) {
+    node *n = q->head;
+    q->head = n->next;
+    free(n);
+  }
+  q->size = 0;
+}
+
+int length(node *n) {
+  if (n == NULL) return 0;
+  int rest = length(n->next);
+  return rest + 1;
+}
+
+int count(stack *q) {
+  return length(q->head);
+}
+
+void destroy(stack *q) {
+  clear(q);
+  free(q);
+}
+";
+
+/// The last procedure of that module, as it is printed.
+const LAST: &[u8] = b"void destroy ( stack * q ) { clear ( q ) ; free ( q ) ; } ";
+
+/// The text that is printed of the file that a text is.
+fn printed(alloc: Global, text: &[u8]) -> Result<Vec<u8>, Fail> {
+    if text.len() > 1_000_000 {
         return Err("too long")?;
     }
-    match typed_file(alloc, text) {
-        Ok(_) => Ok((0, 0)),
-        Err(FrontFault::Refused(refusal)) => Ok((refusal.code, refusal.column)),
-        Err(FrontFault::OutOfMemory) => Err("no memory")?,
+    match read_unit(alloc, text) {
+        Ok(unit) => Ok(print(alloc, &unit)?),
+        Err(_) => Err("no file")?,
     }
 }
 
 #[test]
-fn each_rule_refuses_at_its_place(rt: HostRuntime) -> Result<(), Fail> {
+fn a_module_is_printed_and_read_again(rt: HostRuntime) -> Result<(), Fail> {
     let alloc = rt.alloc();
-    for (code, rows) in REFUSED {
-        for row in rows.lines() {
-            let marked = row
-                .as_bytes()
-                .iter()
-                .position(|byte| *byte == b'@')
-                .unwrap_or(0);
-            let text = text_of(alloc, row)?;
-            let found = refusal(alloc, text.as_slice())?;
-            let column = (found.1 as usize).saturating_sub(BEFORE.len() + 1);
-            assert!(rt;
-                found.0 == code && column == marked,
-                "{row} gives {found:?}"
-            );
-        }
+    let first = printed(alloc, STACK)?;
+    let again = printed(alloc, first.as_slice())?;
+    assert!(rt; first.as_slice().ends_with(LAST));
+    assert!(rt; first.as_slice() == again.as_slice());
+    Ok(())
+}
+
+/// Texts, and what is printed of the files that they are: each word with a space behind it.
+const PRINTED: [(&str, &str); 3] = [
+    (
+        "int f(){return(0||1&&1==1!=1<1<=1>1>=1+1-1*1);return-!x->next->data;return g(NULL,x,2147483647);\
+         return(struct node*)malloc(sizeof(struct node));}",
+        "int f ( ) { return ( 0 || 1 && 1 == 1 != 1 < 1 <= 1 > 1 >= 1 + 1 - 1 * 1 ) ; return - ! x -> next -> data ; \
+         return g ( NULL , x , 2147483647 ) ; return ( struct node * ) malloc ( sizeof ( struct node ) ) ; } ",
+    ),
+    (
+        "struct node{int data,**next;};typedef struct{int data;}list;typedef struct node tree;void*g(int x,struct node*);int h(void);",
+        "struct node { int data , * * next ; } ; typedef struct { int data ; } list ; typedef struct node tree ; \
+         void * g ( int x , struct node * ) ; int h ( void ) ; ",
+    ),
+    (
+        "int f(){list x=NULL,y;if(x);if(x);else break;while(x)continue;do;while(x);for(;;);for(int i=0;i<1;i++)i-=2;\
+         x->n=y;x*=1;x+=1;x--;g();free(x);{}return;}",
+        "int f ( ) { list x = NULL , y ; if ( x ) ; if ( x ) ; else break ; while ( x ) continue ; do ; while ( x ) ; for ( ; ; ) ; \
+         for ( int i = 0 ; i < 1 ; i ++ ) i -= 2 ; x -> n = y ; x *= 1 ; x += 1 ; x -- ; g ( ) ; free ( x ) ; { } return ; } ",
+    ),
+];
+
+#[test]
+fn each_construct_is_printed(rt: HostRuntime) -> Result<(), Fail> {
+    let alloc = rt.alloc();
+    for (text, wanted) in PRINTED {
+        let found = printed(alloc, text.as_bytes())?;
+        assert_eq!(rt; found.as_slice(), wanted.as_bytes());
     }
     Ok(())
 }
 
 #[test]
-fn what_keeps_the_rules_is_accepted(rt: HostRuntime) -> Result<(), Fail> {
+fn refusals_of_tokens_come_before_those_of_syntax(rt: HostRuntime) -> Result<(), Fail> {
     let alloc = rt.alloc();
-    for row in WELL_TYPED.lines() {
-        let text = text_of(alloc, row)?;
-        let found = refusal(alloc, text.as_slice())?;
-        assert!(rt; found == (0, 0), "{row} gives {found:?}");
-    }
-    let found = refusal(alloc, STACK)?;
-    assert!(rt; found == (0, 0), "the module of stacks gives {found:?}");
-    Ok(())
-}
-
-/// `i`, `p` or `v` for a type.
-fn letter(ty: &Ty) -> u8 {
-    match ty {
-        Ty::Int => b'i',
-        Ty::Ptr(_) => b'p',
-        Ty::Void => b'v',
-    }
-}
-
-/// The types of the expressions of a text, a letter each.
-fn kinds(alloc: Global, text: &[u8]) -> Result<Vec<u8>, Fail> {
-    if text.len() > 100_000 {
-        return Err("too long")?;
-    }
-    let mut letters = Vec::new(alloc);
-    match typed_file(alloc, text) {
-        Ok(typed) => {
-            for ty in typed.kinds.iter() {
-                letters.push(letter(ty))?;
+    let rows: [(&[u8], u16, u32, u32); 3] = [
+        (b"int f( { return 0; }\n@", 101, 2, 1),
+        (b"int f( { return 0; }", 111, 1, 8),
+        (b"int f(void) { return 0; }\nint", 111, 2, 4),
+    ];
+    for (text, code, line, column) in rows {
+        match read_unit(alloc, text) {
+            Err(ReadFault::Refused(refusal)) => {
+                assert!(rt;
+                    refusal.code == code && refusal.line == line && refusal.column == column
+                );
             }
-            Ok(letters)
+            _ => return Err("not refused")?,
         }
-        Err(_) => Err("refused")?,
-    }
-}
-
-#[test]
-fn types_stand_in_the_order_of_the_text(rt: HostRuntime) -> Result<(), Fail> {
-    let alloc = rt.alloc();
-    for (row, wanted) in KINDS {
-        let text = text_of(alloc, row)?;
-        let found = kinds(alloc, text.as_slice())?;
-        assert!(rt; found.as_slice() == wanted.as_bytes(), "{row}");
-    }
-    Ok(())
-}
-
-/// The file, the code and the column of the first refusal of two files.
-fn refusal_of_two(alloc: Global, one: &[u8], other: &[u8]) -> Result<(u32, u16, u32), Fail> {
-    if one.len() > 100_000 || other.len() > 100_000 {
-        return Err("too long")?;
-    }
-    let (Ok(first), Ok(second)) = (read_unit(alloc, one), read_unit(alloc, other)) else {
-        return Err("no files")?;
-    };
-    match check(alloc, &[first, second]) {
-        Ok(_) => Ok((0, 0, 0)),
-        Err(TypeFault::Refused(at)) => Ok((at.unit, at.refusal.code, at.refusal.column)),
-        Err(TypeFault::OutOfMemory) => Err("no memory")?,
-    }
-}
-
-#[test]
-fn files_are_one_program(rt: HostRuntime) -> Result<(), Fail> {
-    let alloc = rt.alloc();
-    for (one, other, wanted) in FILES {
-        let found = refusal_of_two(alloc, one.as_bytes(), other.as_bytes())?;
-        assert!(rt; found == wanted, "{one} {other} gives {found:?}");
     }
     Ok(())
 }

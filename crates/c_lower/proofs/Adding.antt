@@ -2,9 +2,9 @@
 use Rattle.std.proofs.Common.{◌≡◌, ℕ, ◌+◌, ◌<◌, List, [], ◌∷◌, ◌++◌, length, drop, get_or, Result, Ok, Err, OnOk, append_assoc, refl, sym, ap, ◌∙◌, subst}
 use Rattle.std.proofs.lemmas.List.{append-nil, at_drop_more}
 use Rattle.c_tokens.specs.declared.places.Refusal.{Refusal}
-use Rattle.c_scopes.specs.declared.first.First.{First}
-use Rattle.c_scopes.specs.Lowered.{lowered}
-use Rattle.c_scopes.proofs.Lowering as lowering
+use Rattle.c_types_names.specs.declared.first.First.{First}
+use Rattle.c_types_names.specs.Lowered.{lowered}
+use Rattle.c_types_names.proofs.Lowering as lowering
 use Rattle.c_lower.specs.declared.building.Building.{Building}
 use Rattle.c_lower.specs.Building.{Part, no_part, ◌⊹◌, Adds, AddsUpTo}
 

@@ -2,7 +2,7 @@
 use Rattle.std.proofs.Common.{◌≡◌, ℕ, ◌+◌, ◌<◌, Option, Some, None, List, [], ◌∷◌, ◌++◌, length, map, drop, get_or, append_assoc, refl, sym, ap, ◌∙◌}
 use Rattle.std.proofs.lemmas.List.{append-nil, map-append, at_drop_more}
 use Rattle.c_grammar.specs.Trees.{Name}
-use Rattle.c_typing.specs.Items.{with_name}
+use Rattle.c_types_rules.specs.Items.{with_name}
 
 pub ruleset appending = (append_assoc, append-nil)
 

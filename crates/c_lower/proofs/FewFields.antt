@@ -6,14 +6,14 @@ use Rattle.std.specs.List.{AllByRecursion}
 use Rattle.std.specs.Str.{bytes_eq}
 use Rattle.std.proofs.lemmas.List.{length-append, length-map}
 use Rattle.c_grammar.specs.Trees.{Declarator, Fields, Item, File}
-use Rattle.c_typing.specs.Tables.{Structure, Tables, FieldKind, declared_by, items_of, structure_in, field_kind, field_kinds}
-use Rattle.c_typing.specs.Items.{field_names}
-use Rattle.c_typing.specs.Programs.{tables_of}
-use Rattle.c_typing.proofs.KnownTables.{look_up, all_append}
-use Rattle.c_lowering.specs.Numbers.{IsIntNumber}
-use Rattle.c_lowering.specs.Contexts.{place_in, place_by}
-use Rattle.c_texts.specs.Fields.{ItemHasCountableFields, HasCountableFields}
-use Rattle.c_values.specs.Contexts.{FieldsFit}
+use Rattle.c_types_rules.specs.Tables.{Structure, Tables, FieldKind, declared_by, items_of, structure_in, field_kind, field_kinds}
+use Rattle.c_types_rules.specs.Items.{field_names}
+use Rattle.c_types_rules.specs.Programs.{tables_of}
+use Rattle.c_types_rules.proofs.KnownTables.{look_up, all_append}
+use Rattle.c_lower_rules.specs.Numbers.{IsIntNumber}
+use Rattle.c_lower_rules.specs.Contexts.{place_in, place_by}
+use Rattle.c_lower_rules.specs.Fields.{ItemHasCountableFields, HasCountableFields}
+use Rattle.c_lower_exprs.specs.Contexts.{FieldsFit}
 
 -- each field has a name
 as_many : (tables : Tables) (lines : List Fields) → length (field_kinds tables lines) ≡ length (field_names lines)

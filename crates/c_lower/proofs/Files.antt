@@ -5,12 +5,12 @@ use Rattle.std.proofs.lemmas.List.{at_drop_more, at_drop_all, length-map, get_or
 use Rattle.c_tree.specs.declared.items.Unit.{Unit}
 use Rattle.c_tree.specs.Syntax.{unit_tree}
 use Rattle.c_grammar.specs.Trees.{File}
-use Rattle.c_typing.specs.Tables.{Tables}
-use Rattle.c_typing.specs.Programs.{in_unit, first_of}
-use Rattle.c_scopes.specs.declared.first.First.{First}
+use Rattle.c_types_rules.specs.Tables.{Tables}
+use Rattle.c_types_rules.specs.Programs.{in_unit, first_of}
+use Rattle.c_types_names.specs.declared.first.First.{First}
 use Rattle.c_types.specs.Firsts.{first_with}
 use Rattle.c_types.proofs.Firsts.{first_with-append, first_with-nil, first_with-is, lowered-found}
-use Rattle.c_lowering.specs.Programs.{items_refusals, items_procs, files_refusals, files_procs}
+use Rattle.c_lower_rules.specs.Programs.{items_refusals, items_procs, files_refusals, files_procs}
 use Rattle.c_lower.specs.declared.building.Building.{Building}
 use Rattle.c_lower.specs.Building.{items_part, Adds, IsBuiltUpTo}
 use Rattle.c_lower.proofs.Adding.{nil_left, nil_right}

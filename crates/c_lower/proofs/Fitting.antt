@@ -7,19 +7,19 @@ use Rattle.c_grammar.specs.Trees as tree
 use Rattle.c_tree.specs.declared.stmts.Block.{Block}
 use Rattle.c_tree.specs.declared.stmts.Stmt.TheFolds.{fold_out-Block}
 use Rattle.c_tree.specs.Syntax.{BlockTree, stmt_level, block_level, block_tree, stmts_tree}
-use Rattle.c_typing.specs.FirstPlaces.{place_of_head}
-use Rattle.c_typing.specs.Types.{unless}
-use Rattle.c_typing.specs.Tables.{Tables}
-use Rattle.c_typing.specs.Items.{listed}
-use Rattle.c_lowering.specs.Code.{onto}
-use Rattle.c_lowering.specs.Statements.{Lowered, stmts_kinds}
-use Rattle.c_lowering.specs.Programs.{MOST_NODES, MOST_LOCALS, MOST_TEMPORARIES, MOST_PARAMETERS, NODES, SLOTS, PARAMETERS}
-use Rattle.c_lowering.specs.Programs.{lowered_body, temp_kind, size_refusals}
-use Rattle.c_scopes.specs.Seen.{type_seen}
-use Rattle.c_scopes.specs.declared.first.First.{First}
-use Rattle.c_scopes.specs.Lowered.{lowered}
-use Rattle.c_bodies.specs.declared.body.Body.{Body}
-use Rattle.c_bodies.specs.Bodies.{IsBodyOf}
+use Rattle.c_types_rules.specs.FirstPlaces.{place_of_head}
+use Rattle.c_types_rules.specs.Types.{unless}
+use Rattle.c_types_rules.specs.Tables.{Tables}
+use Rattle.c_types_rules.specs.Items.{listed}
+use Rattle.c_lower_rules.specs.Code.{onto}
+use Rattle.c_lower_rules.specs.Statements.{Lowered, stmts_kinds}
+use Rattle.c_lower_rules.specs.Programs.{MOST_NODES, MOST_LOCALS, MOST_TEMPORARIES, MOST_PARAMETERS, NODES, SLOTS, PARAMETERS}
+use Rattle.c_lower_rules.specs.Programs.{lowered_body, temp_kind, size_refusals}
+use Rattle.c_types_names.specs.Seen.{type_seen}
+use Rattle.c_types_names.specs.declared.first.First.{First}
+use Rattle.c_types_names.specs.Lowered.{lowered}
+use Rattle.c_lower.specs.declared.body.Body.{Body}
+use Rattle.c_lower.specs.Bodies.{IsBodyOf}
 use Rattle.c_lower.specs.declared.sizes.Sizes.{Sizes}
 use Rattle.c_lower.specs.Sized.{refusals_of, all_fit}
 use Rattle.c_lower.proofs.SamePlace.{nodes_alone}

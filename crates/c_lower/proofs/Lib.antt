@@ -1,3 +1,5 @@
+mod Closed
+mod Whole
 mod Appending
 mod Adding
 mod SamePlace

@@ -2,14 +2,14 @@
 use Rattle.std.specs.Prelude.{not, nat_lt}
 use Rattle.std.proofs.Common.{◌≡◌, ℕ, ◌≤◌, Bool, true, false, Option, Some, None, ◌++◌, refl, sym, ap, ◌∙◌, arith}
 use Rattle.c_tokens.specs.declared.places.Place.{Place}
-use Rattle.c_typing.specs.declared.at.At.{At}
-use Rattle.c_typing.specs.Types.{unless, refusal}
-use Rattle.c_typing.specs.Programs.{stands_before, is_no_later, first_by, in_unit}
-use Rattle.c_scopes.specs.declared.first.First.{First}
-use Rattle.c_scopes.specs.Lowered.{least, lowered_by, lowered}
-use Rattle.c_scopes.proofs.Lowering.{lowered-append}
+use Rattle.c_types_rules.specs.declared.at.At.{At}
+use Rattle.c_types_rules.specs.Types.{unless, refusal}
+use Rattle.c_types_rules.specs.Programs.{stands_before, is_no_later, first_by, in_unit}
+use Rattle.c_types_names.specs.declared.first.First.{First}
+use Rattle.c_types_names.specs.Lowered.{least, lowered_by, lowered}
+use Rattle.c_types_names.proofs.Lowering.{lowered-append}
 use Rattle.c_types.proofs.Firsts.{first_of_three}
-use Rattle.c_lowering.specs.Programs.{NODES, SLOTS, PARAMETERS}
+use Rattle.c_lower_rules.specs.Programs.{NODES, SLOTS, PARAMETERS}
 
 level : (n : ℕ) (p : Bool) → p ≡ true → stands_before n n p ≡ true
 level n p h = grind (arith, h)

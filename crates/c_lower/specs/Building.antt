@@ -3,9 +3,9 @@ use Rattle.std.specs.Prelude.{◌≡◌, ℕ, None, List, [], ◌++◌}
 use Rattle.shape_data.specs.declared.program.Proc.{Proc}
 use Rattle.c_tokens.specs.declared.places.Refusal.{Refusal}
 use Rattle.c_grammar.specs.Trees.{Item, File}
-use Rattle.c_typing.specs.Tables.{Tables}
-use Rattle.c_lowering.specs.Programs.{item_refusals, items_refusals, item_procs, items_procs, files_refusals, files_procs}
-use Rattle.c_scopes.specs.Lowered.{lowered}
+use Rattle.c_types_rules.specs.Tables.{Tables}
+use Rattle.c_lower_rules.specs.Programs.{item_refusals, items_refusals, item_procs, items_procs, files_refusals, files_procs}
+use Rattle.c_types_names.specs.Lowered.{lowered}
 use Rattle.c_types.specs.Firsts.{first_with}
 use Rattle.c_lower.specs.declared.building.Building.{Building}
 

@@ -1,3 +1,5 @@
+pub mod Bodies
+pub mod Closing
 pub mod Sized
 pub mod Building
 pub mod Lowering

@@ -1,7 +1,7 @@
 -- Which fault lowering may give.
 use Rattle.std.specs.Prelude.{◌≡◌, Some, List}
 use Rattle.c_grammar.specs.Trees.{File}
-use Rattle.c_lowering.specs.Programs.{first_too_large}
+use Rattle.c_lower_rules.specs.Programs.{first_too_large}
 use Rattle.c_lower.specs.declared.fault.LowerFault.{LowerFault}
 use Rattle.c_lower.specs.declared.fault.LowerFault.TheVariants.{Refused, OutOfMemory}
 

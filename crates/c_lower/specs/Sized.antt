@@ -2,8 +2,8 @@
 use Rattle.std.specs.Prelude.{◌+◌, nat_le, Bool, ◌&&◌, List, ◌++◌}
 use Rattle.c_tokens.specs.declared.places.Place.{Place}
 use Rattle.c_tokens.specs.declared.places.Refusal.{Refusal}
-use Rattle.c_typing.specs.Types.{unless}
-use Rattle.c_lowering.specs.Programs.{MOST_NODES, MOST_LOCALS, MOST_TEMPORARIES, MOST_PARAMETERS, NODES, SLOTS, PARAMETERS}
+use Rattle.c_types_rules.specs.Types.{unless}
+use Rattle.c_lower_rules.specs.Programs.{MOST_NODES, MOST_LOCALS, MOST_TEMPORARIES, MOST_PARAMETERS, NODES, SLOTS, PARAMETERS}
 use Rattle.c_lower.specs.declared.sizes.Sizes.{Sizes}
 
 -- what is refused in such a procedure, whose first token stands there

@@ -1,5 +1,5 @@
 //! What is found in a program so far.
-use c_scopes::first::First;
+use c_types_names::first::First;
 use shape_data::Row;
 use shape_data::program::Proc;
 

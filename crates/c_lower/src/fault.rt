@@ -1,5 +1,5 @@
 //! Why a program has no flow form.
-use c_typing::At;
+use c_types_rules::At;
 use std::alloc::{AllocError, AllocFailed};
 
 /// Why a program has no flow form: the first refusal in the order of the text. The codes are 131, a procedure of more than 512 nodes;

@@ -1,12 +1,12 @@
 //! The fields of structures are counted (C11 6.7.2.1).
 ghost use Rattle.std.specs.Prelude.{◌≡◌, nat_le, length, map};
-ghost use Rattle.c_typing.specs.Items.{field_names};
-ghost use Rattle.c_lowering.specs.Programs.{MOST_FIELDS, fields_refusals};
+ghost use Rattle.c_types_rules.specs.Items.{field_names};
+ghost use Rattle.c_lower_rules.specs.Programs.{MOST_FIELDS, fields_refusals};
 ghost use Rattle.c_tree.specs.Syntax.{fields_tree};
-ghost use Rattle.c_scopes.specs.Lowered.{lowered};
+ghost use Rattle.c_types_names.specs.Lowered.{lowered};
 
-use c_scopes::first::First;
 use c_tree::{FieldDecl, Place};
+use c_types_names::first::First;
 
 /// Most fields of a structure.
 const MOST_FIELDS: usize = 16;

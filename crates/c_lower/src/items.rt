@@ -1,21 +1,21 @@
 //! Items: what is too large, and procedures.
 ghost use Rattle.std.specs.Prelude.{◌≡◌, ◌≤◌, OnOk, All, length, map};
-ghost use Rattle.c_typing.specs.Items.{listed};
-ghost use Rattle.c_lowering.specs.Numbers.{IsIntNumber, StmtsHaveIntNumbers, ItemHasIntNumbers};
-ghost use Rattle.c_sizes.specs.Sizes.{stmts_size};
+ghost use Rattle.c_types_rules.specs.Items.{listed};
+ghost use Rattle.c_lower_rules.specs.Numbers.{IsIntNumber, StmtsHaveIntNumbers, ItemHasIntNumbers};
+ghost use Rattle.c_lower_sizes.specs.Sizes.{stmts_size};
 ghost use Rattle.c_tree.specs.Syntax.{head_tree, block_tree, definition_of, item_tree};
 ghost use Rattle.c_lower.specs.Building.{Adds, item_part, items_part};
 
 use crate::building::Building;
 use crate::fields::fields_refusals;
+use crate::lower_body;
 use crate::procs::proc;
 use crate::sizes::{MOST_NODES, NODES, Sizes, param_count};
-use c_bodies::lower_body;
-use c_sizes::laws::{bodies_are_no_larger, locals_have_nodes, locals_have_types};
-use c_sizes::{body_size, local_count};
-use c_statements::locals::place_of_specifier;
+use c_lower_exprs::context::Context;
+use c_lower_sizes::laws::{bodies_are_no_larger, locals_have_nodes, locals_have_types};
+use c_lower_sizes::{body_size, local_count};
 use c_tree::{Block, Head, Item, Name};
-use c_values::context::Context;
+use c_types_names::objects::place_of_specifier;
 use std::alloc::{AllocError, Global};
 
 /// A procedure whose body has few nodes.

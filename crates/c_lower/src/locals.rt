@@ -1,16 +1,16 @@
 //! The types of a body's locals, in the order of the text.
 ghost use Rattle.std.specs.Prelude.{◌≡◌, ◌++◌, ◌∷◌, [], IfOk, OnOk, map};
-ghost use Rattle.c_typing.specs.Programs.{known};
-ghost use Rattle.c_lowering.specs.Statements.{kinds_of_locals, declared_kinds, init_kinds, stmt_kinds, stmts_kinds};
+ghost use Rattle.c_types_rules.specs.Programs.{known};
+ghost use Rattle.c_lower_rules.specs.Statements.{kinds_of_locals, declared_kinds, init_kinds, stmt_kinds, stmts_kinds};
 ghost use Rattle.c_tree.specs.Syntax.{specifier_tree, initialized_tree, local_tree, init_tree, stmt_tree, block_tree};
-ghost use Rattle.c_scopes.specs.Seen.{kind_seen};
+ghost use Rattle.c_types_names.specs.Seen.{kind_seen};
 
-use c_scopes::kinds::Kind;
-use c_scopes::objects::object_kind;
-use c_scopes::tables::Tables;
-use c_simples::types::type_of;
+use c_lower_exprs::context;
+use c_lower_simples::types::type_of;
 use c_tree::{Block, ForInit, Initialized, Local, Stmt, TypeSpecifier};
-use c_values::context;
+use c_types_names::kinds::Kind;
+use c_types_names::objects::object_kind;
+use c_types_names::tables::Tables;
 use shape_data::Row;
 use shape_data::program::Ty;
 use std::alloc::AllocError;

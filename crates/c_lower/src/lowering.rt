@@ -1,22 +1,22 @@
 //! The lowering of a program.
 ghost use Rattle.std.specs.Prelude.{◌≡◌, ◌<◌, [], IfOk, IfErr, None, All, length, map};
 ghost use Rattle.c_tree.specs.Syntax.{unit_tree};
-ghost use Rattle.c_typing.specs.Programs as typing;
+ghost use Rattle.c_types_rules.specs.Programs as typing;
 ghost use Rattle.c_types.specs.Typing.{files_of};
-ghost use Rattle.c_lowering.specs.Numbers.{FileHasIntNumbers};
-ghost use Rattle.c_texts.specs.Fields.{HasCountableFields};
-ghost use Rattle.c_lowering.specs.Programs.{files_refusals, files_procs, first_too_large, program_of};
+ghost use Rattle.c_lower_rules.specs.Numbers.{FileHasIntNumbers};
+ghost use Rattle.c_lower_rules.specs.Fields.{HasCountableFields};
+ghost use Rattle.c_lower_rules.specs.Programs.{files_refusals, files_procs, first_too_large, program_of};
 ghost use Rattle.c_lower.specs.Lowering.{IsLowerFault};
 
 use crate::building::Building;
 use crate::fault::LowerFault;
 use crate::items::items;
-use c_scopes::first::First;
-use c_scopes::tables::Tables;
+use c_lower_exprs::context::Context;
 use c_tree::{Name, Unit};
 use c_types::Typed;
-use c_typing::laws::first_refusal;
-use c_values::context::Context;
+use c_types_names::first::First;
+use c_types_names::tables::Tables;
+use c_types_rules::laws::first_refusal;
 use shape_data::program::Program;
 use shape_data::{Row, copy_of};
 use std::alloc::{AllocError, Global};

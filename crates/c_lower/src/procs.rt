@@ -1,19 +1,18 @@
 //! Procedures in flow form.
 ghost use Rattle.std.specs.Prelude.{◌≡◌, ◌<◌, ◌≤◌, ◌+◌, IfOk, length};
-ghost use Rattle.c_typing.specs.Items.{listed};
-ghost use Rattle.c_lowering.specs.Statements.{stmts_kinds};
-ghost use Rattle.c_lowering.specs.Programs.{result_type, flow_of, proc_of};
+ghost use Rattle.c_types_rules.specs.Items.{listed};
+ghost use Rattle.c_lower_rules.specs.Statements.{stmts_kinds};
+ghost use Rattle.c_lower_rules.specs.Programs.{result_type, flow_of, proc_of};
 ghost use Rattle.c_tree.specs.Syntax.{head_tree, block_tree};
-ghost use Rattle.c_bodies.specs.Bodies.{IsBodyOf};
+ghost use Rattle.c_lower.specs.Bodies.{IsBodyOf};
 
+use crate::Body;
 use crate::locals::known;
 use crate::slots::{name_texts, slot_types};
-use c_bodies::Body;
-use c_marks::mark;
-use c_scopes::objects::kind_of_result;
-use c_scopes::tables::Tables;
-use c_statements::locals::place_of_specifier;
+use c_lower_marks::mark;
 use c_tree::{Block, Head, Name};
+use c_types_names::objects::{kind_of_result, place_of_specifier};
+use c_types_names::tables::Tables;
 use shape_data::program::{Flow, Proc, Ty};
 use shape_data::{Row, copy_of};
 use std::alloc::{AllocError, Global};

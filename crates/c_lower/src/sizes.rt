@@ -1,12 +1,12 @@
 //! Which procedures are too large.
 ghost use Rattle.std.specs.Prelude.{◌≡◌, ◌<◌, ◌≤◌, length};
-ghost use Rattle.c_typing.specs.Items.{listed};
+ghost use Rattle.c_types_rules.specs.Items.{listed};
 ghost use Rattle.c_tree.specs.Syntax.{params_tree};
-ghost use Rattle.c_scopes.specs.Lowered.{lowered};
+ghost use Rattle.c_types_names.specs.Lowered.{lowered};
 ghost use Rattle.c_lower.specs.Sized.{refusals_of, all_fit};
 
-use c_scopes::first::First;
 use c_tree::{Params, Place};
+use c_types_names::first::First;
 
 /// Most nodes of a procedure.
 pub const MOST_NODES: u32 = 512;
@@ -64,7 +64,7 @@ impl Sizes {
     }
 
     /// Refuses each that is too large.
-    #[tactic(auto, using(c_scopes::proofs::Lowering::lowering))]
+    #[tactic(auto, using(c_types_names::proofs::Lowering::lowering))]
     pub fn refuse(self, place: Place, first: &mut First)
         requires params { self.params < 2147483648 }
         requires locals { self.locals ≤ 512 }

@@ -1,20 +1,20 @@
 //! The slots of a procedure: its parameters, its locals and its temporaries.
 ghost use Rattle.std.specs.Prelude.{◌≡◌, ◌++◌, ◌∷◌, [], IfOk, OnOk, map};
 ghost use Rattle.c_grammar.specs.Trees.{Param as ParamTree};
-ghost use Rattle.c_typing.specs.Tables.{param_kind};
-ghost use Rattle.c_typing.specs.Items.{listed, with_name, param_names};
-ghost use Rattle.c_typing.specs.Programs.{known};
-ghost use Rattle.c_lowering.specs.Statements.{stmts_kinds};
-ghost use Rattle.c_lowering.specs.Programs.{name_text, param_types};
+ghost use Rattle.c_types_rules.specs.Tables.{param_kind};
+ghost use Rattle.c_types_rules.specs.Items.{listed, with_name, param_names};
+ghost use Rattle.c_types_rules.specs.Programs.{known};
+ghost use Rattle.c_lower_rules.specs.Statements.{stmts_kinds};
+ghost use Rattle.c_lower_rules.specs.Programs.{name_text, param_types};
 ghost use Rattle.c_tree.specs.Syntax.{param_tree, params_tree, head_tree, block_tree};
-ghost use Rattle.c_scopes.specs.Seen.{type_seen};
+ghost use Rattle.c_types_names.specs.Seen.{type_seen};
 
 use crate::locals::{known, push_block};
-use c_scopes::kinds::CType;
-use c_scopes::objects::param_kind;
-use c_scopes::tables::Tables;
-use c_simples::types::type_of;
+use c_lower_simples::types::type_of;
 use c_tree::{Block, Head, Name, Param, Params};
+use c_types_names::kinds::CType;
+use c_types_names::objects::param_kind;
+use c_types_names::tables::Tables;
 use shape_data::program::Ty;
 use shape_data::{Row, copy_of};
 use std::alloc::{AllocError, Global};

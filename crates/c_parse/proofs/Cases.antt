@@ -9,9 +9,9 @@ use Rattle.c_grammar.specs.Words.{Word}
 use Rattle.c_grammar.specs.Readers.{Got, ◌>>=◌, wrong, class_at, behind, name_here, is_class, read_name, read_below, closed_by, assign_by, read_target, read_named, other_by, simple_by, read_simple, Does, clause_by, clause_named, read_typed, read_clause, begins_declarator, flat_by, stmt_of, take}
 use Rattle.c_grammar.proofs.Numbers.{same_class}
 use Rattle.c_parse.specs.Clauses.{is_type, read_unnamed, read_plain}
-use Rattle.c_words.specs.declared.fault.SyntaxFault.{SyntaxFault}
-use Rattle.c_words.specs.Reads.{Halts, wrong_at}
-use Rattle.c_words.proofs.Steps.{halts_at}
+use Rattle.c_parse_exprs.specs.declared.fault.SyntaxFault.{SyntaxFault}
+use Rattle.c_parse_exprs.specs.Reads.{Halts, wrong_at}
+use Rattle.c_parse_exprs.proofs.Steps.{halts_at}
 
 -- a class that was seen
 pub seen_class : (kind k : Class) → is_class kind k ≡ true → kind ≡ k

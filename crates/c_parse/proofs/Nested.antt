@@ -8,10 +8,10 @@ use Rattle.c_grammar.specs.Trees as tree
 use Rattle.c_grammar.specs.Words.{Word}
 use Rattle.c_grammar.specs.Readers.{Halt, Got, ◌>>=◌, wrong, class_at, place_at, behind, take, take_open, read_each, read_maybe, read_expr, read_simple, read_clause, begins_expr, begins_simple, begins_clause, begins_stmt, read_stmts, read_test, read_do, read_for, nested_by, opens_level, flat_by, read_stmt, read_name, read_definition, item_end_by, read_headed, item_by, read_item}
 use Rattle.c_tree.specs.Syntax.{BlockTree, stmts_of, definition_of}
-use Rattle.c_words.specs.declared.fault.SyntaxFault.{SyntaxFault}
-use Rattle.c_words.specs.Reads.{Halts, wrong_at, too_deep_at}
-use Rattle.c_words.proofs.Steps.{halts, halts_at}
-use Rattle.c_words.proofs.Loops.{SoFar, so_far_end, so_far_halts}
+use Rattle.c_parse_exprs.specs.declared.fault.SyntaxFault.{SyntaxFault}
+use Rattle.c_parse_exprs.specs.Reads.{Halts, wrong_at, too_deep_at}
+use Rattle.c_parse_exprs.proofs.Steps.{halts, halts_at}
+use Rattle.c_parse_exprs.proofs.Loops.{SoFar, so_far_end, so_far_halts}
 use Rattle.c_parse.specs.Clauses.{ForHeadTree, read_block, read_for_head, read_do_end}
 use Rattle.c_parse.proofs.Cases.{stops_wrong, seen_class, name_read}
 

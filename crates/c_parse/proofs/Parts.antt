@@ -8,9 +8,9 @@ use Rattle.c_grammar.specs.Trees as tree
 use Rattle.c_grammar.specs.Words.{Word}
 use Rattle.c_grammar.specs.Readers.{Got, ◌>>=◌, class_at, place_at, behind, is_class, if_of, read_test, read_stmts, read_if, nested_by}
 use Rattle.c_tree.specs.Syntax.{BlockTree}
-use Rattle.c_words.specs.declared.fault.SyntaxFault.{SyntaxFault}
-use Rattle.c_words.specs.Reads.{Halts}
-use Rattle.c_words.proofs.Steps.{halts}
+use Rattle.c_parse_exprs.specs.declared.fault.SyntaxFault.{SyntaxFault}
+use Rattle.c_parse_exprs.specs.Reads.{Halts}
+use Rattle.c_parse_exprs.proofs.Steps.{halts}
 use Rattle.c_parse.specs.Clauses.{read_for_head, read_block}
 use Rattle.c_parse.specs.Heads.{TestedTree, BranchTree, IterationTree, While, read_tested, read_other, read_whole_if, iteration_by, iteration_end, read_iteration, read_block_end}
 use Rattle.c_parse.proofs.Nested.{regroup, do_read, for_read}

@@ -12,9 +12,9 @@ use Rattle.c_grammar.specs.Spelling.{Spells}
 use Rattle.c_grammar.specs.Trees.{File}
 use Rattle.c_grammar.specs.Words.{words_of}
 use Rattle.c_grammar.proofs.Tokens.{stop_is_refused, spelled_is_read}
-use Rattle.c_words.specs.declared.fault.SyntaxFault.{SyntaxFault}
-use Rattle.c_words.specs.declared.fault.SyntaxFault.TheVariants.{Refused, OutOfMemory}
-use Rattle.c_words.specs.Reads.{Halts}
+use Rattle.c_parse_exprs.specs.declared.fault.SyntaxFault.{SyntaxFault}
+use Rattle.c_parse_exprs.specs.declared.fault.SyntaxFault.TheVariants.{Refused, OutOfMemory}
+use Rattle.c_parse_exprs.specs.Reads.{Halts}
 use Rattle.c_parse.specs.Faults.{IsSyntaxFault}
 
 pub fault_is_told : (tokens : List Token) → IsTokenList tokens → (fault : SyntaxFault) → Halts fault (read_file MOST_LEVELS (words_of tokens)) → IsSyntaxFault (words_of tokens) fault

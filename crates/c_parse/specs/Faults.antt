@@ -2,8 +2,8 @@
 use Rattle.std.specs.Prelude.{List}
 use Rattle.c_grammar.specs.Words.{Word}
 use Rattle.c_grammar.specs.Refusals.{RefusedAt}
-use Rattle.c_words.specs.declared.fault.SyntaxFault.{SyntaxFault}
-use Rattle.c_words.specs.declared.fault.SyntaxFault.TheVariants.{Refused, OutOfMemory}
+use Rattle.c_parse_exprs.specs.declared.fault.SyntaxFault.{SyntaxFault}
+use Rattle.c_parse_exprs.specs.declared.fault.SyntaxFault.TheVariants.{Refused, OutOfMemory}
 
 -- the words are refused there, with that code; want of memory says nothing
 abbrev pub IsSyntaxFault : List Word → SyntaxFault → Type 0

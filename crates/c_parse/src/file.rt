@@ -8,14 +8,14 @@ ghost use Rattle.c_grammar.specs.Spelling.{Spells};
 ghost use Rattle.c_grammar.specs.Trees as tree;
 ghost use Rattle.c_grammar.specs.Words.{words_of};
 ghost use Rattle.c_tree.specs.Syntax.{unit_tree};
-ghost use Rattle.c_words.specs.Reads.{Halts};
-ghost use Rattle.c_words.specs.declared.fault.SyntaxFault.TheVariants.{OutOfMemory};
+ghost use Rattle.c_parse_exprs.specs.Reads.{Halts};
+ghost use Rattle.c_parse_exprs.specs.declared.fault.SyntaxFault.TheVariants.{OutOfMemory};
 ghost use Rattle.c_parse.specs.Faults.{IsSyntaxFault};
 
 use crate::items::read_items;
+use c_parse_exprs::{Class, SyntaxFault, Words, classes};
 use c_tokens::Token;
 use c_tree::Unit;
-use c_words::{Class, SyntaxFault, Words, classes};
 use std::alloc::Global;
 
 /// How many levels of nesting a file may have.

@@ -3,13 +3,13 @@ ghost use Rattle.std.specs.Prelude.{◌≡◌, ◌≤◌, ◌<◌, length, IfOk}
 ghost use Rattle.c_grammar.specs.Readers.{class_at};
 ghost use Rattle.c_grammar.specs.Trees as tree;
 ghost use Rattle.c_tree.specs.Syntax.{expr_tree, stmt_tree, stmts_tree, block_tree};
-ghost use Rattle.c_words.specs.Reads.{Reads};
+ghost use Rattle.c_parse_exprs.specs.Reads.{Reads};
 ghost use Rattle.c_parse.specs.Clauses.{read_do_end};
 ghost use Rattle.c_parse.specs.Heads.{read_tested, tested_tree, branch_tree, iteration_by, iteration_tree, iteration_end, read_block_end};
 
 use crate::plain::{ForHead, read_do_test, read_for_head, read_test};
+use c_parse_exprs::{Class, SyntaxFault, Words};
 use c_tree::{Block, Expr, Place, Stmt};
-use c_words::{Class, SyntaxFault, Words};
 use std::alloc::{AllocError, Global};
 
 /// The place of an `if` or a `while`, and its test. Its `drop` is written out, as are those below, so that a function that

@@ -4,12 +4,12 @@ ghost use Rattle.c_grammar.specs.Readers as readers;
 ghost use Rattle.c_grammar.specs.Readers.{class_at};
 ghost use Rattle.c_grammar.specs.declared.class.Class.TheVariants as class;
 ghost use Rattle.c_tree.specs.Syntax.{ident_tree, specifier_tree, head_tree, item_tree};
-ghost use Rattle.c_words.specs.Reads.{Reads};
+ghost use Rattle.c_parse_exprs.specs.Reads.{Reads};
 
 use crate::stmts::read_block;
-use c_exprs::types::{read_declarator, read_name, read_params, read_struct_body};
+use c_parse_exprs::types::{read_declarator, read_name, read_params, read_struct_body};
+use c_parse_exprs::{Class, SyntaxFault, Words};
 use c_tree::{Head, Ident, Item, Place, TypeSpecifier};
-use c_words::{Class, SyntaxFault, Words};
 use std::alloc::Global;
 
 /// Whether an item may begin with a word of the class.

@@ -13,5 +13,5 @@ mod stmts;
 #[cfg(test)]
 mod tests;
 
-pub use c_words::SyntaxFault;
+pub use c_parse_exprs::SyntaxFault;
 pub use file::parse;

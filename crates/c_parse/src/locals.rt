@@ -4,14 +4,14 @@ ghost use Rattle.c_grammar.specs.declared.class.Class.TheVariants as class;
 ghost use Rattle.c_grammar.specs.Readers as readers;
 ghost use Rattle.c_grammar.specs.Readers.{class_at, is_class};
 ghost use Rattle.c_tree.specs.Syntax.{ident_tree, specifier_tree, expr_tree, initialized_tree, local_tree};
-ghost use Rattle.c_words.specs.Reads.{Reads};
+ghost use Rattle.c_parse_exprs.specs.Reads.{Reads};
 ghost use Rattle.c_parse.specs.Clauses.{clause_tree, is_type, read_unnamed};
 
 use crate::simple::{begins_simple, read_named, read_other};
-use c_exprs::exprs::read_expr;
-use c_exprs::types::{read_declarator, read_name, read_specifier};
+use c_parse_exprs::exprs::read_expr;
+use c_parse_exprs::types::{read_declarator, read_name, read_specifier};
+use c_parse_exprs::{Class, SyntaxFault, Words};
 use c_tree::{Expr, Ident, Initialized, Local, Simple, TypeSpecifier};
-use c_words::{Class, SyntaxFault, Words};
 use std::alloc::Global;
 
 /// Locals, or a simple statement.

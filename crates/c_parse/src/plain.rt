@@ -4,15 +4,15 @@ ghost use Rattle.c_grammar.specs.Readers as readers;
 ghost use Rattle.c_grammar.specs.Readers.{class_at};
 ghost use Rattle.c_grammar.specs.Trees as tree;
 ghost use Rattle.c_tree.specs.Syntax.{expr_tree, simple_tree, init_tree, stmt_tree};
-ghost use Rattle.c_words.specs.Reads.{Reads};
+ghost use Rattle.c_parse_exprs.specs.Reads.{Reads};
 ghost use Rattle.c_parse.specs.Clauses.{clause_tree, read_plain, read_return, read_do_test, read_for_head, for_head_tree};
 
 use crate::locals::{Clause, begins_clause, read_clause};
 use crate::simple::{begins_simple, read_simple};
-use c_exprs::exprs::read_expr;
-use c_exprs::parts::begins_expr;
+use c_parse_exprs::exprs::read_expr;
+use c_parse_exprs::parts::begins_expr;
+use c_parse_exprs::{Class, SyntaxFault, Words};
 use c_tree::{Expr, ForInit, Place, Simple, Stmt};
-use c_words::{Class, SyntaxFault, Words};
 use std::alloc::{AllocError, Global};
 
 /// How a `for` begins, its test and its step (C11 6.8.5.3). Its `drop` is written out, so that a function that holds one

@@ -4,13 +4,13 @@ ghost use Rattle.c_grammar.specs.declared.class.Class.TheVariants as class;
 ghost use Rattle.c_grammar.specs.Readers as readers;
 ghost use Rattle.c_grammar.specs.Readers.{class_at};
 ghost use Rattle.c_tree.specs.Syntax.{assign_tree, ident_tree, expr_tree, args_tree, simple_tree};
-ghost use Rattle.c_words.specs.Reads.{Reads};
+ghost use Rattle.c_parse_exprs.specs.Reads.{Reads};
 
-use c_exprs::exprs::{level_below, read_call, read_closed, read_expr};
-use c_exprs::parts::{read_members, with_members};
-use c_exprs::types::read_name;
+use c_parse_exprs::exprs::{level_below, read_call, read_closed, read_expr};
+use c_parse_exprs::parts::{read_members, with_members};
+use c_parse_exprs::types::read_name;
+use c_parse_exprs::{Class, SyntaxFault, Words};
 use c_tree::{AssignOp, Expr, Ident, Simple, StepOp};
-use c_words::{Class, SyntaxFault, Words};
 use std::alloc::Global;
 
 /// The arguments of a call, from its `(` on (C11 6.5.2.2).

@@ -3,15 +3,15 @@ ghost use Rattle.std.specs.Prelude.{◌≡◌, ◌≤◌, ◌<◌, length, IfOk}
 ghost use Rattle.c_grammar.specs.Readers as readers;
 ghost use Rattle.c_grammar.specs.Readers.{class_at};
 ghost use Rattle.c_tree.specs.Syntax.{stmt_tree, stmts_tree, block_tree};
-ghost use Rattle.c_words.specs.Reads.{Reads};
+ghost use Rattle.c_parse_exprs.specs.Reads.{Reads};
 ghost use Rattle.c_parse.specs.Clauses.{read_block};
 ghost use Rattle.c_parse.specs.Heads.{branch_tree, read_other, read_whole_if, read_iteration};
 
 use crate::heads::{Branch, as_stmt, read_block_end, read_iteration_head, read_tested};
 use crate::locals::begins_clause;
 use crate::plain::read_flat;
+use c_parse_exprs::{Class, SyntaxFault, Words};
 use c_tree::{Block, Stmt};
-use c_words::{Class, SyntaxFault, Words};
 use std::alloc::Global;
 
 /// Whether a statement that opens a level begins with a word of the class.

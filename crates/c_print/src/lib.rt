@@ -5,8 +5,6 @@
 mod expressions;
 mod items;
 mod statements;
-#[cfg(test)]
-mod tests;
 mod types;
 mod words;
 

@@ -4,10 +4,10 @@ use Rattle.std.specs.Prelude.{Some}
 use Rattle.shape_data.specs.declared.program.StructDef.{StructDef}
 use Rattle.shape_data.specs.declared.program.Ty.{Ty}
 use Rattle.c_grammar.specs.Trees.{File}
-use Rattle.c_typing.specs.Types.{Kind}
-use Rattle.c_typing.specs.Tables.{Tables}
-use Rattle.c_typing.specs.Programs.{tables_of, kinds_of, IsWellTyped, known, struct_def, first_structures}
-use Rattle.c_typing.specs.Laws.{HaveKnown}
+use Rattle.c_types_rules.specs.Types.{Kind}
+use Rattle.c_types_rules.specs.Tables.{Tables}
+use Rattle.c_types_rules.specs.Programs.{tables_of, kinds_of, IsWellTyped, known, struct_def, first_structures}
+use Rattle.c_types_rules.specs.Laws.{HaveKnown}
 use Rattle.c_types.specs.Typing.{IsTyped}
 use Rattle.c_types.proofs.Known.{all_known}
 

@@ -2,17 +2,17 @@
 use Rattle.std.proofs.Common.{◌≡◌, Result, Ok, Err, OnOk, List, [], ◌++◌, append_assoc, ap, ◌∙◌}
 use Rattle.c_tokens.specs.declared.places.Refusal.{Refusal}
 use Rattle.c_grammar.specs.Trees.{Head, Stmts}
-use Rattle.c_typing.specs.Types.{Kind}
-use Rattle.c_typing.specs.Scopes.{Env}
-use Rattle.c_typing.specs.Statements.{Found, refuses, ◌⊹◌}
-use Rattle.c_typing.specs.Items.{listed, param_variables}
-use Rattle.c_scopes.specs.declared.first.First.{First}
-use Rattle.c_scopes.specs.Lowered.{lowered}
-use Rattle.c_statements.specs.declared.finding.Finding.{Finding}
-use Rattle.c_statements.specs.Adding.{Adds}
-use Rattle.c_statements.specs.Behind.{behind_stmts}
-use Rattle.c_statements.proofs.Adding.{refused, ends, ends_same}
-use Rattle.c_statements.proofs.Leaving.{stmts_within}
+use Rattle.c_types_rules.specs.Types.{Kind}
+use Rattle.c_types_rules.specs.Scopes.{Env}
+use Rattle.c_types_rules.specs.Statements.{Found, refuses, ◌⊹◌}
+use Rattle.c_types_rules.specs.Items.{listed, param_variables}
+use Rattle.c_types_names.specs.declared.first.First.{First}
+use Rattle.c_types_names.specs.Lowered.{lowered}
+use Rattle.c_types_stmts.specs.declared.finding.Finding.{Finding}
+use Rattle.c_types_stmts.specs.Adding.{Adds}
+use Rattle.c_types_stmts.specs.Behind.{behind_stmts}
+use Rattle.c_types_stmts.proofs.Adding.{refused, ends, ends_same}
+use Rattle.c_types_stmts.proofs.Leaving.{stmts_within}
 use Rattle.c_types.specs.Behind.{behind_params}
 
 pub refused_on : {T E : Type 0} (r : Result T E) (all : List Refusal) (f : Finding) (first : First) → OnOk r (first ≡ lowered f.first all)

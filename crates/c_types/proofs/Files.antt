@@ -4,13 +4,13 @@ use Rattle.std.proofs.lemmas.List.{at_drop_more}
 use Rattle.c_tree.specs.declared.items.Unit.{Unit}
 use Rattle.c_tree.specs.Syntax.{unit_tree}
 use Rattle.c_grammar.specs.Trees.{File}
-use Rattle.c_typing.specs.declared.at.At.{At}
-use Rattle.c_typing.specs.Types.{Kind}
-use Rattle.c_typing.specs.Tables.{Tables, joined, declared_by, items_of}
-use Rattle.c_typing.specs.Programs.{items, in_unit, files_refusals}
-use Rattle.c_scopes.specs.declared.first.First.{First}
-use Rattle.c_statements.specs.declared.finding.Finding.{Finding}
-use Rattle.c_statements.specs.Adding.{Adds}
+use Rattle.c_types_rules.specs.declared.at.At.{At}
+use Rattle.c_types_rules.specs.Types.{Kind}
+use Rattle.c_types_rules.specs.Tables.{Tables, joined, declared_by, items_of}
+use Rattle.c_types_rules.specs.Programs.{items, in_unit, files_refusals}
+use Rattle.c_types_names.specs.declared.first.First.{First}
+use Rattle.c_types_stmts.specs.declared.finding.Finding.{Finding}
+use Rattle.c_types_stmts.specs.Adding.{Adds}
 use Rattle.c_types.specs.Firsts.{first_with}
 use Rattle.c_types.proofs.Firsts.{first_with-append, lowered-found}
 use Rattle.c_types.proofs.Joining.{joined-assoc, declared-append, items-append}

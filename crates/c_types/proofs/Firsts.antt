@@ -2,10 +2,10 @@
 use Rattle.std.specs.Prelude.{not, nat_lt}
 use Rattle.std.proofs.Common.{◌≡◌, ℕ, Bool, true, false, Option, Some, None, List, [], ◌∷◌, ◌++◌, map, refl, sym, ap, ◌∙◌, arith}
 use Rattle.c_tokens.specs.declared.places.Refusal.{Refusal}
-use Rattle.c_typing.specs.declared.at.At.{At}
-use Rattle.c_typing.specs.Programs.{stands_before, is_no_later, first_by, earlier, first_of, in_unit}
-use Rattle.c_scopes.specs.declared.first.First.{First}
-use Rattle.c_scopes.specs.Lowered.{least, lowered_by, lowered}
+use Rattle.c_types_rules.specs.declared.at.At.{At}
+use Rattle.c_types_rules.specs.Programs.{stands_before, is_no_later, first_by, earlier, first_of, in_unit}
+use Rattle.c_types_names.specs.declared.first.First.{First}
+use Rattle.c_types_names.specs.Lowered.{least, lowered_by, lowered}
 use Rattle.c_types.specs.Firsts.{first_with}
 
 pub first_with-append : (found : Option At) (one other : List At) → first_with found (one ++ other) ≡ first_with (first_with found one) other

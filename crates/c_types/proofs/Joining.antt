@@ -2,9 +2,9 @@
 use Rattle.std.proofs.Common.{◌≡◌, List, [], ◌∷◌, ◌++◌, append_assoc, refl, sym, ap, ◌∙◌}
 use Rattle.std.proofs.lemmas.List.{append-nil}
 use Rattle.c_grammar.specs.Trees.{Item}
-use Rattle.c_typing.specs.Tables.{Structure, Alias, Procedure, Tables, no_tables, joined, declares, declared_by}
-use Rattle.c_typing.specs.Items.{item}
-use Rattle.c_typing.specs.Programs.{items}
+use Rattle.c_types_rules.specs.Tables.{Structure, Alias, Procedure, Tables, no_tables, joined, declares, declared_by}
+use Rattle.c_types_rules.specs.Items.{item}
+use Rattle.c_types_rules.specs.Programs.{items}
 
 abbrev three : List Structure → List Alias → List Procedure → Tables
 three structures aliases procedures = record { structures = structures; aliases = aliases; procedures = procedures }

@@ -1,8 +1,8 @@
 -- Types that are all known.
 use Rattle.std.proofs.Common.{◌≡◌, Some, None, List, [], ◌∷◌, All, map, refl, ap, ◌∙◌}
 use Rattle.std.proofs.lemmas.List.Elements.{All-head, All-tail}
-use Rattle.c_typing.specs.Types.{Kind, IsKnown}
-use Rattle.c_typing.specs.Programs.{known}
+use Rattle.c_types_rules.specs.Types.{Kind, IsKnown}
+use Rattle.c_types_rules.specs.Programs.{known}
 
 known_one : (kind : Kind) → IsKnown kind → Some (known kind) ≡ kind
 known_one None is = absurd is

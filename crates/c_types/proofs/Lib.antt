@@ -1,5 +1,6 @@
 pub mod Appending
 pub mod Naming
+pub mod Params
 pub mod Sameness
 pub mod Lines
 pub mod Firsts

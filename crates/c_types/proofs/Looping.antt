@@ -2,9 +2,9 @@
 use Rattle.std.proofs.Common.{◌≡◌, ℕ, ◌+◌, ◌<◌, ◌≤◌, List, [], ◌∷◌, ◌++◌, length, drop, get_or, append_assoc, sym, ap, ◌∙◌}
 use Rattle.std.proofs.lemmas.List.{at_drop_more, at_drop_all}
 use Rattle.c_tokens.specs.declared.places.Refusal.{Refusal}
-use Rattle.c_scopes.specs.declared.first.First.{First}
-use Rattle.c_scopes.specs.Lowered.{lowered}
-use Rattle.c_scopes.proofs.Lowering as lowering
+use Rattle.c_types_names.specs.declared.first.First.{First}
+use Rattle.c_types_names.specs.Lowered.{lowered}
+use Rattle.c_types_names.proofs.Lowering as lowering
 
 module _ {X : Type 0} (all : List X → List Refusal) (one : X → List Refusal) (step : (x : X) (xs : List X) → all (x ∷ xs) ≡ one x ++ all xs) (xs : List X) (i : ℕ) where
   pub looped : (x : X) → i < length xs → x ≡ get_or xs i x → (from to whole : First) → to ≡ lowered from (one x) → lowered from (all (drop i xs)) ≡ whole → lowered to (all (drop (i + 1) xs)) ≡ whole

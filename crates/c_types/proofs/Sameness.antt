@@ -1,9 +1,9 @@
 -- Lists that are compared place by place.
 use Rattle.std.proofs.Common.{◌≡◌, ◌==◌, ℕ, ◌-◌, ◌≤◌, Bool, leb, List, [], ◌∷◌, length, map, drop, length-drop, sym, ◌∙◌, arith}
 use Rattle.std.proofs.lemmas.List.{length-map, at_drop_all}
-use Rattle.c_typing.specs.Types.{Kind}
-use Rattle.c_typing.specs.Tables.{FieldKind}
-use Rattle.c_typing.specs.Items.{same_fields, same_kinds}
+use Rattle.c_types_rules.specs.Types.{Kind}
+use Rattle.c_types_rules.specs.Tables.{FieldKind}
+use Rattle.c_types_rules.specs.Items.{same_fields, same_kinds}
 
 pub fields_left : (ones : List FieldKind) → same_fields [] ones ≡ (length ones == 0)
 fields_left [] = grind (arith)

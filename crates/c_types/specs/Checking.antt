@@ -1,7 +1,7 @@
 -- When the type checker gives which answer.
 use Rattle.std.specs.Prelude.{◌≡◌, Some, List}
 use Rattle.c_grammar.specs.Trees.{File}
-use Rattle.c_typing.specs.Programs.{first_refusal}
+use Rattle.c_types_rules.specs.Programs.{first_refusal}
 use Rattle.c_types.specs.declared.typed.TypeFault.{TypeFault}
 use Rattle.c_types.specs.declared.typed.TypeFault.TheVariants.{Refused, OutOfMemory}
 

@@ -2,8 +2,8 @@
 -- the words stand.
 use Rattle.std.specs.Prelude.{◌≡◌, ℕ, Option, Some, None, List, [], ◌∷◌, codes}
 use Rattle.c_grammar.specs.Trees.{Name, Specifier, Declarator, Fields, Param, Params, Head, BinaryOp, Expr, Args, AssignOp, StepOp, Simple, Initialized, ForInit, Stmt, Stmts, Item, File}
-use Rattle.c_typing.specs.Programs.{first_refusal}
-use Rattle.c_typing.specs.Examples.{at, named, plain_name, pointer_name, variable, number, two, node, with_pointer, refused}
+use Rattle.c_types_rules.specs.Programs.{first_refusal}
+use Rattle.c_types_rules.specs.Examples.{at, named, plain_name, pointer_name, variable, number, two, node, with_pointer, refused}
 
 abbrev pub stmts : List Stmt → Stmts
 stmts [] = Stmts.NoStmts

@@ -5,7 +5,7 @@ use Rattle.shape_data.specs.declared.program.Ty.{Ty}
 use Rattle.c_grammar.specs.Trees.{File}
 use Rattle.c_tree.specs.declared.items.Unit.{Unit}
 use Rattle.c_tree.specs.Syntax.{unit_tree}
-use Rattle.c_typing.specs.Programs.{IsWellTyped, structs_of, kinds_of}
+use Rattle.c_types_rules.specs.Programs.{IsWellTyped, structs_of, kinds_of}
 
 abbrev pub files_of : List Unit → List File
 files_of units = map unit_tree units

@@ -1,21 +1,21 @@
 //! The type checker.
 ghost use Rattle.std.specs.Prelude.{◌≡◌, ◌<◌, IfOk, IfErr, None, length, map};
 ghost use Rattle.c_tree.specs.Syntax.{unit_tree};
-ghost use Rattle.c_typing.specs.Tables.{no_tables, items_of};
-ghost use Rattle.c_typing.specs.Programs as program;
+ghost use Rattle.c_types_rules.specs.Tables.{no_tables, items_of};
+ghost use Rattle.c_types_rules.specs.Programs as program;
 ghost use Rattle.c_types.specs.Typing.{files_of};
 ghost use Rattle.c_types.specs.Checking.{IsFault};
 
 use crate::defs::{known_kinds, struct_defs};
 use crate::items::items;
 use crate::typed::{TypeFault, Typed};
-use c_scopes::env::Env;
-use c_scopes::first::First;
-use c_scopes::listed::Kinds;
-use c_scopes::tables::Tables;
-use c_statements::finding::Finding;
 use c_tree::Unit;
-use c_typing::laws::{first_refusal, types_are_known};
+use c_types_exprs::listed::Kinds;
+use c_types_names::env::Env;
+use c_types_names::first::First;
+use c_types_names::tables::Tables;
+use c_types_rules::laws::{first_refusal, types_are_known};
+use c_types_stmts::finding::Finding;
 use shape_data::Row;
 use std::alloc::{AllocError, Global};
 

@@ -1,13 +1,13 @@
 //! The structures and the types of a well typed program as data of their own.
 ghost use Rattle.std.specs.Prelude.{◌≡◌, [], IfOk, map};
-ghost use Rattle.c_typing.specs.Programs.{known, field_def, struct_def, first_structures};
-ghost use Rattle.c_scopes.specs.Seen.{kind_seen, field_seen, structure_seen};
+ghost use Rattle.c_types_rules.specs.Programs.{known, field_def, struct_def, first_structures};
+ghost use Rattle.c_types_names.specs.Seen.{kind_seen, field_seen, structure_seen};
 
 use crate::fields::Fields;
-use c_scopes::declared::Structure;
-use c_scopes::kinds::{CType, Kind};
-use c_scopes::objects::FieldKind;
-use c_scopes::tables::{Tables, structure_among};
+use c_types_names::declared::Structure;
+use c_types_names::kinds::{CType, Kind};
+use c_types_names::objects::FieldKind;
+use c_types_names::tables::{Tables, structure_among};
 use shape_data::program::{Field, StructDef, Ty};
 use shape_data::{Row, copy_of};
 use std::alloc::{AllocError, Global};
@@ -36,7 +36,7 @@ pub fn known_kinds(alloc: Global, kinds: &[Kind]) -> Result<Row<Ty>, AllocError>
 }
 
 /// The field as data of its own.
-#[tactic(auto, unfolding(c_scopes::specs::Seen::field_seen))]
+#[tactic(auto, unfolding(c_types_names::specs::Seen::field_seen))]
 fn field_def(field: FieldKind) -> Result<Field, AllocError>
     ensures { IfOk result (λ def. def ≡ field_def (field_seen field.entry)) }
 {

@@ -1,16 +1,16 @@
 //! The fields of structures, with their types.
 ghost use Rattle.std.specs.Prelude.{◌≡◌, ◌&&◌, ◌++◌, ◌∷◌, [], OnOk, map};
 ghost use Rattle.std.specs.Str.{bytes_eq};
-ghost use Rattle.c_typing.specs.Types.{may_agree};
-ghost use Rattle.c_typing.specs.Tables.{field_kind, field_kinds};
-ghost use Rattle.c_typing.specs.Items.{same_fields};
+ghost use Rattle.c_types_rules.specs.Types.{may_agree};
+ghost use Rattle.c_types_rules.specs.Tables.{field_kind, field_kinds};
+ghost use Rattle.c_types_rules.specs.Items.{same_fields};
 ghost use Rattle.c_tree.specs.Syntax.{specifier_tree, declarator_tree, fields_tree};
-ghost use Rattle.c_scopes.specs.Seen.{field_seen};
+ghost use Rattle.c_types_names.specs.Seen.{field_seen};
 
-use c_scopes::kinds::{may_agree, same_name};
-use c_scopes::objects::{FieldKind, field_kind};
-use c_scopes::tables::Tables;
 use c_tree::FieldDecl;
+use c_types_names::kinds::{may_agree, same_name};
+use c_types_names::objects::{FieldKind, field_kind};
+use c_types_names::tables::Tables;
 use std::alloc::{AllocError, Global};
 use std::marker::Model;
 
@@ -22,8 +22,8 @@ pub struct Fields<'a> {
 
 impl<'a> Model for Fields<'a> {
     ghost use Rattle.std.specs.Prelude.{List, map};
-    ghost use Rattle.c_typing.specs.Tables.{FieldKind};
-    ghost use Rattle.c_scopes.specs.Seen.{field_seen};
+    ghost use Rattle.c_types_rules.specs.Tables.{FieldKind};
+    ghost use Rattle.c_types_names.specs.Seen.{field_seen};
 
     ghost Value = { List FieldKind };
 
@@ -31,7 +31,7 @@ impl<'a> Model for Fields<'a> {
 }
 
 /// Whether the fields have the same name, and types that may agree.
-#[tactic(auto, unfolding(c_scopes::specs::Seen::field_seen))]
+#[tactic(auto, unfolding(c_types_names::specs::Seen::field_seen))]
 fn same_field(one: FieldKind, other: FieldKind) -> bool
     ensures { let this = field_seen one.entry in let that = field_seen other.entry in
         result ≡ (bytes_eq this.name.text that.name.text && may_agree this.kind that.kind) }

@@ -1,67 +1,105 @@
 //! Declarations of procedures (C11 6.7.6.3).
-ghost use Rattle.std.specs.Prelude.{◌≡◌, ◌&&◌, ◌++◌, ◌∷◌, [], not, IfOk, OnOk, map, option_map};
-ghost use Rattle.c_typing.specs.FirstPlaces.{place_of_head};
-ghost use Rattle.c_typing.specs.Types.{may_agree, unless as unless_of, SECOND, CLASH};
-ghost use Rattle.c_typing.specs.Tables.{is_alias, param_kind, param_kinds, kind_of_result};
-ghost use Rattle.c_typing.specs.Items.{param_refusals, each_param_refusals, listed, head_refusals, same_kinds, same_head};
-ghost use Rattle.c_tree.specs.Syntax.{param_tree, params_tree, head_tree};
-ghost use Rattle.c_scopes.specs.Seen.{kind_seen, procedure_seen};
-ghost use Rattle.c_scopes.specs.Lowered.{lowered};
+ghost use Rattle.std.specs.Prelude.{◌≡◌, ◌&&◌, ◌++◌, ◌∷◌, [], not, IfOk, OnOk, List, map, option_map};
+ghost use Rattle.c_grammar.specs.Trees.{Name as NameTree};
+ghost use Rattle.c_types_rules.specs.FirstPlaces.{place_of_head};
+ghost use Rattle.c_types_rules.specs.Types.{may_agree, unless as unless_of, SECOND, CLASH};
+ghost use Rattle.c_types_rules.specs.Tables.{is_alias, param_kind, param_kinds, kind_of_result};
+ghost use Rattle.c_types_rules.specs.Items.{is_hidden_by, param_refusals, each_param_refusals, listed, with_name, head_refusals, same_kinds, same_head};
+ghost use Rattle.c_tree.specs.Syntax.{ident_tree, specifier_tree, param_tree, params_tree, head_tree};
+ghost use Rattle.c_types_names.specs.Seen.{kind_seen, procedure_seen};
+ghost use Rattle.c_types_names.specs.Lowered.{lowered};
+ghost use Rattle.c_types.specs.Names.{Lists};
 
 use crate::names::Names;
-use c_scopes::declared::Procedure;
-use c_scopes::first::First;
-use c_scopes::kinds::{Kind, may_agree};
-use c_scopes::listed::Kinds;
-use c_scopes::objects::{
+use c_tree::{Head, Ident, Param, Params, TypeSpecifier};
+use c_types_exprs::listed::Kinds;
+use c_types_names::declared::Procedure;
+use c_types_names::first::First;
+use c_types_names::kinds::{Kind, may_agree};
+use c_types_names::name_set::NameSet;
+use c_types_names::objects::{
     CLASH, LEFT_OUT, SECOND, is_alias, kind_of_result, may_be_object, may_be_result, param_kind,
-    specifier_refusals,
+    place_of_specifier, specifier_refusals,
 };
-use c_scopes::tables::Tables;
-use c_statements::locals::place_of_specifier;
-use c_tree::{Head, Param, Params};
+use c_types_names::tables::Tables;
 use std::alloc::{AllocError, Global};
 
-/// What is refused in a parameter.
-#[tactic(auto, using(c_scopes::proofs::Lowering::lowering))]
-fn param_refusals(tables: &Tables, param: &Param, first: &mut First)
-    ensures { first.new ≡ lowered first.old (param_refusals tables.now (param_tree param.now)) }
+/// Whether the specifier is a name of a type that is also that of a parameter before.
+fn is_hidden_by(before: &NameSet, specifier: &TypeSpecifier) -> bool
+    ensures { (names : List NameTree) → Lists before.now names → result ≡ is_hidden_by names (specifier_tree specifier.now) }
+{
+    match specifier {
+        TypeSpecifier::Int(_) => false,
+        TypeSpecifier::Void(_) => false,
+        TypeSpecifier::Struct(_, _) => false,
+        TypeSpecifier::Alias(name) => before.contains(&name.text),
+    }
+}
+
+/// What is refused in a parameter, behind others.
+fn param_refusals(tables: &Tables, before: &NameSet, param: &Param, first: &mut First)
+    ensures { (names : List NameTree) → Lists before.now names → first.new ≡ lowered first.old (param_refusals tables.now names (param_tree param.now)) }
 {
     specifier_refusals(tables, &param.specifier, first);
+    let place = place_of_specifier(&param.specifier);
+    let hidden = is_hidden_by(before, &param.specifier);
+    first.unless(!hidden, place, LEFT_OUT);
     first.unless(
         may_be_object(&param.specifier, param.stars),
-        place_of_specifier(&param.specifier),
+        place,
         LEFT_OUT,
     );
 }
 
-/// What is refused in parameters.
-#[tactic(auto, using(c_scopes::proofs::Lowering::lowering))]
-fn more_param_refusals(tables: &Tables, params: &[Param], first: &mut First)
-    ensures { first.new ≡ lowered first.old (each_param_refusals tables.now (map param_tree params.now)) }
+/// Adds the name of a parameter, if it has one.
+fn add_name<'a>(before: &mut NameSet<'a>, name: &'a Option<Ident>) -> Result<(), AllocError>
+    ensures { OnOk result ((names : List NameTree) → Lists before.old names → Lists before.new (with_name (option_map ident_tree name.now) names)) }
 {
-    for param in params {
-        param_refusals(tables, param, first);
+    match name {
+        None => Ok(()),
+        Some(name) => before.add(&name.text),
     }
 }
 
+/// What is refused in parameters, behind others.
+fn more_param_refusals<'a>(
+    tables: &Tables,
+    before: &mut NameSet<'a>,
+    params: &'a [Param],
+    first: &mut First,
+) -> Result<(), AllocError>
+    ensures { OnOk result ((names : List NameTree) → Lists before.old names → first.new ≡ lowered first.old (each_param_refusals tables.now names (map param_tree params.now))) }
+{
+    for param in params {
+        param_refusals(tables, before, param, first);
+        add_name(before, &param.name)?;
+    }
+    Ok(())
+}
+
 /// What is refused in the parameters of a procedure.
-#[tactic(auto, using(c_scopes::proofs::Lowering::lowering))]
-fn each_param_refusals(tables: &Tables, params: &Params, first: &mut First)
-    ensures { first.new ≡ lowered first.old (each_param_refusals tables.now (listed (params_tree params.now))) }
+fn each_param_refusals(
+    alloc: Global,
+    tables: &Tables,
+    params: &Params,
+    first: &mut First,
+) -> Result<(), AllocError>
+    ensures { OnOk result (first.new ≡ lowered first.old (each_param_refusals tables.now [] (listed (params_tree params.now)))) }
 {
     match params {
-        Params::Empty => {}
-        Params::Void(_) => {}
+        Params::Empty => Ok(()),
+        Params::Void(_) => Ok(()),
         Params::Listed(param, others) => {
-            param_refusals(tables, param, first);
-            more_param_refusals(tables, others.as_slice(), first);
+            let mut before = NameSet::new(alloc);
+            param_refusals(tables, &before, param, first);
+            add_name(&mut before, &param.name)?;
+            more_param_refusals(tables, &mut before, others.as_slice(), first)
         }
     }
 }
 
 /// What is refused in a head, whatever else is declared under its name.
-#[tactic(auto, using(c_scopes::proofs::Lowering::lowering))]
+#[tactic(auto, using(c_types_names::proofs::Lowering::lowering))]
 fn head_refusals<'a>(
     alloc: Global,
     tables: &Tables<'a>,
@@ -76,11 +114,10 @@ fn head_refusals<'a>(
         place_of_specifier(&head.specifier),
         LEFT_OUT,
     );
-    each_param_refusals(tables, &head.params, first);
+    each_param_refusals(alloc, tables, &head.params, first)?;
     let mut names = Names::new(alloc);
     names.push_params(&head.params)?;
-    names.refuse_second(first);
-    Ok(())
+    names.refuse_second(alloc, first)
 }
 
 /// The types of parameters.
@@ -157,7 +194,7 @@ fn same_results<'a>(tables: &Tables<'a>, one: &'a Head, other: &'a Head) -> bool
 }
 
 /// Whether a procedure that was declared before has the same types.
-#[tactic(auto, unfolding(c_scopes::specs::Seen::procedure_seen))]
+#[tactic(auto, unfolding(c_types_names::specs::Seen::procedure_seen))]
 fn same_head<'a>(
     alloc: Global,
     tables: &Tables<'a>,
@@ -176,7 +213,7 @@ fn same_head<'a>(
 }
 
 /// What is refused in a declaration of a procedure, of which this is the first of its name.
-#[tactic(auto, using(c_scopes::proofs::Lowering::lowering))]
+#[tactic(auto, using(c_types_names::proofs::Lowering::lowering))]
 pub fn procedure_refusals<'a>(
     alloc: Global,
     tables: &Tables<'a>,

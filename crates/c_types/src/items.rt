@@ -1,25 +1,26 @@
 //! Items: structures, names of types, prototypes and definitions.
 ghost use Rattle.std.specs.Prelude.{◌≡◌, ◌++◌, ◌∷◌, [], false, not, OnOk, map, option_map};
 ghost use Rattle.c_grammar.specs.Readers.{place_of_specifier};
-ghost use Rattle.c_typing.specs.Types.{unless as unless_of, UNDECLARED, SECOND, LEFT_OUT};
-ghost use Rattle.c_typing.specs.Tables.{joined, declared_by, is_defined, tag_or};
-ghost use Rattle.c_typing.specs.Items as rule;
-ghost use Rattle.c_typing.specs.Programs as program;
+ghost use Rattle.c_types_rules.specs.Types.{unless as unless_of, UNDECLARED, SECOND, LEFT_OUT};
+ghost use Rattle.c_types_rules.specs.Tables.{joined, declared_by, is_defined, tag_or};
+ghost use Rattle.c_types_rules.specs.Items as rule;
+ghost use Rattle.c_types_rules.specs.Programs as program;
 ghost use Rattle.c_tree.specs.Syntax.{ident_tree, fields_tree, param_tree, params_tree, head_tree, block_tree, item_tree};
-ghost use Rattle.c_scopes.specs.Lowered.{lowered};
-ghost use Rattle.c_statements.specs.Adding.{Adds};
+ghost use Rattle.c_types_names.specs.Lowered.{lowered};
+ghost use Rattle.c_types_stmts.specs.Adding.{Adds};
 ghost use Rattle.c_types.specs.Behind.{behind_params};
 
 use crate::heads::procedure_refusals;
 use crate::structures::{alias_refusals, structure_refusals};
-use c_scopes::env::Env;
-use c_scopes::first::First;
-use c_scopes::objects::{LEFT_OUT, SECOND, UNDECLARED, is_defined, kind_of_result, param_kind};
-use c_scopes::tables::{Tables, tag_or};
-use c_statements::finding::Finding;
-use c_statements::locals::place_of_specifier;
-use c_statements::stmts::stmts;
 use c_tree::{Block, FieldDecl, Head, Ident, Item, Param, Params};
+use c_types_names::env::Env;
+use c_types_names::first::First;
+use c_types_names::objects::{
+    LEFT_OUT, SECOND, UNDECLARED, is_defined, kind_of_result, param_kind, place_of_specifier,
+};
+use c_types_names::tables::{Tables, tag_or};
+use c_types_stmts::finding::Finding;
+use c_types_stmts::stmts::stmts;
 use std::alloc::{AllocError, Global};
 
 /// Refuses a parameter of a definition that has no name.
@@ -111,7 +112,7 @@ fn body<'a>(
 }
 
 /// A structure under `typedef`.
-#[tactic(auto, using(c_scopes::proofs::Lowering::lowering))]
+#[tactic(auto, using(c_types_names::proofs::Lowering::lowering))]
 fn typedef_structure<'a>(
     alloc: Global,
     tables: &Tables<'a>,
@@ -136,7 +137,7 @@ fn typedef_structure<'a>(
 }
 
 /// A name of a type, of a structure that is defined elsewhere.
-#[tactic(auto, using(c_scopes::proofs::Lowering::lowering))]
+#[tactic(auto, using(c_types_names::proofs::Lowering::lowering))]
 fn typedef_alias(tables: &Tables, before: &Tables, tag: &Ident, alias: &Ident, first: &mut First)
     ensures { let name = ident_tree tag.now in
         first.new ≡ lowered first.old (unless_of (is_defined tables.now name.text) name.place UNDECLARED ++ rule.alias_refusals before.now (ident_tree alias.now) name) }
@@ -146,7 +147,7 @@ fn typedef_alias(tables: &Tables, before: &Tables, tag: &Ident, alias: &Ident, f
 }
 
 /// A prototype.
-#[tactic(auto, using(c_scopes::proofs::Lowering::lowering))]
+#[tactic(auto, using(c_types_names::proofs::Lowering::lowering))]
 fn prototype<'a>(
     alloc: Global,
     tables: &Tables<'a>,
@@ -161,7 +162,7 @@ fn prototype<'a>(
 }
 
 /// The head of a definition.
-#[tactic(auto, using(c_scopes::proofs::Lowering::lowering))]
+#[tactic(auto, using(c_types_names::proofs::Lowering::lowering))]
 fn defined_head<'a>(
     alloc: Global,
     tables: &Tables<'a>,

@@ -1,4 +1,4 @@
-//! Types of C programs: whether a program keeps the typing rules of `c_typing`, and then which types its expressions have.
+//! Types of C programs: whether a program keeps the typing rules of `c_types_rules`, and then which types its expressions have.
 #![tactic(auto)]
 
 mod checker;

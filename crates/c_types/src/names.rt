@@ -1,15 +1,15 @@
 //! Names that must differ: those of fields, and those of parameters.
 ghost use Rattle.std.specs.Prelude.{◌≡◌, ◌++◌, ◌∷◌, [], OnOk, map};
 ghost use Rattle.c_grammar.specs.Trees.{Declarator as DeclaratorTree};
-ghost use Rattle.c_typing.specs.Items.{is_listed, twice, field_names, with_name, param_names, listed};
+ghost use Rattle.c_types_rules.specs.Items.{twice, field_names, with_name, param_names, listed};
 ghost use Rattle.c_tree.specs.Syntax.{ident_tree, fields_tree, param_tree, params_tree};
-ghost use Rattle.c_scopes.specs.Lowered.{lowered};
-ghost use Rattle.c_types.specs.Names.{named_seen, names_before};
+ghost use Rattle.c_types_names.specs.Lowered.{lowered};
+ghost use Rattle.c_types.specs.Names.{named_seen};
 
-use c_scopes::first::First;
-use c_scopes::kinds::same_name;
-use c_scopes::objects::SECOND;
 use c_tree::{FieldDecl, Ident, Param, Params};
+use c_types_names::first::First;
+use c_types_names::name_set::NameSet;
+use c_types_names::objects::SECOND;
 use std::alloc::{AllocError, Global};
 use std::marker::Model;
 
@@ -116,34 +116,23 @@ impl<'a> Names<'a> {
 
     /// Refuses each name that stood before.
     #[tactic(auto, using(crate::proofs::Naming::naming))]
-    pub fn refuse_second(&self, first: &mut First)
-        ensures { first.new ≡ lowered first.old (twice [] self.now) }
+    pub fn refuse_second(&self, alloc: Global, first: &mut First) -> Result<(), AllocError>
+        ensures { OnOk result (first.new ≡ lowered first.old (twice [] self.now)) }
     {
-        refuse_second_of(self.found.as_slice(), first);
+        refuse_second_of(alloc, self.found.as_slice(), first)
     }
-}
-
-/// Whether the name is one of those.
-#[tactic(auto, using(crate::proofs::Naming::naming))]
-fn is_listed(before: &[Named], name: &Ident) -> bool
-    ensures { result ≡ is_listed (names_before before.now) (ident_tree name.now) }
-{
-    let mut listed = false;
-    for one in before {
-        if same_name(&one.name.text, &name.text) {
-            listed = true;
-        }
-    }
-    listed
 }
 
 /// Refuses each name that stood before.
 #[tactic(auto, using(crate::proofs::Naming::naming))]
-fn refuse_second_of(names: &[Named], first: &mut First)
-    ensures { first.new ≡ lowered first.old (twice [] (map named_seen names.now)) }
+fn refuse_second_of(alloc: Global, names: &[Named], first: &mut First) -> Result<(), AllocError>
+    ensures { OnOk result (first.new ≡ lowered first.old (twice [] (map named_seen names.now))) }
 {
-    for (place, one) in names.iter().enumerate() {
-        let listed = is_listed(&names[..place], one.name);
+    let mut before = NameSet::new(alloc);
+    for one in names {
+        let listed = before.contains(&one.name.text);
         first.unless(!listed, one.name.place, SECOND);
+        before.add(&one.name.text)?;
     }
+    Ok(())
 }

@@ -1,22 +1,23 @@
 //! Structures (C11 6.7.2.1) and names of types (C11 6.7.8).
 ghost use Rattle.std.specs.Prelude.{◌≡◌, ◌&&◌, ◌++◌, ◌∷◌, not, IfOk, OnOk, map, option_map};
-ghost use Rattle.c_typing.specs.Items.{declarator_refusals, lines_refusals, same_fields, repeated_refusals, structure_refusals, same_alias, is_procedure, alias_refusals};
+ghost use Rattle.c_types_rules.specs.Items.{declarator_refusals, lines_refusals, same_fields, repeated_refusals, structure_refusals, same_alias, is_procedure, alias_refusals};
 ghost use Rattle.c_grammar.specs.Readers.{place_of_specifier};
-ghost use Rattle.c_typing.specs.Types.{unless as unless_of, LEFT_OUT};
-ghost use Rattle.c_typing.specs.Tables.{field_kinds, structure_in, alias_in, specifier_refusals, may_be_object};
+ghost use Rattle.c_types_rules.specs.Types.{unless as unless_of, LEFT_OUT};
+ghost use Rattle.c_types_rules.specs.Tables.{field_kinds, structure_in, alias_in, specifier_refusals, may_be_object};
 ghost use Rattle.c_tree.specs.Syntax.{ident_tree, specifier_tree, declarator_tree, fields_tree};
-ghost use Rattle.c_scopes.specs.Seen.{structure_seen, alias_seen};
-ghost use Rattle.c_scopes.specs.Lowered.{lowered};
+ghost use Rattle.c_types_names.specs.Seen.{structure_seen, alias_seen};
+ghost use Rattle.c_types_names.specs.Lowered.{lowered};
 
 use crate::fields::Fields;
 use crate::names::Names;
-use c_scopes::declared::{Alias, Structure};
-use c_scopes::first::First;
-use c_scopes::kinds::same_name;
-use c_scopes::objects::{DIFFERS, LEFT_OUT, SECOND, may_be_object, specifier_refusals};
-use c_scopes::tables::Tables;
-use c_statements::locals::place_of_specifier;
 use c_tree::{Declarator, FieldDecl, Ident, TypeSpecifier};
+use c_types_names::declared::{Alias, Structure};
+use c_types_names::first::First;
+use c_types_names::kinds::same_name;
+use c_types_names::objects::{
+    DIFFERS, LEFT_OUT, SECOND, may_be_object, place_of_specifier, specifier_refusals,
+};
+use c_types_names::tables::Tables;
 use std::alloc::{AllocError, Global};
 
 /// Refuses a field that is neither an int nor a pointer to a structure.
@@ -77,7 +78,7 @@ fn same_lines<'a>(
 }
 
 /// Refuses a structure that was defined before with other fields.
-#[tactic(auto, using(c_scopes::proofs::Lowering::lowering))]
+#[tactic(auto, using(c_types_names::proofs::Lowering::lowering))]
 fn repeated_refusals<'a>(
     alloc: Global,
     tables: &Tables<'a>,
@@ -99,7 +100,7 @@ fn repeated_refusals<'a>(
 }
 
 /// What is refused in a definition of a structure.
-#[tactic(auto, using(c_scopes::proofs::Lowering::lowering))]
+#[tactic(auto, using(c_types_names::proofs::Lowering::lowering))]
 pub fn structure_refusals<'a>(
     alloc: Global,
     tables: &Tables<'a>,
@@ -113,7 +114,7 @@ pub fn structure_refusals<'a>(
     lines_refusals(tables, lines.as_slice(), first);
     let mut names = Names::new(alloc);
     names.push_lines(lines.as_slice())?;
-    names.refuse_second(first);
+    names.refuse_second(alloc, first)?;
     repeated_refusals(
         alloc,
         tables,

@@ -2,7 +2,7 @@
 ghost use Rattle.c_types.specs.Typing.{IsTyped, files_of};
 
 use c_tree::Unit;
-use c_typing::At;
+use c_types_rules::At;
 use shape_data::Row;
 use shape_data::program::{StructDef, Ty};
 use std::alloc::{AllocError, AllocFailed};

@@ -13,4 +13,5 @@ mod steps;
 mod tests;
 
 pub use conditions::can_start;
+pub use shape_data::machine::{Outcome, Stepped};
 pub use steps::{run, start, step};

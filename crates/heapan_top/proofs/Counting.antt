@@ -14,9 +14,9 @@ use Rattle.c_grammar.specs.Words.{Word, words_of}
 use Rattle.c_grammar.proofs.Goods.{item_good}
 use Rattle.c_grammar.proofs.SpelledFiles.{is_item}
 use Rattle.c_grammar.proofs.Synced.{fewer}
-use Rattle.c_typing.specs.Tables.{Structure, declares, declared_by}
-use Rattle.c_typing.specs.Programs.{is_among, first_structures, struct_def, structs_of, tables_of}
-use Rattle.c_units.specs.Units.{IsUnitOf}
+use Rattle.c_types_rules.specs.Tables.{Structure, declares, declared_by}
+use Rattle.c_types_rules.specs.Programs.{is_among, first_structures, struct_def, structs_of, tables_of}
+use Rattle.c_front.specs.Units.{IsUnitOf}
 
 -- TOKENS
 

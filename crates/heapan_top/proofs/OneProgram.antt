@@ -12,7 +12,7 @@ use Rattle.c_grammar.specs.Trees.{File}
 use Rattle.c_grammar.specs.Words.{words_of}
 use Rattle.c_grammar.proofs.OneTree.{one_tree}
 use Rattle.c_grammar.proofs.Refused as words
-use Rattle.c_units.specs.Units.{IsUnitOf, IsRefusedText}
+use Rattle.c_front.specs.Units.{IsUnitOf, IsRefusedText}
 use Rattle.heapan_top.specs.declared.programs.Refused.{Refused}
 use Rattle.heapan_top.specs.Programs.{IsRefusedFile, IsProgramOf, of_refusal, program_in, refused_in}
 

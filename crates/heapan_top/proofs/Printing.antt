@@ -19,13 +19,13 @@ use Rattle.shape_data.specs.WellFormed.{IsFlow, IsProgram}
 use Rattle.shape_laws.specs.Returns.{ReturnsAtOnce, returns_value}
 use Rattle.shape_laws.proofs.Returning.{parameter-Valid, number-Valid, other_slot-Valid}
 use Rattle.c_grammar.specs.Trees.{File}
-use Rattle.c_typing.specs.Laws.{HaveFirst}
-use Rattle.c_typing.specs.Programs.{IsWellTyped, refusals_of, first_refusal}
-use Rattle.c_units.specs.Units.{IsUnitOf}
-use Rattle.c_lowering.specs.Laws.{HaveWellFormed}
-use Rattle.c_lowering.specs.Programs.{first_too_large}
-use Rattle.c_lowering.specs.Texts.{IsText}
-use Rattle.c_texts.specs.Laws.{HaveTexts}
+use Rattle.c_types_rules.specs.Laws.{HaveFirst}
+use Rattle.c_types_rules.specs.Programs.{IsWellTyped, refusals_of, first_refusal}
+use Rattle.c_front.specs.Units.{IsUnitOf}
+use Rattle.c_lower_rules.specs.Laws.{HaveWellFormed}
+use Rattle.c_lower_rules.specs.Programs.{first_too_large}
+use Rattle.c_lower_rules.specs.Texts.{IsText}
+use Rattle.c_lower_rules.specs.Parsed.{HaveTexts}
 use Rattle.heapan_top.specs.Headline.{AreValid, PrintsValid}
 use Rattle.heapan_top.specs.Programs.{IsProgramOf, of_place, of_proc, program_in, refused_in, MOST_PROCEDURES}
 use Rattle.heapan_top.specs.Replies.{Asks, returned_by, returned_at, first_return, spec_of, specs_by, specs_of}

@@ -4,12 +4,12 @@ use Rattle.std.specs.Prelude.{slice_get}
 use Rattle.std.specs.Option.{option_map, option_or}
 use Rattle.shape_data.specs.declared.program.Program.{Program}
 use Rattle.c_grammar.specs.Trees.{File}
-use Rattle.c_typing.specs.Programs.{IsWellTyped, first_of, first_refusal}
-use Rattle.c_units.specs.Units.{IsUnitOf}
-use Rattle.c_lowering.specs.Programs.{first_too_large}
-use Rattle.c_front.specs.declared.fault.FrontFault.{FrontFault}
-use Rattle.c_front.specs.declared.fault.FrontFault.TheVariants as front
-use Rattle.c_front.specs.Typing.{IsFrontFault}
+use Rattle.c_types_rules.specs.Programs.{IsWellTyped, first_of, first_refusal}
+use Rattle.c_front.specs.Units.{IsUnitOf}
+use Rattle.c_lower_rules.specs.Programs.{first_too_large}
+use Rattle.heapan_top.specs.declared.front_fault.FrontFault.{FrontFault}
+use Rattle.heapan_top.specs.declared.front_fault.FrontFault.TheVariants as front
+use Rattle.heapan_top.specs.Typing.{IsFrontFault}
 use Rattle.c_lower.specs.declared.fault.LowerFault.{LowerFault}
 use Rattle.c_lower.specs.declared.fault.LowerFault.TheVariants as lower
 use Rattle.c_lower.specs.Lowering.{IsLowerFault}

@@ -5,3 +5,4 @@ pub mod Programs
 pub mod Replies
 pub mod Request
 pub mod Text
+pub mod Typing

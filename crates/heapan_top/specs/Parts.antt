@@ -2,8 +2,8 @@
 use Rattle.std.specs.Prelude.{◌≡◌, ◌≢◌, ℕ, Bool, true, false, List, ◌∷◌, ◌++◌, ◌⊎◌, All, codes}
 use Rattle.std.specs.declared.option.Option.{Option}
 use Rattle.shape_data.specs.declared.program.Program.{Program}
-use Rattle.c_front.specs.declared.fault.FrontFault.{FrontFault}
-use Rattle.c_front.specs.declared.fault.FrontFault.TheVariants as front
+use Rattle.heapan_top.specs.declared.front_fault.FrontFault.{FrontFault}
+use Rattle.heapan_top.specs.declared.front_fault.FrontFault.TheVariants as front
 use Rattle.c_lower.specs.declared.fault.LowerFault.{LowerFault}
 use Rattle.c_lower.specs.declared.fault.LowerFault.TheVariants as lower
 use Rattle.heapan_top.specs.declared.programs.ProgramFault.{ProgramFault}

@@ -5,10 +5,10 @@ use Rattle.shape_data.specs.declared.program.Proc.{Proc}
 use Rattle.shape_data.specs.declared.program.Program.{Program}
 use Rattle.c_tokens.specs.declared.places.Refusal.{Refusal}
 use Rattle.c_grammar.specs.Trees.{File}
-use Rattle.c_typing.specs.declared.at.At.{At}
-use Rattle.c_typing.specs.Programs.{first_refusal}
-use Rattle.c_units.specs.Units.{IsUnitOf, IsRefusedText}
-use Rattle.c_lowering.specs.Programs.{first_too_large, program_of}
+use Rattle.c_types_rules.specs.declared.at.At.{At}
+use Rattle.c_types_rules.specs.Programs.{first_refusal}
+use Rattle.c_front.specs.Units.{IsUnitOf, IsRefusedText}
+use Rattle.c_lower_rules.specs.Programs.{first_too_large, program_of}
 use Rattle.heapan_top.specs.declared.programs.Refused.{Refused}
 
 -- how many procedures a program may have

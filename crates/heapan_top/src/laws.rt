@@ -6,9 +6,8 @@ ghost use Rattle.heapan_top.specs.Headline.{PrintsValid};
 ghost use Rattle.heapan_top.specs.Programs.{IsProgramOf};
 ghost use Rattle.heapan_top.specs.Replies.{Asked, Asks};
 
-use c_lowering::laws::programs_are_well_formed;
-use c_texts::laws::parsed_files_are_texts;
-use c_typing::laws::first_refusal;
+use c_lower_rules::laws::{parsed_files_are_texts, programs_are_well_formed};
+use c_types_rules::laws::first_refusal;
 
 /// A stream asks for one thing at most.
 pub fn asked_is_one()

@@ -1,6 +1,7 @@
 //! The one call that does everything: it reads commands, analyses what they put, and writes the replies.
 #![tactic(auto)]
 
+mod front_fault;
 pub mod laws;
 mod programs;
 mod replies;
@@ -10,6 +11,7 @@ mod status;
 #[cfg(test)]
 mod tests;
 mod texts;
+mod typing;
 
 pub use session::run;
 pub use status::{Outcome, Status};

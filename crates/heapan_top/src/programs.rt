@@ -5,9 +5,10 @@ ghost use Rattle.heapan_top.specs.Parts.{IsProgramFault};
 ghost use Rattle.heapan_top.specs.Programs.{IsProgramOf, MOST_PROCEDURES as most, of_proc};
 ghost use Rattle.heapan_top.specs.Request.{IsFileName};
 
-use c_front::{FrontFault, typed_file};
+use crate::front_fault::FrontFault;
+use crate::typing::typed_file;
 use c_lower::{LowerFault, lower};
-use c_texts::laws::parsed_files_are_texts;
+use c_lower_rules::laws::parsed_files_are_texts;
 use c_tokens::Refusal;
 use shape_data::name::Name;
 use shape_data::program::Program;

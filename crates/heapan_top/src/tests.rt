@@ -2,6 +2,7 @@
 
 mod flows;
 mod tables;
+mod types;
 
 use crate::{Outcome, Status, run};
 use io_ports::{

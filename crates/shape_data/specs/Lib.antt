@@ -2,5 +2,6 @@ pub mod Heap
 pub mod Machine
 pub mod Meaning
 pub mod Names
+pub mod Structures
 pub mod Valid
 pub mod WellFormed

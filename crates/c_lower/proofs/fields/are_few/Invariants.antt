@@ -1,6 +1,6 @@
 use Rattle.std.proofs.Common.{◌≡◌, nat_le, length, map, drop}
-use Rattle.c_typing.specs.Items.{field_names}
-use Rattle.c_lowering.specs.Programs.{MOST_FIELDS}
+use Rattle.c_types_rules.specs.Items.{field_names}
+use Rattle.c_lower_rules.specs.Programs.{MOST_FIELDS}
 use Rattle.c_tree.specs.Syntax.{fields_tree}
 use Rattle.c_lower.proofs.fields.are_few.Given as goal
 

@@ -1,7 +1,7 @@
 use Rattle.std.proofs.Common.{◌≡◌, ◌<◌, length, ap, sym, ◌∙◌, arith}
-use Rattle.c_lowering.specs.Code.{onto}
-use Rattle.c_lowering.specs.Programs.{lowered_body}
-use Rattle.c_sizes.specs.Sizes.{stmts_size}
+use Rattle.c_lower_rules.specs.Code.{onto}
+use Rattle.c_lower_rules.specs.Programs.{lowered_body}
+use Rattle.c_lower_sizes.specs.Sizes.{stmts_size}
 use Rattle.c_tree.specs.Syntax.{head_tree, block_tree, stmts_tree}
 use Rattle.c_lower.proofs.Fitting.{block_is, alone, refused_for_nodes}
 use Rattle.c_lower.proofs.items.definition.Goals as goal

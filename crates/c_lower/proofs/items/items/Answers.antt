@@ -1,7 +1,7 @@
 use Rattle.std.proofs.Common.{◌<◌, ◌≤◌, List, length, map, refl, ap, ◌∙◌, rules}
 use Rattle.std.proofs.lemmas.List.{at_drop_all}
-use Rattle.c_typing.specs.Tables.{Tables}
-use Rattle.c_lowering.specs.Numbers.{ItemHasIntNumbers}
+use Rattle.c_types_rules.specs.Tables.{Tables}
+use Rattle.c_lower_rules.specs.Numbers.{ItemHasIntNumbers}
 use Rattle.c_tree.specs.declared.items.Item.{Item}
 use Rattle.c_tree.specs.Syntax.{item_tree}
 use Rattle.c_lower.specs.Building.{item_part, items_part}

@@ -1,9 +1,9 @@
 use Rattle.std.proofs.Common.{◌≡◌, ◌∷◌, [], ◌++◌, length, ap, sym, ◌∙◌, arith}
-use Rattle.c_typing.specs.Tables.{Tables}
-use Rattle.c_lowering.specs.Programs.{proc_of}
-use Rattle.c_lowering.specs.Statements.{stmts_kinds}
-use Rattle.c_scopes.specs.Lowered.{lowered}
-use Rattle.c_sizes.specs.Sizes.{stmts_locals}
+use Rattle.c_types_rules.specs.Tables.{Tables}
+use Rattle.c_lower_rules.specs.Programs.{proc_of}
+use Rattle.c_lower_rules.specs.Statements.{stmts_kinds}
+use Rattle.c_types_names.specs.Lowered.{lowered}
+use Rattle.c_lower_sizes.specs.Sizes.{stmts_locals}
 use Rattle.c_tree.specs.Syntax.{head_tree, block_tree, stmts_tree}
 use Rattle.c_lower.specs.declared.sizes.Sizes.{Sizes}
 use Rattle.c_lower.proofs.Fitting.{block_is, sized_body, refused_of}

@@ -1,5 +1,5 @@
 use Rattle.std.proofs.Common.{◌≡◌, ◌++◌, drop}
-use Rattle.c_lowering.specs.Statements.{stmts_kinds}
+use Rattle.c_lower_rules.specs.Statements.{stmts_kinds}
 use Rattle.c_tree.specs.Syntax.{stmts_tree}
 use Rattle.c_lower.proofs.locals.+locals.Given as goal
 

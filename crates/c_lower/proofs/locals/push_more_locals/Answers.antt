@@ -1,5 +1,5 @@
 use Rattle.std.proofs.Common.{◌<◌, ◌∷◌, [], List, length, map, refl, rules}
-use Rattle.c_lowering.specs.Statements.{kinds_of_locals}
+use Rattle.c_lower_rules.specs.Statements.{kinds_of_locals}
 use Rattle.c_tree.specs.declared.stmts.Initialized.{Initialized}
 use Rattle.c_tree.specs.Syntax.{specifier_tree, initialized_tree}
 use Rattle.c_lower.proofs.Appending.{appended}

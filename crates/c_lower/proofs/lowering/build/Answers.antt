@@ -1,6 +1,6 @@
 use Rattle.std.proofs.Common.{◌<◌, ◌≤◌, List, length, map, sym, ap, ◌∙◌, subst, rules, arith, All}
-use Rattle.c_typing.specs.Tables.{Tables}
-use Rattle.c_lowering.specs.Numbers.{ItemHasIntNumbers, FileHasIntNumbers}
+use Rattle.c_types_rules.specs.Tables.{Tables}
+use Rattle.c_lower_rules.specs.Numbers.{ItemHasIntNumbers, FileHasIntNumbers}
 use Rattle.c_tree.specs.declared.items.Item.{Item}
 use Rattle.c_tree.specs.Syntax.{item_tree, unit_tree}
 use Rattle.c_lower.specs.Building.{items_part}

@@ -1,8 +1,8 @@
 use Rattle.std.proofs.Common.{List, sym, ap, ◌∙◌, subst}
 use Rattle.c_tree.specs.declared.items.Unit.{Unit}
-use Rattle.c_typing.specs.Programs.{tables_of}
+use Rattle.c_types_rules.specs.Programs.{tables_of}
 use Rattle.c_types.specs.Typing.{files_of}
-use Rattle.c_values.specs.Contexts.{FieldsFit}
+use Rattle.c_lower_exprs.specs.Contexts.{FieldsFit}
 use Rattle.c_lower.proofs.FewFields.{fields_fit}
 use Rattle.c_lower.proofs.lowering.lower.Goals as goal
 

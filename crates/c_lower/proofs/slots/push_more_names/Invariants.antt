@@ -1,6 +1,6 @@
 use Rattle.std.proofs.Common.{◌≡◌, ◌++◌, map, drop}
-use Rattle.c_typing.specs.Items.{param_names}
-use Rattle.c_lowering.specs.Programs.{name_text}
+use Rattle.c_types_rules.specs.Items.{param_names}
+use Rattle.c_lower_rules.specs.Programs.{name_text}
 use Rattle.c_tree.specs.Syntax.{param_tree}
 use Rattle.c_lower.proofs.slots.push_more_names.Given as goal
 

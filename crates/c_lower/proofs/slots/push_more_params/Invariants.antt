@@ -1,7 +1,7 @@
 use Rattle.std.proofs.Common.{◌≡◌, ◌++◌, map, drop}
 use Rattle.c_grammar.specs.Trees.{Param}
-use Rattle.c_typing.specs.Tables.{param_kind}
-use Rattle.c_typing.specs.Programs.{known}
+use Rattle.c_types_rules.specs.Tables.{param_kind}
+use Rattle.c_types_rules.specs.Programs.{known}
 use Rattle.c_tree.specs.Syntax.{param_tree}
 use Rattle.c_lower.proofs.slots.push_more_params.Given as goal
 

@@ -1,5 +1,5 @@
 use Rattle.std.proofs.Common.{◌≡◌, ◌++◌, map, drop}
-use Rattle.c_scopes.specs.Seen.{type_seen}
+use Rattle.c_types_names.specs.Seen.{type_seen}
 use Rattle.c_lower.proofs.slots.push_temps.Given as goal
 
 abbrev pub invariant-loop-temp : goal.invariant-loop-temp

@@ -1,6 +1,6 @@
 use Rattle.std.proofs.Common.{arith}
 use Rattle.c_tree.specs.Syntax.{head_tree, block_tree}
-use Rattle.c_words.proofs.Steps.{exit_halts}
+use Rattle.c_parse_exprs.proofs.Steps.{exit_halts}
 use Rattle.c_parse.proofs.Nested.{definition_deep, definition_read, definition_halts}
 use Rattle.c_parse.proofs.items.read_definition.Goals as goal
 

@@ -1,8 +1,8 @@
 use Rattle.std.proofs.Common.{refl}
 use Rattle.c_grammar.specs.Readers.{begins_item, read_item}
 use Rattle.c_tree.specs.Syntax.{item_tree}
-use Rattle.c_words.proofs.Steps.{exit_halts}
-use Rattle.c_words.proofs.Loops.{so_far_more, so_far_end, so_far_halts}
+use Rattle.c_parse_exprs.proofs.Steps.{exit_halts}
+use Rattle.c_parse_exprs.proofs.Loops.{so_far_more, so_far_end, so_far_halts}
 use Rattle.c_parse.proofs.Cases.{tested}
 use Rattle.c_parse.proofs.items.read_items.Goals as goal
 

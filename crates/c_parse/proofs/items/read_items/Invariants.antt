@@ -1,7 +1,7 @@
 use Rattle.std.proofs.Common.{length, map}
 use Rattle.c_grammar.specs.Readers.{begins_item, read_item}
 use Rattle.c_tree.specs.Syntax.{item_tree}
-use Rattle.c_words.proofs.Loops.{SoFar}
+use Rattle.c_parse_exprs.proofs.Loops.{SoFar}
 use Rattle.c_parse.proofs.items.read_items.Given as goal
 
 abbrev pub invariant-each : goal.invariant-each

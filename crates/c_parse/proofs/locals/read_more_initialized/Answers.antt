@@ -2,8 +2,8 @@ use Rattle.std.proofs.Common.{arith, refl}
 use Rattle.c_grammar.specs.declared.class.Class.TheVariants as class
 use Rattle.c_grammar.specs.Readers.{read_initialized}
 use Rattle.c_tree.specs.Syntax.{initialized_tree}
-use Rattle.c_words.proofs.Steps.{exit_halts}
-use Rattle.c_words.proofs.Loops.{eaten_more, eaten_end, eaten_halts}
+use Rattle.c_parse_exprs.proofs.Steps.{exit_halts}
+use Rattle.c_parse_exprs.proofs.Loops.{eaten_more, eaten_end, eaten_halts}
 use Rattle.c_parse.proofs.locals.read_more_initialized.Goals as goal
 
 pub returns-in_err-read_initialized-clause-value : goal.returns-in_err-read_initialized-clause-value

@@ -2,7 +2,7 @@ use Rattle.std.proofs.Common.{length, map}
 use Rattle.c_grammar.specs.declared.class.Class.TheVariants as class
 use Rattle.c_grammar.specs.Readers.{is_class, behind, read_initialized}
 use Rattle.c_tree.specs.Syntax.{initialized_tree}
-use Rattle.c_words.proofs.Loops.{SoFar}
+use Rattle.c_parse_exprs.proofs.Loops.{SoFar}
 use Rattle.c_parse.proofs.locals.read_more_initialized.Given as goal
 
 abbrev pub invariant-loop-alloc : goal.invariant-loop-alloc

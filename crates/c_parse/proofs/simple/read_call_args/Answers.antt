@@ -1,4 +1,4 @@
-use Rattle.c_exprs.proofs.ExprSteps.{below_is}
+use Rattle.c_parse_exprs.proofs.ExprSteps.{below_is}
 use Rattle.c_parse.proofs.simple.read_call_args.Goals as goal
 
 pub returns-clause-value : goal.returns-clause-value

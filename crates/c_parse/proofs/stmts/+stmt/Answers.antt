@@ -1,9 +1,9 @@
 use Rattle.std.proofs.Common.{◌∙◌, sym, ap, arith, Ok}
 use Rattle.c_grammar.specs.Readers.{opens_level, begins_stmt, read_stmt}
 use Rattle.c_tree.specs.Syntax.{stmt_tree, stmts_tree, block_tree}
-use Rattle.c_words.proofs.Steps.{exit_halts}
-use Rattle.c_words.proofs.Loops.{so_far_more}
-use Rattle.c_exprs.proofs.ExprSteps.{reads_same}
+use Rattle.c_parse_exprs.proofs.Steps.{exit_halts}
+use Rattle.c_parse_exprs.proofs.Loops.{so_far_more}
+use Rattle.c_parse_exprs.proofs.ExprSteps.{reads_same}
 use Rattle.c_parse.proofs.Cases.{tested}
 use Rattle.c_parse.proofs.Nested.{stmt_flat, stmt_deep, stmt_nested, block_read, block_halts, stmts_halt, stmts_end}
 use Rattle.c_parse.proofs.Parts.{nested_if, nested_iteration, if_halts, if_body_halts, if_goes, none_other, other_read, other_halts, iteration_halts, iteration_body_halts, iteration_goes, stmts_of_block_halt, block_goes}

@@ -1,7 +1,7 @@
 use Rattle.std.proofs.Common.{◌+◌, ◌*◌, length, map}
 use Rattle.c_grammar.specs.Readers.{begins_stmt, read_stmt}
 use Rattle.c_tree.specs.Syntax.{stmt_tree}
-use Rattle.c_words.proofs.Loops.{SoFar}
+use Rattle.c_parse_exprs.proofs.Loops.{SoFar}
 use Rattle.c_parse.proofs.stmts.+stmt.Given as goal
 
 abbrev pub decreases-read_stmt : goal.decreases-read_stmt

@@ -1,5 +1,5 @@
 use Rattle.std.proofs.Common.{sym, ◌∙◌}
-use Rattle.c_typing.specs.Programs.{refusals_of}
+use Rattle.c_types_rules.specs.Programs.{refusals_of}
 use Rattle.c_types.specs.Typing.{files_of}
 use Rattle.c_types.proofs.checker.answer.Goals as goal
 

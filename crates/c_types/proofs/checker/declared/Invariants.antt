@@ -1,7 +1,7 @@
 use Rattle.std.proofs.Common.{◌≡◌, map, drop}
 use Rattle.c_tree.specs.Syntax.{unit_tree}
-use Rattle.c_typing.specs.Tables.{joined, declared_by, items_of}
-use Rattle.c_typing.specs.Programs.{tables_of}
+use Rattle.c_types_rules.specs.Tables.{joined, declared_by, items_of}
+use Rattle.c_types_rules.specs.Programs.{tables_of}
 use Rattle.c_types.proofs.checker.declared.Given as goal
 
 abbrev pub invariant-loop-unit : goal.invariant-loop-unit

@@ -1,11 +1,11 @@
 use Rattle.std.proofs.Common.{◌≡◌, ◌<◌, ◌≤◌, List, ◌++◌, length, map, sym, ap, ◌∙◌, rules}
 use Rattle.std.proofs.lemmas.List.{at_drop_all, append-nil}
-use Rattle.c_typing.specs.Tables.{Tables, joined, declared_by, no_tables, items_of}
-use Rattle.c_typing.specs.Programs.{items, files_refusals}
+use Rattle.c_types_rules.specs.Tables.{Tables, joined, declared_by, no_tables, items_of}
+use Rattle.c_types_rules.specs.Programs.{items, files_refusals}
 use Rattle.c_tree.specs.declared.items.Item.{Item}
 use Rattle.c_tree.specs.declared.items.Unit.{Unit}
 use Rattle.c_tree.specs.Syntax.{item_tree, unit_tree}
-use Rattle.c_statements.proofs.Adding.{same}
+use Rattle.c_types_stmts.proofs.Adding.{same}
 use Rattle.c_types.specs.Firsts.{first_with}
 use Rattle.c_types.proofs.Firsts.{first_with-nil, first_with-is}
 use Rattle.c_types.proofs.Files.{refusal_next, kinds_next}

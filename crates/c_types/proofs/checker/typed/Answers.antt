@@ -1,5 +1,5 @@
 use Rattle.std.proofs.Common.{ap, ◌∙◌, map}
-use Rattle.c_typing.specs.Programs.{known}
+use Rattle.c_types_rules.specs.Programs.{known}
 use Rattle.c_types.specs.Typing.{files_of}
 use Rattle.c_types.proofs.Checked.{typed_is}
 use Rattle.c_types.proofs.checker.typed.Goals as goal

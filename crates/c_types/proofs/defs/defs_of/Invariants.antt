@@ -1,6 +1,6 @@
 use Rattle.std.proofs.Common.{◌≡◌, map, take}
-use Rattle.c_typing.specs.Programs.{struct_def}
-use Rattle.c_scopes.specs.Seen.{structure_seen}
+use Rattle.c_types_rules.specs.Programs.{struct_def}
+use Rattle.c_types_names.specs.Seen.{structure_seen}
 use Rattle.c_types.proofs.defs.defs_of.Given as goal
 
 abbrev pub invariant-loop-one : goal.invariant-loop-one

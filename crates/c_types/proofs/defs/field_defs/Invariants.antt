@@ -1,6 +1,6 @@
 use Rattle.std.proofs.Common.{◌≡◌, map, take}
-use Rattle.c_typing.specs.Programs.{field_def}
-use Rattle.c_scopes.specs.Seen.{field_seen}
+use Rattle.c_types_rules.specs.Programs.{field_def}
+use Rattle.c_types_names.specs.Seen.{field_seen}
 use Rattle.c_types.proofs.defs.field_defs.Given as goal
 
 abbrev pub invariant-loop-field : goal.invariant-loop-field

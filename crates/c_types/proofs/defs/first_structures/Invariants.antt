@@ -1,6 +1,6 @@
 use Rattle.std.proofs.Common.{◌≡◌, ◌++◌, [], map, drop}
-use Rattle.c_typing.specs.Programs.{first_structures}
-use Rattle.c_scopes.specs.Seen.{structure_seen}
+use Rattle.c_types_rules.specs.Programs.{first_structures}
+use Rattle.c_types_names.specs.Seen.{structure_seen}
 use Rattle.c_types.proofs.defs.first_structures.Given as goal
 
 abbrev pub invariant-loop-one : goal.invariant-loop-one

@@ -1,6 +1,6 @@
 use Rattle.std.proofs.Common.{◌≤◌, length, rules}
-use Rattle.c_typing.specs.Items.{same_fields}
-use Rattle.c_scopes.specs.Seen.{field_seen}
+use Rattle.c_types_rules.specs.Items.{same_fields}
+use Rattle.c_types_names.specs.Seen.{field_seen}
 use Rattle.c_types.proofs.Sameness.{fields_left, ends_same}
 use Rattle.c_types.proofs.fields.same_fields_of.Goals as goal
 

@@ -1,6 +1,6 @@
 use Rattle.std.proofs.Common.{◌≡◌, map, drop}
-use Rattle.c_typing.specs.Items.{same_fields}
-use Rattle.c_scopes.specs.Seen.{field_seen}
+use Rattle.c_types_rules.specs.Items.{same_fields}
+use Rattle.c_types_names.specs.Seen.{field_seen}
 use Rattle.c_types.proofs.fields.same_fields_of.Given as goal
 
 abbrev pub invariant-loop-place : goal.invariant-loop-place

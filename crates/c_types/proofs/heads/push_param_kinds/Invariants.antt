@@ -1,5 +1,5 @@
 use Rattle.std.proofs.Common.{◌≡◌, ◌++◌, map, drop}
-use Rattle.c_typing.specs.Tables.{param_kind}
+use Rattle.c_types_rules.specs.Tables.{param_kind}
 use Rattle.c_tree.specs.Syntax.{param_tree}
 use Rattle.c_types.proofs.heads.push_param_kinds.Given as goal
 

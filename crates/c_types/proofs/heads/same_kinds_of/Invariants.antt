@@ -1,6 +1,6 @@
 use Rattle.std.proofs.Common.{◌≡◌, map, drop}
-use Rattle.c_typing.specs.Items.{same_kinds}
-use Rattle.c_scopes.specs.Seen.{kind_seen}
+use Rattle.c_types_rules.specs.Items.{same_kinds}
+use Rattle.c_types_names.specs.Seen.{kind_seen}
 use Rattle.c_types.proofs.heads.same_kinds_of.Given as goal
 
 abbrev pub invariant-loop-place : goal.invariant-loop-place

@@ -1,11 +1,11 @@
 use Rattle.std.proofs.Common.{◌++◌, map, option_map, false, not, sym, ap}
-use Rattle.c_typing.specs.Types.{unless, UNDECLARED, SECOND}
-use Rattle.c_typing.specs.Tables.{is_defined, tag_or}
-use Rattle.c_typing.specs.Statements.{refuses}
-use Rattle.c_typing.specs.Items.{structure_refusals, alias_refusals, procedure_refusals, definitions, is_defined_before, unnamed_refusals, listed, body, item}
+use Rattle.c_types_rules.specs.Types.{unless, UNDECLARED, SECOND}
+use Rattle.c_types_rules.specs.Tables.{is_defined, tag_or}
+use Rattle.c_types_rules.specs.Statements.{refuses}
+use Rattle.c_types_rules.specs.Items.{structure_refusals, alias_refusals, procedure_refusals, definitions, is_defined_before, unnamed_refusals, listed, body, item}
 use Rattle.c_tree.specs.declared.items.Item.{Item}
 use Rattle.c_tree.specs.Syntax.{ident_tree, fields_tree, head_tree, block_tree, item_tree}
-use Rattle.c_statements.proofs.Adding.{refused, same, ends_same}
+use Rattle.c_types_stmts.proofs.Adding.{refused, same, ends_same}
 use Rattle.c_types.proofs.Defining.{refused_on, defined}
 use Rattle.c_types.proofs.items.item.Goals as goal
 

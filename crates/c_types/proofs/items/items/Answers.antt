@@ -1,11 +1,11 @@
 use Rattle.std.proofs.Common.{◌<◌, ◌≤◌, List, length, map, refl, sym, ap, ◌∙◌, rules}
 use Rattle.std.proofs.lemmas.List.{at_drop_all}
-use Rattle.c_typing.specs.Tables.{Tables, joined, declares, declared_by}
-use Rattle.c_typing.specs.Items.{item}
-use Rattle.c_typing.specs.Programs.{items}
+use Rattle.c_types_rules.specs.Tables.{Tables, joined, declares, declared_by}
+use Rattle.c_types_rules.specs.Items.{item}
+use Rattle.c_types_rules.specs.Programs.{items}
 use Rattle.c_tree.specs.declared.items.Item.{Item}
 use Rattle.c_tree.specs.Syntax.{item_tree}
-use Rattle.c_statements.proofs.Adding.{begun, turned, passed, over, same}
+use Rattle.c_types_stmts.proofs.Adding.{begun, turned, passed, over, same}
 use Rattle.c_types.proofs.Joining.{joined-assoc, joined-none}
 use Rattle.c_types.proofs.items.items.Goals as goal
 

@@ -1,8 +1,8 @@
 use Rattle.std.proofs.Common.{◌≡◌, map, drop}
-use Rattle.c_typing.specs.Tables.{joined, declared_by}
-use Rattle.c_typing.specs.Programs.{items}
+use Rattle.c_types_rules.specs.Tables.{joined, declared_by}
+use Rattle.c_types_rules.specs.Programs.{items}
 use Rattle.c_tree.specs.Syntax.{item_tree}
-use Rattle.c_statements.specs.Adding.{AddsUpTo}
+use Rattle.c_types_stmts.specs.Adding.{AddsUpTo}
 use Rattle.c_types.proofs.items.items.Given as goal
 
 abbrev pub invariant-loop-one : goal.invariant-loop-one

@@ -1,7 +1,7 @@
 use Rattle.std.proofs.Common.{◌<◌, ◌≤◌, List, length, map, refl, rules}
 use Rattle.c_grammar.specs.Readers.{place_of_specifier}
-use Rattle.c_typing.specs.Types.{unless, LEFT_OUT}
-use Rattle.c_typing.specs.Items.{has_name, unnamed_refusals}
+use Rattle.c_types_rules.specs.Types.{unless, LEFT_OUT}
+use Rattle.c_types_rules.specs.Items.{has_name, unnamed_refusals}
 use Rattle.c_tree.specs.declared.names.Param.{Param}
 use Rattle.c_tree.specs.Syntax.{param_tree}
 use Rattle.c_types.proofs.Looping.{looped, ended}

@@ -1,7 +1,7 @@
 use Rattle.std.proofs.Common.{◌≡◌, map, drop}
-use Rattle.c_typing.specs.Items.{unnamed_refusals}
+use Rattle.c_types_rules.specs.Items.{unnamed_refusals}
 use Rattle.c_tree.specs.Syntax.{param_tree}
-use Rattle.c_scopes.specs.Lowered.{lowered}
+use Rattle.c_types_names.specs.Lowered.{lowered}
 use Rattle.c_types.proofs.items.more_unnamed_refusals.Given as goal
 
 abbrev pub invariant-loop-param : goal.invariant-loop-param

@@ -1,7 +1,7 @@
 use Rattle.std.proofs.Common.{Bool, ap, ◌∙◌}
-use Rattle.c_typing.specs.Types.{unless, UNDECLARED}
-use Rattle.c_scopes.specs.Lowered.{lowered}
-use Rattle.c_scopes.proofs.Lowering.{then}
+use Rattle.c_types_rules.specs.Types.{unless, UNDECLARED}
+use Rattle.c_types_names.specs.Lowered.{lowered}
+use Rattle.c_types_names.proofs.Lowering.{then}
 use Rattle.c_types.proofs.items.typedef_alias.Goals as goal
 
 pub returns : goal.returns

@@ -1,6 +1,6 @@
 use Rattle.std.proofs.Common.{Bool, ap, ◌∙◌}
-use Rattle.c_typing.specs.Types.{unless, SECOND}
-use Rattle.c_scopes.specs.Lowered.{lowered}
+use Rattle.c_types_rules.specs.Types.{unless, SECOND}
+use Rattle.c_types_names.specs.Lowered.{lowered}
 use Rattle.c_types.proofs.structures.alias_refusals.Goals as goal
 
 pub returns : goal.returns

@@ -1,8 +1,8 @@
 use Rattle.std.proofs.Common.{◌<◌, ◌≤◌, List, length, map, refl, rules}
 use Rattle.c_grammar.specs.Readers.{place_of_specifier}
-use Rattle.c_typing.specs.Types.{unless, LEFT_OUT}
-use Rattle.c_typing.specs.Tables.{may_be_object}
-use Rattle.c_typing.specs.Items.{declarator_refusals}
+use Rattle.c_types_rules.specs.Types.{unless, LEFT_OUT}
+use Rattle.c_types_rules.specs.Tables.{may_be_object}
+use Rattle.c_types_rules.specs.Items.{declarator_refusals}
 use Rattle.c_tree.specs.declared.names.Declarator.{Declarator}
 use Rattle.c_tree.specs.Syntax.{specifier_tree, declarator_tree}
 use Rattle.c_types.proofs.Looping.{looped, ended}

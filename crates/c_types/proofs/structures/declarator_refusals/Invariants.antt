@@ -1,7 +1,7 @@
 use Rattle.std.proofs.Common.{◌≡◌, map, drop}
-use Rattle.c_typing.specs.Items.{declarator_refusals}
+use Rattle.c_types_rules.specs.Items.{declarator_refusals}
 use Rattle.c_tree.specs.Syntax.{specifier_tree, declarator_tree}
-use Rattle.c_scopes.specs.Lowered.{lowered}
+use Rattle.c_types_names.specs.Lowered.{lowered}
 use Rattle.c_types.proofs.structures.declarator_refusals.Given as goal
 
 abbrev pub invariant-loop-one : goal.invariant-loop-one

@@ -1,5 +1,5 @@
 use Rattle.std.proofs.Common.{◌≡◌, is_some, ◌∙◌, rules}
-use Rattle.c_scopes.specs.Seen.{procedure_seen}
+use Rattle.c_types_names.specs.Seen.{procedure_seen}
 use Rattle.c_types.proofs.Finds.{found_some}
 use Rattle.c_types.proofs.structures.is_procedure.Goals as goal
 

@@ -1,6 +1,6 @@
 use Rattle.std.proofs.Common.{◌<◌, ◌≤◌, ◌∷◌, ◌++◌, List, length, map, refl, rules}
-use Rattle.c_typing.specs.Tables.{specifier_refusals}
-use Rattle.c_typing.specs.Items.{declarator_refusals, lines_refusals}
+use Rattle.c_types_rules.specs.Tables.{specifier_refusals}
+use Rattle.c_types_rules.specs.Items.{declarator_refusals, lines_refusals}
 use Rattle.c_tree.specs.declared.names.FieldDecl.{FieldDecl}
 use Rattle.c_tree.specs.Syntax.{fields_tree}
 use Rattle.c_types.proofs.Looping.{looped, ended}

@@ -1,7 +1,7 @@
 use Rattle.std.proofs.Common.{◌≡◌, map, drop}
-use Rattle.c_typing.specs.Items.{lines_refusals}
+use Rattle.c_types_rules.specs.Items.{lines_refusals}
 use Rattle.c_tree.specs.Syntax.{fields_tree}
-use Rattle.c_scopes.specs.Lowered.{lowered}
+use Rattle.c_types_names.specs.Lowered.{lowered}
 use Rattle.c_types.proofs.structures.lines_refusals.Given as goal
 
 abbrev pub invariant-loop-line : goal.invariant-loop-line

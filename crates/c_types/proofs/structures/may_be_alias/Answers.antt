@@ -1,6 +1,6 @@
 use Rattle.std.proofs.Common.{◌≡◌, Bool, true, false, ◌&&◌, not, Option, sym, ap, ◌∙◌}
-use Rattle.c_typing.specs.Tables.{Alias, alias_in}
-use Rattle.c_typing.specs.Items.{same_alias, is_procedure}
+use Rattle.c_types_rules.specs.Tables.{Alias, alias_in}
+use Rattle.c_types_rules.specs.Items.{same_alias, is_procedure}
 use Rattle.c_tree.specs.Syntax.{ident_tree}
 use Rattle.c_types.proofs.structures.may_be_alias.Goals as goal
 

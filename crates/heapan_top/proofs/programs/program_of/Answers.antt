@@ -2,8 +2,8 @@
 use Rattle.std.proofs.Common.{[], sym, subst, arith}
 use Rattle.std.specs.Prelude.{All}
 use Rattle.std.proofs.lemmas.List.Elements.{All-nil, All-cons}
-use Rattle.c_lowering.specs.Numbers.{FileHasIntNumbers}
-use Rattle.c_texts.specs.Fields.{HasCountableFields}
+use Rattle.c_lower_rules.specs.Numbers.{FileHasIntNumbers}
+use Rattle.c_lower_rules.specs.Fields.{HasCountableFields}
 use Rattle.heapan_top.proofs.programs.program_of.Goals as goal
 
 pub lower-requires-clause-numbers : goal.lower-requires-clause-numbers

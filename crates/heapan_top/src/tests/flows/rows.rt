@@ -5,7 +5,7 @@ pub const BEFORE: &[u8] = b"struct node { int v; struct node *n; }; typedef stru
     typedef struct stack { node *head; int size; } stack; int g(int a, int b); void h(int a); node *k(void); ";
 
 /// A procedure, and its lines: its name, its parameters, the types of its slots and of its result; then its nodes.
-pub const FLOWS: [(&str, &str); 59] = [
+pub const FLOWS: [(&str, &str); 61] = [
     // Bodies that are empty, and `return`.
     (
         "void f(void) { }",
@@ -215,6 +215,32 @@ pub const FLOWS: [(&str, &str); 59] = [
          3 @0 add 5 3 4 >4\n\
          4 @0 store 2 node.0 5 >5\n\
          5 @0 ret #0\n",
+    ),
+    // A call on the right side comes before the load.
+    (
+        "void f(node *p) { p->v += g(1, 2); p->n->v -= (g(p->v, 3)); p->v *= 2; }",
+        "f p | *node int int int *node int -> void\n\
+         0 @0 call 1 g #1 #2 >1\n\
+         1 @0 load 2 0 node.0 >2\n\
+         2 @0 add 3 2 1 >3\n\
+         3 @0 store 0 node.0 3 >4\n\
+         4 @0 load 4 0 node.1 >5\n\
+         5 @0 load 1 0 node.0 >6\n\
+         6 @0 call 2 g 1 #3 >7\n\
+         7 @0 load 3 4 node.0 >8\n\
+         8 @0 sub 5 3 2 >9\n\
+         9 @0 store 4 node.0 5 >10\n\
+         10 @0 load 1 0 node.0 >11\n\
+         11 @0 mul 2 1 #2 >12\n\
+         12 @0 store 0 node.0 2 >13\n\
+         13 @0 ret #0\n",
+    ),
+    (
+        "void f(int a) { a += g(a, 1); }",
+        "f a | int int -> void\n\
+         0 @0 call 1 g 0 #1 >1\n\
+         1 @0 add 0 0 1 >2\n\
+         2 @0 ret #0\n",
     ),
     (
         "void f(stack *q, int i) { q->size++; i--; i *= i; i -= q->size; }",

@@ -1,5 +1,5 @@
 use Rattle.std.proofs.Common.{◌++◌, ◌∷◌, [], ◌<◌, List, length, map, refl, ap, ◌∙◌, rules}
-use Rattle.c_typing.specs.Tables.{FieldKind, field_kind}
+use Rattle.c_types_rules.specs.Tables.{FieldKind, field_kind}
 use Rattle.c_tree.specs.declared.names.Declarator.{Declarator}
 use Rattle.c_tree.specs.Syntax.{specifier_tree, declarator_tree}
 use Rattle.c_types.proofs.Appending.{pushed}

@@ -1,5 +1,5 @@
 use Rattle.std.proofs.Common.{◌≡◌, ◌++◌, map, drop}
-use Rattle.c_typing.specs.Tables.{field_kind}
+use Rattle.c_types_rules.specs.Tables.{field_kind}
 use Rattle.c_tree.specs.Syntax.{fields_tree, declarator_tree}
 use Rattle.c_types.proofs.fields.Fields.push_line.Given as goal
 

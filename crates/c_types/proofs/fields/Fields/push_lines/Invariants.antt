@@ -1,5 +1,5 @@
 use Rattle.std.proofs.Common.{◌≡◌, ◌++◌, map, drop}
-use Rattle.c_typing.specs.Tables.{field_kinds}
+use Rattle.c_types_rules.specs.Tables.{field_kinds}
 use Rattle.c_tree.specs.Syntax.{fields_tree}
 use Rattle.c_types.proofs.fields.Fields.push_lines.Given as goal
 

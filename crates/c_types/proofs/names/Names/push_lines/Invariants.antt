@@ -1,5 +1,5 @@
 use Rattle.std.proofs.Common.{◌≡◌, ◌++◌, map, drop}
-use Rattle.c_typing.specs.Items.{field_names}
+use Rattle.c_types_rules.specs.Items.{field_names}
 use Rattle.c_tree.specs.Syntax.{fields_tree}
 use Rattle.c_types.proofs.names.Names.push_lines.Given as goal
 

@@ -1,5 +1,5 @@
 use Rattle.std.proofs.Common.{◌≡◌, ◌++◌, map, drop}
-use Rattle.c_typing.specs.Items.{param_names}
+use Rattle.c_types_rules.specs.Items.{param_names}
 use Rattle.c_tree.specs.Syntax.{param_tree}
 use Rattle.c_types.proofs.names.Names.push_more_params.Given as goal
 

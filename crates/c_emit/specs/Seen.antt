@@ -1,8 +1,0 @@
--- What the values of the crate stand for among the definitions of lowering.
-use Rattle.c_lowering.specs.Temporaries as temporaries
-use Rattle.c_scopes.specs.Seen.{type_seen}
-use Rattle.c_emit.specs.declared.output.Temp.{Temp}
-
--- a temporary
-abbrev pub temp_seen : Temp → temporaries.Temp
-temp_seen temp = record { kind = type_seen temp.kind; used = temp.used }

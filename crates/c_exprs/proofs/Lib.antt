@@ -1,4 +1,0 @@
-pub mod TypeSteps
-pub mod Links
-pub mod Arguments
-pub mod ExprSteps

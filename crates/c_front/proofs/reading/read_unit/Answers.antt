@@ -1,0 +1,46 @@
+use Rattle.std.proofs.Common.{◌≡◌}
+use Rattle.c_grammar.specs.Placeless.{placeless}
+use Rattle.c_tree.specs.Syntax.{unit_tree}
+use Rattle.c_front.specs.declared.fault.ReadFault.TheVariants.{OutOfMemory}
+use Rattle.c_front.specs.Units.{IsReadFault, of_tokens, of_syntax}
+use Rattle.c_front.proofs.Exits.{err_is, ok_never, no_tokens, syntax_fault, memory_only, spelled, printed, same_tree}
+use Rattle.c_front.proofs.reading.read_unit.Goals as goal
+
+pub returns-in_err-found-clause-complete : goal.returns-in_err-found-clause-complete
+returns-in_err-found-clause-complete c file u =
+    err_is (λ fault. fault ≡ OutOfMemory) c.from_residual.result _ c.from_residual.ensures.1
+    (no_tokens c.tokens_or_refusal.ensures c.args.bytes.now _ c.in_err-found.ensures.fault file u)
+
+pub returns-in_err-found-clause-reads_back : goal.returns-in_err-found-clause-reads_back
+returns-in_err-found-clause-reads_back c listed file is_list spells fits e =
+    let p = printed c.round_trip.ensures c.args.bytes.now listed file is_list spells fits e in
+    record {
+      same = ok_never (λ unit. placeless (unit_tree unit) ≡ placeless file) c.from_residual.result _ c.from_residual.ensures.1;
+      memory = returns-in_err-found-clause-complete c p.same p.unit;
+    }
+
+pub returns-in_err-parse-clause-fault : goal.returns-in_err-parse-clause-fault
+returns-in_err-parse-clause-fault c =
+    err_is (IsReadFault c.args.bytes.now) c.from_residual-in_err-parse.result _ c.from_residual-in_err-parse.ensures.1
+    (syntax_fault c.args.bytes.now c.in_ok-found.found.items _ c.in_ok-found.ensures.tokens (rw c.as_slice.ensures.value at c.in_err-parse.ensures.fault))
+
+pub returns-in_err-parse-clause-complete : goal.returns-in_err-parse-clause-complete
+returns-in_err-parse-clause-complete c file u =
+    err_is (λ fault. fault ≡ OutOfMemory) c.from_residual-in_err-parse.result _ c.from_residual-in_err-parse.ensures.1
+    (memory_only _ (c.in_err-parse.ensures.complete file
+    (rw c.as_slice.ensures.value (spelled c.one_reading.ensures c.args.bytes.now c.in_ok-found.found.items c.in_ok-found.ensures.tokens file u)) u.levels))
+
+pub returns-in_err-parse-clause-reads_back : goal.returns-in_err-parse-clause-reads_back
+returns-in_err-parse-clause-reads_back c listed file is_list spells fits e =
+    let p = printed c.round_trip.ensures c.args.bytes.now listed file is_list spells fits e in
+    record {
+      same = ok_never (λ unit. placeless (unit_tree unit) ≡ placeless file) c.from_residual-in_err-parse.result _ c.from_residual-in_err-parse.ensures.1;
+      memory = returns-in_err-parse-clause-complete c p.same p.unit;
+    }
+
+pub returns-clause-reads_back : goal.returns-clause-reads_back
+returns-clause-reads_back c listed file is_list spells fits e = record {
+  same = same_tree c.one_reading.ensures c.one_tree.ensures c.args.bytes.now c.in_ok-found.found.items _ file c.in_ok-found.ensures.tokens
+      (rw c.as_slice.ensures.value at c.in_ok-parse.ensures.unit) (printed c.round_trip.ensures c.args.bytes.now listed file is_list spells fits e);
+  memory = tt;
+}

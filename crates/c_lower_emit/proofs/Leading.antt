@@ -1,0 +1,59 @@
+-- Exits that are replaced.
+use Rattle.std.proofs.Common.{◌≡◌, ℕ, ◌+◌, ◌-◌, List, [], ◌∷◌, ◌++◌, length, map, take, drop, refl, sym, ap, ◌∙◌, append_assoc, arith}
+use Rattle.std.proofs.lemmas.List.{length-append}
+use Rattle.c_lower_rules.specs.Code.{node}
+use Rattle.c_lower_emit.specs.declared.drafts.Draft.{Draft}
+use Rattle.c_lower_emit.specs.declared.drafts.Target.{Target}
+use Rattle.c_lower_emit.specs.declared.drafts.Target.TheVariants.{At, Next, Breaks, Continues, Holds, Fails}
+use Rattle.c_lower_emit.specs.declared.drafts.Ways.{Ways}
+use Rattle.c_lower_emit.specs.Drafts.{Places, resolve, redirect, redirected, led_between, aimed, laid}
+
+-- where what the exits become leads
+abbrev pub led : Places → Ways → Places
+led p w = record {
+  next = resolve p w.next;
+  breaks = resolve p w.breaks;
+  continues = resolve p w.continues;
+  holds = resolve p w.holds;
+  fails = resolve p w.fails;
+}
+
+pub resolve_led : (p : Places) (w : Ways) (t : Target) → resolve p (redirect w t) ≡ resolve (led p w) t
+resolve_led p w (At place) = refl
+resolve_led p w Next = refl
+resolve_led p w Breaks = refl
+resolve_led p w Continues = refl
+resolve_led p w Holds = refl
+resolve_led p w Fails = refl
+
+laid_led : (p : Places) (w : Ways) (d : Draft) → laid p (redirected w d) ≡ laid (led p w) d
+laid_led p w d =
+    ap (λ n. node d.line (aimed d.cmd n (resolve p (redirect w d.other)))) (resolve_led p w d.next)
+    ∙ ap (λ n. node d.line (aimed d.cmd (resolve (led p w) d.next) n)) (resolve_led p w d.other)
+
+pub all_led : (p : Places) (w : Ways) (ds : List Draft) → map (laid p) (map (redirected w) ds) ≡ map (laid (led p w)) ds
+all_led p w [] = refl
+all_led p w (d ∷ ds) = ap (λ n. n ∷ map (laid p) (map (redirected w) ds)) (laid_led p w d) ∙ ap (λ ns. laid (led p w) d ∷ ns) (all_led p w ds)
+
+-- the middle of three lists is led
+take_front : {A : Type 0} (xs ys : List A) → take (length xs) (xs ++ ys) ≡ xs
+take_front [] ys = refl
+take_front (x ∷ xs) ys = ap (λ zs. x ∷ zs) (take_front xs ys)
+
+drop_front : {A : Type 0} (xs ys : List A) → drop (length xs) (xs ++ ys) ≡ ys
+drop_front [] ys = refl
+drop_front (x ∷ xs) ys = drop_front xs ys
+
+pub middle_led : (w : Ways) (xs ys zs : List Draft) (from past : ℕ) → from ≡ length xs → past ≡ length xs + length ys
+    → led_between from past w ((xs ++ ys) ++ zs) ≡ (xs ++ map (redirected w) ys) ++ zs
+middle_led w xs ys zs from past at there =
+    let count : past - from ≡ length ys = omega (arith, at, there) in
+    let behind : past ≡ length (xs ++ ys) = there ∙ sym (length-append xs ys) in
+    ap (λ n. (take from ((xs ++ ys) ++ zs) ++ map (redirected w) (take (past - from) (drop from ((xs ++ ys) ++ zs)))) ++ drop n ((xs ++ ys) ++ zs)) behind
+    ∙ ap (λ ds. (take from ((xs ++ ys) ++ zs) ++ map (redirected w) (take (past - from) (drop from ((xs ++ ys) ++ zs)))) ++ ds) (drop_front (xs ++ ys) zs)
+    ∙ ap (λ ds. (take from ds ++ map (redirected w) (take (past - from) (drop from ds))) ++ zs) (append_assoc xs ys zs)
+    ∙ ap (λ n. (take n (xs ++ (ys ++ zs)) ++ map (redirected w) (take (past - from) (drop n (xs ++ (ys ++ zs))))) ++ zs) at
+    ∙ ap (λ n. (take (length xs) (xs ++ (ys ++ zs)) ++ map (redirected w) (take n (drop (length xs) (xs ++ (ys ++ zs))))) ++ zs) count
+    ∙ ap (λ ds. (ds ++ map (redirected w) (take (length ys) (drop (length xs) (xs ++ (ys ++ zs))))) ++ zs) (take_front xs (ys ++ zs))
+    ∙ ap (λ ds. (xs ++ map (redirected w) (take (length ys) ds)) ++ zs) (drop_front xs (ys ++ zs))
+    ∙ ap (λ ds. (xs ++ map (redirected w) ds) ++ zs) (take_front ys zs)

@@ -1,0 +1,8 @@
+-- What the values of the crate stand for among the definitions of lowering.
+use Rattle.c_lower_rules.specs.Temporaries as temporaries
+use Rattle.c_types_names.specs.Seen.{type_seen}
+use Rattle.c_lower_emit.specs.declared.output.Temp.{Temp}
+
+-- a temporary
+abbrev pub temp_seen : Temp → temporaries.Temp
+temp_seen temp = record { kind = type_seen temp.kind; used = temp.used }

@@ -1,0 +1,256 @@
+//! Nodes whose ways on may still be exits of the piece that they belong to.
+ghost use Rattle.std.specs.Prelude.{◌≡◌, IfOk, map};
+ghost use Rattle.c_lower_emit.specs.Drafts.{redirect, next_at, redirected, put_to, aimed, laid, at_start, resolve};
+
+use shape_data::Row;
+use shape_data::program::{Cmd, Node};
+use std::alloc::{AllocError, Global};
+
+/// Where a run goes on: at a place, at an exit of a piece of code, or at a way on of a test.
+#[derive(Clone, Copy)]
+pub enum Target {
+    /// The place, counted from 0 at the first node of the procedure.
+    At(u32),
+    /// Behind the piece.
+    Next,
+    /// Where a `break` leads.
+    Breaks,
+    /// Where a `continue` leads.
+    Continues,
+    /// Where a test goes on that holds.
+    Holds,
+    /// Where a test goes on that doesn't hold.
+    Fails,
+}
+
+/// What each exit becomes.
+#[derive(Clone, Copy)]
+pub struct Ways {
+    pub next: Target,
+    pub breaks: Target,
+    pub continues: Target,
+    pub holds: Target,
+    pub fails: Target,
+}
+
+/// All exits as they are.
+pub const AS_THEY_ARE: Ways = Ways {
+    next: Target::Next,
+    breaks: Target::Breaks,
+    continues: Target::Continues,
+    holds: Target::Holds,
+    fails: Target::Fails,
+};
+
+/// A node. Its command's places to go on at are not yet filled in; only a `Branch` has the second one.
+#[derive(Drop)]
+pub struct Draft {
+    pub line: u32,
+    pub cmd: Cmd,
+    pub next: Target,
+    pub other: Target,
+}
+
+impl Target {
+    /// With each exit replaced.
+    pub fn redirect(self, ways: Ways) -> Target
+        ensures { result ≡ redirect ways self }
+    {
+        match self {
+            Target::At(place) => Target::At(place),
+            Target::Next => ways.next,
+            Target::Breaks => ways.breaks,
+            Target::Continues => ways.continues,
+            Target::Holds => ways.holds,
+            Target::Fails => ways.fails,
+        }
+    }
+
+    /// Where a piece begins that goes on where what follows begins.
+    pub fn followed_by(self, begin: Target) -> Target
+        ensures { result ≡ redirect (next_at begin) self }
+    {
+        self.redirect(Ways {
+            next: begin,
+            ..AS_THEY_ARE
+        })
+    }
+
+    /// The place; exits lead to the first one.
+    pub fn place(self) -> u32
+        ensures { result ≡ resolve at_start self }
+    {
+        match self {
+            Target::At(place) => place,
+            _ => 0,
+        }
+    }
+}
+
+/// The command that puts its value into the slot.
+pub fn put_to(cmd: Cmd, slot: u32) -> Cmd
+    ensures { result ≡ put_to cmd slot }
+{
+    match cmd {
+        Cmd::Copy { from, next, .. } => Cmd::Copy {
+            to: slot,
+            from,
+            next,
+        },
+        Cmd::Arith {
+            op,
+            left,
+            right,
+            next,
+            ..
+        } => Cmd::Arith {
+            to: slot,
+            op,
+            left,
+            right,
+            next,
+        },
+        Cmd::Any { ty, next, .. } => Cmd::Any { to: slot, ty, next },
+        Cmd::Load {
+            base,
+            kind,
+            field,
+            next,
+            ..
+        } => Cmd::Load {
+            to: slot,
+            base,
+            kind,
+            field,
+            next,
+        },
+        Cmd::New { kind, next, .. } => Cmd::New {
+            to: slot,
+            kind,
+            next,
+        },
+        Cmd::Call {
+            callee,
+            args,
+            next,
+            ..
+        } => Cmd::Call {
+            to: Some(slot),
+            callee,
+            args,
+            next,
+        },
+        other => other,
+    }
+}
+
+/// The command with its places to go on at.
+fn aimed(cmd: Cmd, next: u32, other: u32) -> Cmd
+    ensures { result ≡ aimed cmd next other }
+{
+    match cmd {
+        Cmd::Copy { to, from, .. } => Cmd::Copy { to, from, next },
+        Cmd::Arith {
+            to,
+            op,
+            left,
+            right,
+            ..
+        } => Cmd::Arith {
+            to,
+            op,
+            left,
+            right,
+            next,
+        },
+        Cmd::Any { to, ty, .. } => Cmd::Any { to, ty, next },
+        Cmd::Load {
+            to,
+            base,
+            kind,
+            field,
+            ..
+        } => Cmd::Load {
+            to,
+            base,
+            kind,
+            field,
+            next,
+        },
+        Cmd::Store {
+            base,
+            kind,
+            field,
+            from,
+            ..
+        } => Cmd::Store {
+            base,
+            kind,
+            field,
+            from,
+            next,
+        },
+        Cmd::New { to, kind, .. } => Cmd::New { to, kind, next },
+        Cmd::Free { base, kind, .. } => Cmd::Free { base, kind, next },
+        Cmd::Call {
+            to,
+            callee,
+            args,
+            ..
+        } => Cmd::Call {
+            to,
+            callee,
+            args,
+            next,
+        },
+        Cmd::Branch {
+            op,
+            pointers,
+            left,
+            right,
+            ..
+        } => Cmd::Branch {
+            op,
+            pointers,
+            left,
+            right,
+            yes: next,
+            no: other,
+        },
+        Cmd::Return { value } => Cmd::Return { value },
+    }
+}
+
+impl Draft {
+    /// With each exit replaced.
+    pub fn redirect(&mut self, ways: Ways)
+        ensures { self.new ≡ redirected ways self.old }
+    {
+        self.next = self.next.redirect(ways);
+        self.other = self.other.redirect(ways);
+    }
+
+    /// The node, where each exit leads to the first place.
+    fn node(self) -> Node
+        ensures { result ≡ laid at_start self }
+    {
+        let next = self.next.place();
+        let other = self.other.place();
+        Node {
+            line: self.line,
+            cmd: aimed(self.cmd, next, other),
+            head: None,
+        }
+    }
+}
+
+/// The nodes of a whole procedure, where each exit leads to the first place.
+pub fn nodes(alloc: Global, drafts: Vec<Draft>) -> Result<Vec<Node>, AllocError>
+    ensures { IfOk result (λ nodes. nodes.items ≡ map (laid at_start) drafts.items) }
+{
+    let mut nodes = Vec::new(alloc);
+    for draft in drafts {
+        nodes.push(draft.node())?;
+    }
+    Ok(nodes)
+}

@@ -1,0 +1,211 @@
+//! What was emitted so far.
+ghost use Rattle.std.specs.Prelude.{◌≡◌, ◌<◌, ◌≤◌, ◌++◌, ◌∷◌, [], OnOk, IfOk, length, map, take, drop};
+ghost use Rattle.c_lower_rules.specs.Temporaries.{is_free, take_temp, released};
+ghost use Rattle.c_types_names.specs.Seen.{type_seen};
+ghost use Rattle.c_lower_marks.specs.Seen.{loop_seen};
+ghost use Rattle.c_lower_emit.specs.Seen.{temp_seen};
+ghost use Rattle.c_lower_emit.specs.Emitting.{led_out, with_draft, with_loop};
+ghost use Rattle.c_lower_emit.specs.Drafts.{next_at};
+
+use crate::drafts::{AS_THEY_ARE, Draft, Target, Ways};
+use c_lower_marks::Loop;
+use c_types_names::kinds::{CType, may_agree};
+use shape_data::program::Cmd;
+use std::alloc::{AllocError, Global};
+use std::marker::Model;
+
+/// A temporary: its type, and whether the statement or condition at hand has used it.
+#[derive(Clone, Copy)]
+pub struct Temp<'a> {
+    pub kind: CType<'a>,
+    pub used: bool,
+}
+
+/// Nodes, temporaries and loops.
+#[derive(Drop)]
+pub struct Output<'a> {
+    nodes: Vec<Draft>,
+    temps: Vec<Temp<'a>>,
+    loops: Vec<Loop>,
+}
+
+/// The nodes, temporaries and loops of an output.
+#[derive(Drop)]
+pub struct Parts<'a> {
+    pub nodes: Vec<Draft>,
+    pub temps: Vec<Temp<'a>>,
+    pub loops: Vec<Loop>,
+}
+
+impl<'a> Model for Output<'a> {
+    ghost use Rattle.std.specs.Prelude.{map};
+    ghost use Rattle.c_lower_emit.specs.Emitting.{Out};
+    ghost use Rattle.c_lower_emit.specs.Seen.{temp_seen};
+    ghost use Rattle.c_lower_marks.specs.Seen.{loop_seen};
+
+    ghost Value = { Out };
+
+    ghost view = { λ o. record { nodes = o.nodes.items; temps = map temp_seen o.temps.items; loops = map loop_seen o.loops.items } };
+}
+
+/// Whether the temporary is of the type, and not used.
+fn is_free(kind: CType, temp: Temp) -> bool
+    ensures { result ≡ is_free (type_seen kind.entry) (temp_seen temp.entry) }
+{
+    may_agree(Some(temp.kind), Some(kind)) && !temp.used
+}
+
+/// The place of the first temporary of the type that is not used, or else behind all.
+fn place_of_free(temps: &[Temp], kind: CType) -> usize
+    ensures within { result ≤ length temps.now }
+    ensures place { result ≡ (take_temp (type_seen kind.entry) (map temp_seen temps.now)).place }
+{
+    for (place, temp) in temps.iter().enumerate() {
+        if is_free(kind, *temp) {
+            return place;
+        }
+    }
+    temps.len()
+}
+
+/// Takes the first temporary of the type that is not used, or else a new one, and gives its place.
+fn take_one<'a>(temps: &mut Vec<Temp<'a>>, kind: CType<'a>) -> Result<usize, AllocError>
+    ensures temps { OnOk result (map temp_seen temps.new.items ≡ (take_temp (type_seen kind.entry) (map temp_seen temps.old.items)).temps) }
+    ensures place { IfOk result (λ place. place ≡ (take_temp (type_seen kind.entry) (map temp_seen temps.old.items)).place) }
+    ensures within { IfOk result (λ place. place ≤ length temps.old.items) }
+{
+    let place = place_of_free(temps.as_slice(), kind);
+    if place < temps.len() {
+        temps[place].used = true;
+    } else {
+        temps.push(Temp { kind, used: true })?;
+    }
+    Ok(place)
+}
+
+/// Releases all temporaries.
+fn release_all(temps: &mut Vec<Temp>)
+    ensures { map temp_seen temps.new.items ≡ released (map temp_seen temps.old.items) }
+{
+    for place in 0..temps.len() {
+        temps[place].used = false;
+    }
+}
+
+impl<'a> Output<'a> {
+    /// Nothing was emitted.
+    pub fn new(alloc: Global) -> Output<'a>
+        ensures { result ≡ record { nodes = []; temps = []; loops = [] } }
+    {
+        Output {
+            nodes: Vec::new(alloc),
+            temps: Vec::new(alloc),
+            loops: Vec::new(alloc),
+        }
+    }
+
+    /// The nodes, temporaries and loops.
+    pub fn into_parts(self) -> Parts<'a>
+        ensures { self.entry ≡ record { nodes = result.nodes.items; temps = map temp_seen result.temps.items; loops = map loop_seen result.loops.items } }
+    {
+        Parts {
+            nodes: self.nodes,
+            temps: self.temps,
+            loops: self.loops,
+        }
+    }
+
+    /// How many nodes there are.
+    pub fn len(&self) -> usize
+        ensures { result ≡ length self.now.nodes }
+    {
+        self.nodes.len()
+    }
+
+    /// The place of the next node.
+    pub fn here(&self) -> u32
+        ensures { length self.now.nodes < 4294967296 → result ≡ length self.now.nodes }
+    {
+        u32::try_from(self.nodes.len()).unwrap_or(u32::MAX)
+    }
+
+    /// With one more node.
+    pub fn push(
+        &mut self,
+        line: u32,
+        cmd: Cmd,
+        next: Target,
+        other: Target,
+    ) -> Result<(), AllocError>
+        ensures { OnOk result (self.new ≡ with_draft line cmd next other self.old) }
+    {
+        self.nodes.push(Draft {
+            line,
+            cmd,
+            next,
+            other,
+        })?;
+        Ok(())
+    }
+
+    /// Replaces each exit of the nodes from one place to another.
+    pub fn redirect(&mut self, from: usize, past: usize, ways: Ways)
+        ensures { from ≤ past → past ≤ length self.old.nodes → self.new ≡ led_out from past ways self.old }
+    {
+        let past = past.min(self.nodes.len());
+        let from = from.min(past);
+        for draft in self.nodes[from..past].iter_mut() {
+            draft.redirect(ways);
+        }
+    }
+
+    /// The pieces from one place to another go on where what follows begins.
+    pub fn lead_next(&mut self, from: usize, past: usize, begin: Target)
+        ensures { from ≤ past → past ≤ length self.old.nodes → self.new ≡ led_out from past (next_at begin) self.old }
+    {
+        let ways = Ways {
+            next: begin,
+            ..AS_THEY_ARE
+        };
+        self.redirect(from, past, ways);
+    }
+
+    /// How many loops there are.
+    pub fn loops_len(&self) -> usize
+        ensures { result ≡ length self.now.loops }
+    {
+        self.loops.len()
+    }
+
+    /// Adds a loop, whose nodes are those from its head on, at a place among the loops.
+    pub fn add_loop(&mut self, place: usize, head: u32, visible: Vec<u32>) -> Result<(), AllocError>
+        ensures { OnOk result (place ≤ length self.old.loops → length self.old.nodes < 4294967296 → self.new ≡ with_loop place (record { head = head; past = length self.old.nodes; visible = visible.items }) self.old) }
+    {
+        let past = self.here();
+        self.loops.insert(
+            place.min(self.loops.len()),
+            Loop {
+                head,
+                past,
+                visible,
+            },
+        )?;
+        Ok(())
+    }
+
+    /// Takes a temporary of the type for the statement or condition at hand, and gives its place among the temporaries.
+    pub fn take(&mut self, kind: CType<'a>) -> Result<u32, AllocError>
+        ensures temps { OnOk result (self.new ≡ record self.old { temps = (take_temp (type_seen kind.entry) self.old.temps).temps }) }
+        ensures place { IfOk result (λ place. length self.old.temps < 4294967296 → place ≡ (take_temp (type_seen kind.entry) self.old.temps).place) }
+    {
+        let place = take_one(&mut self.temps, kind)?;
+        Ok(u32::try_from(place).unwrap_or(u32::MAX))
+    }
+
+    /// No temporary is used any longer.
+    pub fn release(&mut self)
+        ensures { self.new ≡ record self.old { temps = released self.old.temps } }
+    {
+        release_all(&mut self.temps);
+    }
+}

@@ -1,0 +1,231 @@
+//! What the names of a body mean at a place of it, and the slots of its variables.
+ghost use Rattle.std.specs.Prelude.{◌≡◌, ◌≤◌, ◌<◌, ◌+◌, ◌-◌, map, length, OnOk, IfOk};
+ghost use Rattle.c_types_rules.specs.Scopes.{variable};
+ghost use Rattle.c_types_rules.specs.Expressions.{kind_of_variable};
+ghost use Rattle.c_types_rules.specs.Programs.{known};
+ghost use Rattle.c_types_names.specs.Seen.{type_seen, kind_seen};
+ghost use Rattle.c_lower_rules.specs.Contexts.{Context as ContextValue, slot_in, slot_of_bound, visible, within_scope};
+ghost use Rattle.c_types_rules.specs.Items.{listed};
+ghost use Rattle.c_lower_rules.specs.Programs.{at_body};
+ghost use Rattle.c_tree.specs.Syntax.{head_tree};
+ghost use Rattle.c_lower_exprs.specs.Seen.{stacked};
+ghost use Rattle.c_lower_exprs.specs.Contexts.{FieldsFit, behind_variable, IsWithin};
+
+use crate::params::{add_params, param_count};
+use c_tree::{Head, Name, Place};
+use c_types_names::env::Env;
+use c_types_names::kinds::{CType, Kind, same_name};
+use c_types_names::objects::{kind_of_result, place_of_specifier};
+use c_types_names::tables::Tables;
+use std::alloc::{AllocError, Global};
+use std::marker::Model;
+
+/// A variable in scope, and its slot.
+#[derive(Clone, Copy)]
+pub struct Bound<'a> {
+    pub name: &'a Name,
+    pub slot: u32,
+}
+
+/// A program, and a place of a body of it: the variables in scope, the innermost one last, where the slots of locals and of temporaries
+/// begin, the type of the procedure's result, and its first line.
+#[derive(Drop)]
+pub struct Context<'a> {
+    alloc: Global,
+    env: Env<'a>,
+    bound: Vec<Bound<'a>>,
+    first_local: u32,
+    first_temp: u32,
+    result: CType<'a>,
+    first_line: u32,
+}
+
+impl<'a> Model for Context<'a> {
+    ghost use Rattle.c_lower_rules.specs.Contexts.{Context};
+    ghost use Rattle.c_types_names.specs.Seen.{type_seen};
+    ghost use Rattle.c_lower_exprs.specs.Seen.{stacked};
+    ghost use Rattle.c_lower_exprs.specs.Contexts.{FieldsFit};
+
+    ghost Value = { Context };
+
+    ghost view = { λ c. record { env = c.env; bound = stacked c.bound.items; first_local = c.first_local; first_temp = c.first_temp; result = type_seen c.result; first_line = c.first_line; line = 0 } };
+
+    ghost invariant = { λ c. FieldsFit c.env.tables };
+}
+
+/// What stood before a scope was entered: how many variables in the scopes around the innermost one, and how many in all.
+#[derive(Clone, Copy)]
+pub struct Mark {
+    pub begin: usize,
+    pub bound: usize,
+}
+
+/// The slots of the variables, the last one first.
+fn slots_of(alloc: Global, bound: &[Bound]) -> Result<Vec<u32>, AllocError>
+    ensures { IfOk result (λ slots. slots.items ≡ map slot_of_bound (stacked bound.now)) }
+{
+    let mut slots = Vec::new(alloc);
+    for one in bound {
+        slots.push(one.slot)?;
+    }
+    slots.reverse();
+    Ok(slots)
+}
+
+/// The slot of the last variable of the name.
+#[tactic(auto, using(crate::proofs::Stacking::stacking))]
+fn slot_among(bound: &[Bound], name: &Name) -> u32
+    ensures { result ≡ slot_in (stacked bound.now) name.now }
+{
+    let mut slot = 0;
+    for one in bound {
+        if same_name(one.name, name) {
+            slot = one.slot;
+        }
+    }
+    slot
+}
+
+/// The type, where it is known.
+pub fn known(kind: Kind) -> CType
+    ensures { type_seen result ≡ known (kind_seen kind.entry) }
+{
+    match kind {
+        None => CType::Int,
+        Some(found) => found,
+    }
+}
+
+impl<'a> Context<'a> {
+    /// The program, before any body.
+    pub fn new(alloc: Global, tables: Tables<'a>) -> Context<'a>
+        requires { FieldsFit tables }
+        ensures { result.env.tables ≡ tables.entry }
+    {
+        Context {
+            alloc,
+            env: Env::new(alloc, tables),
+            bound: Vec::new(alloc),
+            first_local: 0,
+            first_temp: 0,
+            result: CType::Int,
+            first_line: 0,
+        }
+    }
+
+    /// Goes to where the body of a procedure of the program begins, which has so many locals.
+    pub fn begin(&mut self, head: &'a Head, locals: u32) -> Result<(), AllocError>
+        ensures tables { self.new.env.tables ≡ self.old.env.tables }
+        ensures body { OnOk result (length (listed (head_tree head.now).params) + locals < 4294967296 → self.new ≡ at_body self.old.env.tables (head_tree head.now) locals) }
+    {
+        self.env.clear();
+        self.bound.clear();
+        add_params(&mut self.env, &mut self.bound, &head.params)?;
+        self.first_local = param_count(&head.params);
+        self.first_temp = self.first_local.saturating_add(locals);
+        self.result = known(kind_of_result(self.env.tables(), head));
+        self.first_line = place_of_specifier(&head.specifier).line;
+        Ok(())
+    }
+
+    /// The allocator.
+    pub fn alloc(&self) -> Global {
+        self.alloc
+    }
+
+    /// The program.
+    pub fn tables(&self) -> &Tables<'a>
+        ensures program { result.now ≡ self.now.env.tables }
+        ensures fields { FieldsFit self.now.env.tables }
+    {
+        self.env.tables()
+    }
+
+    /// The type of the variable of the name.
+    pub fn kind_of(&self, name: &Name) -> CType<'a>
+        ensures { type_seen result ≡ known (kind_of_variable (variable self.now.env name.now)) }
+    {
+        match self.env.variable(name) {
+            None => CType::Int,
+            Some(found) => known(found.kind),
+        }
+    }
+
+    /// The slot of the variable of the name.
+    pub fn slot_of(&self, name: &Name) -> u32
+        ensures { result ≡ slot_in self.now.bound name.now }
+    {
+        slot_among(self.bound.as_slice(), name)
+    }
+
+    /// The program, and the variables in scope.
+    pub fn env(&self) -> &Env<'a>
+        ensures { result.now ≡ self.now.env }
+    {
+        &self.env
+    }
+
+    /// Where the slots of locals begin.
+    pub fn first_local(&self) -> u32
+        ensures { result ≡ self.now.first_local }
+    {
+        self.first_local
+    }
+
+    /// The type of the procedure's result.
+    pub fn result(&self) -> CType<'a>
+        ensures { type_seen result ≡ self.now.result }
+    {
+        self.result
+    }
+
+    /// The line of the place, counted from 0 at the procedure's first.
+    pub fn line_of(&self, place: Place) -> u32
+        ensures { result ≡ place.line - self.now.first_line }
+    {
+        place.line.saturating_sub(self.first_line)
+    }
+
+    /// The slots of the variables in scope, the innermost one first.
+    pub fn visible(&self) -> Result<Vec<u32>, AllocError>
+        ensures { IfOk result (λ slots. slots.items ≡ visible self.now) }
+    {
+        slots_of(self.alloc, self.bound.as_slice())
+    }
+
+    /// With one more variable in the innermost scope, in the slot.
+    pub fn add_local(&mut self, name: &'a Name, kind: Kind<'a>, slot: u32) -> Result<(), AllocError>
+        ensures { OnOk result (self.new ≡ behind_variable self.old name.now (kind_seen kind.entry) slot) }
+    {
+        self.env.add(name, kind)?;
+        self.bound.push(Bound { name, slot })?;
+        Ok(())
+    }
+
+    /// Goes into a scope of its own.
+    pub fn enter(&mut self) -> Mark
+        ensures scope { self.new ≡ within_scope self.old }
+        ensures begin { result.begin ≡ length self.old.env.scopes.around }
+        ensures bound { result.bound ≡ length self.old.bound }
+    {
+        let bound = self.bound.len();
+        let begin = self.env.enter();
+        Mark { begin, bound }
+    }
+
+    /// Leaves the innermost scope, which was entered at the mark.
+    pub fn leave(&mut self, mark: Mark)
+        requires { mark.begin ≤ length self.old.env.scopes.around }
+        ensures { (outer : ContextValue) → IsWithin (within_scope outer) self.old → mark.begin ≡ length outer.env.scopes.around → mark.bound ≡ length outer.bound → self.new ≡ outer }
+    {
+        self.env.leave(mark.begin);
+        self.bound.truncate(mark.bound);
+    }
+
+    /// Where the slots of temporaries begin.
+    pub fn first_temp(&self) -> u32
+        ensures { result ≡ self.now.first_temp }
+    {
+        self.first_temp
+    }
+}

@@ -1,0 +1,154 @@
+//! Expressions that are in hand, and members of what they point to (C11 6.5.2.3).
+ghost use Rattle.std.specs.Prelude.{◌≡◌, ◌∷◌, map, IfOk};
+ghost use Rattle.c_tree.specs.Syntax.{ident_tree};
+ghost use Rattle.c_types_names.specs.Seen.{type_seen, field_seen};
+ghost use Rattle.c_lower_rules.specs.Contexts.{place_in, field_place, tag_of};
+ghost use Rattle.c_lower_rules.specs.Values.{Lowering};
+ghost use Rattle.c_lower_rules.specs.Expressions.{slot_read, field_behind, member, members};
+ghost use Rattle.c_lower_emit.specs.Emitting.{Out};
+ghost use Rattle.c_lower_emit.specs.declared.uses.Use.TheVariants.{Value};
+ghost use Rattle.c_lower_exprs.specs.Contexts.{on_line};
+ghost use Rattle.c_lower_exprs.specs.Fields.{field_found};
+ghost use Rattle.c_lower_exprs.specs.Lowered.{IsLowered};
+
+use crate::context::{Context, known};
+use c_lower_emit::output::Output;
+use c_lower_emit::uses::{Spot, Use};
+use c_tree::{Ident, Name};
+use c_types::fields::Fields;
+use c_types_exprs::exprs::kind_of_member;
+use c_types_names::kinds::{CType, same_name};
+use c_types_names::objects::FieldKind;
+use c_types_names::tables::Tables;
+use shape_data::copy_of;
+use shape_data::program::{Cmd, Operand};
+use std::alloc::{AllocError, Global};
+
+/// An expression that was emitted: its type, and its value where that was wanted.
+#[derive(Clone, Copy)]
+pub struct Found<'a> {
+    pub kind: CType<'a>,
+    pub operand: Operand,
+}
+
+/// A field of what a pointer points to, where nodes stand: the tag of the structure, the place of the field in it, and its type.
+#[derive(Drop)]
+pub struct Field<'a> {
+    pub tag: Name,
+    pub place: u32,
+    pub kind: CType<'a>,
+}
+
+/// The slot that a value is read from.
+pub fn slot_read(operand: Operand) -> u32
+    ensures { result ≡ slot_read operand }
+{
+    match operand {
+        Operand::Slot(slot) => slot,
+        Operand::Num(_) => 0,
+    }
+}
+
+/// The tag of the structure that a pointer points to.
+pub fn tag_of(alloc: Global, kind: CType) -> Result<Name, AllocError>
+    ensures { IfOk result (λ tag. tag ≡ tag_of (type_seen kind.entry)) }
+{
+    match kind {
+        CType::Int => Name::of(alloc, b"_"),
+        CType::Pointer(tag) => copy_of(tag),
+        CType::Void => Name::of(alloc, b"_"),
+    }
+}
+
+/// The place of the first field of the name, or how many fields there are.
+#[tactic(auto, unfolding(c_types_names::specs::Seen::field_seen))]
+fn place_in(fields: &[FieldKind], name: &Name) -> usize
+    ensures { result ≡ place_in (map field_seen fields.now) name.now }
+{
+    for (place, field) in fields.iter().enumerate() {
+        if same_name(&field.name.text, name) {
+            return place;
+        }
+    }
+    fields.len()
+}
+
+/// The place of a field among those of its structure.
+fn field_place<'a>(c: &Context<'a>, tag: &Name, name: &Name) -> Result<u32, AllocError>
+    ensures { IfOk result (λ place. place ≡ field_place c.now.env.tables tag.now name.now) }
+{
+    let tables = c.tables();
+    match tables.structure(tag) {
+        None => Ok(0),
+        Some(found) => {
+            let mut fields = Fields::new(c.alloc());
+            fields.push_lines(tables, found.lines.as_slice())?;
+            let place = place_in(fields.as_slice(), name);
+            Ok(u32::try_from(place).unwrap_or(u32::MAX))
+        }
+    }
+}
+
+/// The field of what a pointer of the type points to.
+pub fn field_behind<'a>(
+    c: &Context<'a>,
+    pointer: CType<'a>,
+    field: &Ident,
+) -> Result<Field<'a>, AllocError>
+    ensures { IfOk result (λ found. field_found found ≡ field_behind c.now (type_seen pointer.entry) (ident_tree field.now)) }
+{
+    let tag = tag_of(c.alloc(), pointer)?;
+    let place = field_place(c, &tag, &field.text)?;
+    let kind = known(kind_of_member(c.tables(), Some(pointer), field));
+    Ok(Field { tag, place, kind })
+}
+
+/// Loads a field of what a value points to.
+pub fn load<'a>(
+    c: &Context<'a>,
+    line: u32,
+    base: Found<'a>,
+    field: &Ident,
+    used: Use,
+    out: &mut Output<'a>,
+) -> Result<Found<'a>, AllocError>
+    ensures { IfOk result (λ found. (l : Lowering) → (before : Out) → IsLowered Value l c.now.first_temp before out.old base.entry
+        → IsLowered used (member (on_line c.now line) l (field_behind (on_line c.now line) l.kind (ident_tree field.now))) c.now.first_temp before out.new found) }
+{
+    let Field { tag, place, kind } = field_behind(c, base.kind, field)?;
+    let cmd = Cmd::Load {
+        to: 0,
+        base: slot_read(base.operand),
+        kind: tag,
+        field: place,
+        next: 0,
+    };
+    let spot = Spot {
+        first_temp: c.first_temp(),
+        line,
+    };
+    let operand = out.make(spot, kind, cmd, used)?;
+    Ok(Found { kind, operand })
+}
+
+/// The members behind one `->` after another.
+pub fn members<'a>(
+    c: &Context<'a>,
+    line: u32,
+    base: Found<'a>,
+    first: &Ident,
+    others: &[Ident],
+    used: Use,
+    out: &mut Output<'a>,
+) -> Result<Found<'a>, AllocError>
+    ensures { IfOk result (λ found. (l : Lowering) → (before : Out) → IsLowered Value l c.now.first_temp before out.old base.entry
+        → IsLowered used (members (on_line c.now line) l (ident_tree first.now ∷ map ident_tree others.now)) c.now.first_temp before out.new found) }
+{
+    let mut current = base;
+    let mut field = first;
+    for next in others {
+        current = load(c, line, current, field, Use::Value, out)?;
+        field = next;
+    }
+    load(c, line, current, field, used, out)
+}

@@ -1,0 +1,11 @@
+//! The marks of loop heads: what abstraction may forget there. It stands on the definitions of `c_lower_rules`.
+#![tactic(auto)]
+
+mod assigned;
+pub mod loops;
+mod marking;
+#[cfg(test)]
+mod tests;
+
+pub use loops::Loop;
+pub use marking::mark;

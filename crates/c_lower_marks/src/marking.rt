@@ -1,0 +1,156 @@
+//! Marks, and nodes with them.
+ghost use Rattle.std.specs.Prelude.{◌≡◌, ◌<◌, ◌≤◌, ◌&&◌, not, IfOk, map, option_map, length};
+ghost use Rattle.c_lower_rules.specs.Marks.{is_int, is_listed, assigned_in, slots_that, loops_at, mark_by, marked};
+ghost use Rattle.c_lower_marks.specs.Seen.{loop_seen};
+ghost use Rattle.c_lower_marks.specs.Placed.{first_loop, marks_from, with_marks};
+
+use crate::assigned::assigned_at;
+use crate::loops::Loop;
+use shape_data::Row;
+use shape_data::program::{HeadMark, Node, Ty};
+use std::alloc::{AllocError, Global};
+
+/// Whether the type is int.
+fn is_int(kind: &Ty) -> bool
+    ensures { result ≡ is_int kind.now }
+{
+    match kind {
+        Ty::Int => true,
+        Ty::Ptr(_) => false,
+        Ty::Void => false,
+    }
+}
+
+/// Whether the slot is one of those.
+fn is_listed(slots: &[u32], slot: u32) -> bool
+    ensures { result ≡ is_listed slots.now slot }
+{
+    for one in slots {
+        if *one == slot {
+            return true;
+        }
+    }
+    false
+}
+
+/// The first loop that has its head at the place.
+fn first_at(loops: &[Loop], place: usize) -> Option<&Loop>
+    ensures { option_map (λ one. loop_seen one.now) result ≡ first_loop (loops_at place (map loop_seen loops.now)) }
+{
+    for one in loops {
+        if one.head as usize == place {
+            return Some(one);
+        }
+    }
+    None
+}
+
+/// Whether the slot is an int that a node of some loop with its head at the place assigns.
+fn is_assigned_int(nodes: &[Node], loops: &[Loop], place: usize, slot: u32, kind: &Ty) -> bool
+    ensures { result ≡ (is_int kind.now && assigned_in nodes.now (loops_at place (map loop_seen loops.now)) slot) }
+{
+    is_int(kind) && assigned_at(nodes, loops, place, slot)
+}
+
+/// The int slots that a node of some loop with its head at the place assigns.
+fn ints(
+    alloc: Global,
+    slots: &[Ty],
+    nodes: &[Node],
+    loops: &[Loop],
+    place: usize,
+) -> Result<Row<u32>, AllocError>
+    requires { length slots.now < 4294967296 }
+    ensures { IfOk result (λ ints. ints ≡ slots_that (λ slot kind. is_int kind && assigned_in nodes.now (loops_at place (map loop_seen loops.now)) slot) 0 slots.now) }
+{
+    let mut ints = Vec::new(alloc);
+    for (slot, kind) in slots.iter().enumerate() {
+        if is_assigned_int(nodes, loops, place, slot as u32, kind) {
+            ints.push(slot as u32)?;
+        }
+    }
+    Ok(Row::from_vec(ints))
+}
+
+/// The slots that hold no variable in scope.
+fn dead(alloc: Global, slots: &[Ty], visible: &[u32]) -> Result<Row<u32>, AllocError>
+    requires { length slots.now < 4294967296 }
+    ensures { IfOk result (λ dead. dead ≡ slots_that (λ slot kind. not (is_listed visible.now slot)) 0 slots.now) }
+{
+    let mut dead = Vec::new(alloc);
+    for (slot, _kind) in slots.iter().enumerate() {
+        if !is_listed(visible, slot as u32) {
+            dead.push(slot as u32)?;
+        }
+    }
+    Ok(Row::from_vec(dead))
+}
+
+/// The mark of the place, if it is the head of a loop.
+fn mark_at(
+    alloc: Global,
+    slots: &[Ty],
+    nodes: &[Node],
+    loops: &[Loop],
+    place: usize,
+) -> Result<Option<HeadMark>, AllocError>
+    requires { length slots.now < 4294967296 }
+    ensures { IfOk result (λ mark. mark ≡ mark_by slots.now nodes.now (loops_at place (map loop_seen loops.now))) }
+{
+    match first_at(loops, place) {
+        None => Ok(None),
+        Some(first) => Ok(Some(HeadMark {
+            ints: ints(alloc, slots, nodes, loops, place)?,
+            dead: dead(alloc, slots, first.visible.as_slice())?,
+        })),
+    }
+}
+
+/// The mark of each node's place.
+fn marks(
+    alloc: Global,
+    slots: &[Ty],
+    nodes: &[Node],
+    loops: &[Loop],
+) -> Result<Vec<Option<HeadMark>>, AllocError>
+    requires { length slots.now < 4294967296 }
+    ensures { IfOk result (λ marks. marks.items ≡ marks_from slots.now nodes.now (map loop_seen loops.now) 0 nodes.now) }
+{
+    let mut marks = Vec::new(alloc);
+    for (place, _node) in nodes.iter().enumerate() {
+        marks.push(mark_at(alloc, slots, nodes, loops, place)?)?;
+    }
+    Ok(marks)
+}
+
+/// The nodes with these marks, one for each.
+fn with_marks(mut nodes: Vec<Node>, marks: Vec<Option<HeadMark>>) -> Vec<Node>
+    requires { length marks.items ≤ length nodes.items }
+    ensures { result.items ≡ with_marks marks.items nodes.items }
+{
+    let mut place = 0;
+    for mark in marks {
+        nodes[place].head = mark;
+        place += 1;
+    }
+    nodes
+}
+
+/// The nodes of a procedure with the marks of loop heads. `slots` are the types of its slots; the loops may come in any order, and may
+/// share a head. A node that is the head of no loop gets no mark, whatever mark it had.
+///
+/// # Errors
+///
+/// Want of memory.
+pub fn mark(
+    alloc: Global,
+    slots: &[Ty],
+    loops: &[Loop],
+    nodes: Vec<Node>,
+) -> Result<Vec<Node>, AllocError>
+    requires countable { length slots.now < 4294967296 }
+    ensures { IfOk result (λ out. out.items ≡ marked slots.now (map loop_seen loops.now) nodes.items) }
+{
+    let marks = marks(alloc, slots, nodes.as_slice(), loops)?;
+    Ok(with_marks(nodes, marks))
+}

@@ -1,0 +1,20 @@
+mod Pieces
+mod Uses
+mod Operators
+mod Exprs
+mod Simples
+mod Bodies
+mod Different
+mod Structures
+mod Marked
+mod Procedures
+mod Locals
+mod Flows
+mod WellFormed
+pub mod GoodTokens
+pub mod GoodWords
+pub mod Steps
+pub mod Parts
+pub mod Expressions
+pub mod Statements
+pub mod Files

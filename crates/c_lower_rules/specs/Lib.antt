@@ -1,0 +1,14 @@
+pub mod Code
+pub mod Temporaries
+pub mod Contexts
+pub mod Values
+pub mod Expressions
+pub mod Statements
+pub mod Texts
+pub mod Numbers
+pub mod Marks
+pub mod Programs
+pub mod Examples
+pub mod Fields
+pub mod Parsed
+pub mod Laws

@@ -1,0 +1,27 @@
+-- What the functions on declarations answer.
+use Rattle.std.specs.Prelude.{◌≡◌, ℕ, ◌+◌, ◌<◌, ◌≤◌, length}
+use Rattle.c_lower_rules.specs.Contexts.{Context}
+use Rattle.c_lower_rules.specs.Statements.{State, Lowered}
+use Rattle.c_lower_emit.specs.declared.drafts.Target.TheVariants.{At}
+use Rattle.c_lower_emit.specs.Emitting.{Out, HasRoom, EmitsCode}
+use Rattle.c_lower_exprs.specs.Contexts.{on_line}
+
+-- where a declaration stands
+abbrev pub state : Context → ℕ → ℕ → Out → State
+state c line locals out = record { temps = out.temps; locals = locals; context = on_line c line }
+
+-- 32-bit numbers suffice for the slots of so many more locals
+abbrev pub HasSlots : Context → ℕ → ℕ → Type 0
+HasSlots c locals size = c.first_local + locals + size < 4294967296
+
+-- locals were declared
+pub record IsDeclared (l : Lowered) (line locals : ℕ) (after : Context) (then : ℕ) (old new : Out) : Type 0 where
+  pub emits : EmitsCode l.code l.behind.temps (At (length old.nodes)) old new
+  pub locals_then : then ≡ l.behind.locals
+  pub context : on_line after line ≡ l.behind.context
+  pub grown : then ≤ locals + l.code.size
+
+-- the same, where there is room for it
+abbrev pub Declares : Lowered → Context → ℕ → ℕ → Context → ℕ → Out → Out → Type 0
+Declares l c line locals after then old new =
+    HasRoom c.first_temp l.code.size old → HasSlots c locals l.code.size → IsDeclared l line locals after then old new

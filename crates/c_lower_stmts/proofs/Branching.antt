@@ -1,0 +1,153 @@
+-- Statements of one part, and branches.
+use Rattle.std.proofs.Common.{◌≡◌, ℕ, ◌+◌, ◌-◌, ◌<◌, ◌≤◌, List, length, refl, sym, ap, ◌∙◌, subst, arith}
+use Rattle.c_tokens.specs.declared.places.Place.{Place}
+use Rattle.c_grammar.specs.Trees.{Expr, Local, Stmt}
+use Rattle.c_lower_rules.specs.Code.{Exits, Code, Test, jump, nothing, choose}
+use Rattle.c_lower_rules.specs.Contexts.{Context}
+use Rattle.c_lower_rules.specs.Temporaries.{Temp, released}
+use Rattle.c_lower_rules.specs.Values.{Piece}
+use Rattle.c_lower_rules.specs.Statements.{Lowered, from_place, with_temps, with_names, inside, declaration, condition, stmt}
+use Rattle.c_lower_emit.specs.declared.drafts.Target.{Target}
+use Rattle.c_lower_emit.specs.declared.drafts.Target.TheVariants.{At, Next}
+use Rattle.c_lower_emit.specs.Drafts.{Places, exits, resolve}
+use Rattle.c_lower_emit.specs.Emitting.{Out, HasRoom, Grows, EmitsTest, EmitsCode, EmitsTested}
+use Rattle.c_lower_emit.proofs.Joining.{behind_nodes, code_none}
+use Rattle.c_lower_exprs.specs.Contexts.{on_line}
+use Rattle.c_lower_simples.specs.Declaring.{HasSlots, IsDeclared, Declares}
+use Rattle.c_lower_simples.specs.Declaring as declaring
+use Rattle.c_lower_stmts.specs.declared.laid.Laid.{Laid}
+use Rattle.c_lower_stmts.specs.Laying.{state, EmitsLowered, EmitsWithin}
+use Rattle.c_lower_stmts.specs.Parts.{EmitsReleased}
+use Rattle.c_lower_stmts.proofs.Releasing.{released_out, room_released, same_count}
+
+-- ROOM
+
+pub room_part : (first n k : ℕ) (o : Out) → HasRoom first n o → k ≤ n → HasRoom first k o
+room_part first n k o h le =
+    let nodes = h.nodes in
+    let temps = h.temps in
+    record { nodes = omega (arith, nodes, le); temps = omega (arith, temps, le) }
+
+pub room_behind : (first n a k : ℕ) {s : List Temp} {ds : List _} (o m : Out) → HasRoom first n o → Grows a s ds o m → a + k ≤ n → HasRoom first k m
+room_behind first n a k o m h g le =
+    let nodes = h.nodes in
+    let temps = h.temps in
+    let place = behind_nodes o m g in
+    let grown = g.grown in
+    let there = ap length g.temps in
+    record { nodes = omega (arith, nodes, place, le); temps = omega (arith, temps, grown, there, le) }
+
+-- ONE PART
+
+pub jumped : (c : Context) (line locals : ℕ) (exit : Exits → ℕ) (begin : Target) (o : Out) → ((p : Places) → resolve p begin ≡ exit (exits p))
+    → EmitsLowered (record { code = jump exit; behind = state (on_line c line) locals o }) c locals c (record { begin = begin; locals = locals }) o o
+jumped c line locals exit begin o is room slots = record { emits = code_none exit begin o is; locals_then = refl; context = refl; grown = omega arith }
+
+-- a piece that a statement is, which uses no temporary of others
+pub piece_laid : (c : Context) (line locals : ℕ) (piece : List Temp → Piece) (begin : Target) (old new : Out) → (length old.nodes < 4294967296 → begin ≡ At (length old.nodes))
+    → EmitsReleased piece c.first_temp old new
+    → EmitsLowered (record { code = (piece (released old.temps)).code; behind = record (state (on_line c line) locals old) { temps = (piece (released old.temps)).temps } })
+    c locals c (record { begin = begin; locals = locals }) old new
+piece_laid c line locals piece begin old new at h room slots =
+    let p = piece (released old.temps) in
+    let nodes = room.nodes in
+    record {
+      emits = subst (λ b. EmitsCode p.code p.temps b old new) (sym (at (omega (arith, nodes)))) (h room);
+      locals_then = refl;
+      context = refl;
+      grown = omega arith;
+    }
+
+pub declared_laid : (c after : Context) (line line' locals then : ℕ) (place : Place) (l : Local) (begin : Target) (old new : Out) → line' ≡ place.line - c.first_line
+    → (length old.nodes < 4294967296 → begin ≡ At (length old.nodes))
+    → Declares (declaration l (declaring.state c line' locals (released_out old))) c line' locals after then (released_out old) new
+    → EmitsLowered (declaration l (from_place (state (on_line c line) locals old) place)) c locals after (record { begin = begin; locals = then }) old new
+declared_laid c after line line' locals then place l begin old new is at h room slots =
+    let dl = declaration l (from_place (state (on_line c line) locals old) place) in
+    let h' = subst (λ n. Declares (declaration l (declaring.state c n locals (released_out old))) c n locals after then (released_out old) new) is h in
+    let d = h' (room_released c.first_temp dl.code.size old room) slots in
+    let nodes = room.nodes in
+    let grown = d.emits.grows.grown in
+    let same = same_count old.temps in
+    record {
+      emits = subst (λ b. EmitsCode dl.code dl.behind.temps b old new) (sym (at (omega (arith, nodes)))) (record {
+        drafts = d.emits.drafts;
+        grows = record { nodes = d.emits.grows.nodes; size = d.emits.grows.size; temps = d.emits.grows.temps; grown = omega (arith, grown, same) };
+        laid = d.emits.laid;
+        entry = d.emits.entry;
+        loops = d.emits.loops;
+      });
+      locals_then = d.locals_then;
+      context = ap (λ (x : Context). on_line after x.line) (sym d.context) ∙ d.context;
+      grown = d.grown;
+    }
+
+pub without_names : (l : Lowered) (c : Context) (locals : ℕ) (after : Context) (laid : Laid) (old new : Out) → EmitsLowered l c locals after laid old new → EmitsWithin l c locals laid old new
+without_names l c locals after laid old new h room slots =
+    let e = h room slots in
+    record { emits = e.emits; locals_then = e.locals_then; grown = e.grown }
+
+-- BRANCHES
+
+-- what the function that leads a test says
+abbrev pub Chooses : Target → Target → Out → Out → ℕ → ℕ → Type 0
+Chooses holds fails old new from past =
+    (tested : Test) → (one other : Code) → (s t u : List Temp) → (o m n : Out) → from ≡ length o.nodes → past ≡ length m.nodes
+    → EmitsTest tested s o m → EmitsCode one t holds m n → EmitsCode other u fails n old → EmitsCode (choose tested one other) u (At (length o.nodes)) o new
+
+pub if_else_laid : (c : Context) (line locals from past : ℕ) (place : Place) (e : Expr) (b other : Stmt) (first second : Laid) (begin : Target) (old m n now new : Out)
+    → from ≡ length old.nodes → past ≡ length m.nodes → (from < 4294967296 → begin ≡ At from)
+    → EmitsTested (condition (state (on_line c line) locals old) e) c.first_temp old m
+    → EmitsWithin (stmt b (inside (state (on_line c line) locals m))) c locals first m n
+    → EmitsWithin (stmt other (inside (state (on_line c line) first.locals n))) c first.locals second n now
+    → Chooses first.begin second.begin now new from past
+    → EmitsLowered (stmt (Stmt.IfElse place e b other) (state (on_line c line) locals old)) c locals c (record { begin = begin; locals = second.locals }) old new
+if_else_laid c line locals from past place e b other first second begin old m n now new at there is cond one two chooses room slots =
+    let st = state (on_line c line) locals old in
+    let t = condition st e in
+    let bl = stmt b (inside (with_temps st t.temps)) in
+    let ol = stmt other (inside (with_names st bl.behind)) in
+    let size = t.test.size + bl.code.size + ol.code.size in
+    let nodes = room.nodes in
+    let e1 = cond (room_part c.first_temp size t.test.size old room (omega arith)) in
+    let one' : EmitsWithin bl c locals first m n = subst (λ ts. EmitsWithin (stmt b (inside (with_temps st ts))) c locals first m n) e1.grows.temps one in
+    let e2 = one' (room_behind c.first_temp size t.test.size bl.code.size old m room e1.grows (omega arith)) (omega (arith, slots)) in
+    let two' : EmitsWithin ol c first.locals second n now =
+    subst (λ k. EmitsWithin (stmt other (inside (record { temps = bl.behind.temps; locals = k; context = on_line c line }))) c first.locals second n now) e2.locals_then
+    (subst (λ ts. EmitsWithin (stmt other (inside (record { temps = ts; locals = first.locals; context = on_line c line }))) c first.locals second n now) e2.emits.grows.temps two) in
+    let room1 = room_behind c.first_temp size t.test.size (bl.code.size + ol.code.size) old m room e1.grows (omega arith) in
+    let grown = e2.grown in
+    let e3 = two' (room_behind c.first_temp (bl.code.size + ol.code.size) bl.code.size ol.code.size m n room1 e2.emits.grows (omega arith)) (omega (arith, slots, grown)) in
+    let grown' = e3.grown in
+    record {
+      emits = subst (λ x. EmitsCode (choose t.test bl.code ol.code) ol.behind.temps x old new) (sym (is (omega (arith, at, nodes)) ∙ ap At at))
+          (chooses t.test bl.code ol.code t.temps bl.behind.temps ol.behind.temps old m n at there e1 e2.emits e3.emits);
+      locals_then = e3.locals_then;
+      context = refl;
+      grown = omega (arith, grown, grown');
+    }
+
+pub if_laid : (c : Context) (line locals from past : ℕ) (place : Place) (e : Expr) (b : Stmt) (first : Laid) (begin : Target) (old m now new : Out)
+    → from ≡ length old.nodes → past ≡ length m.nodes → (from < 4294967296 → begin ≡ At from)
+    → EmitsTested (condition (state (on_line c line) locals old) e) c.first_temp old m
+    → EmitsWithin (stmt b (inside (state (on_line c line) locals m))) c locals first m now
+    → Chooses first.begin Next now new from past
+    → EmitsLowered (stmt (Stmt.If place e b) (state (on_line c line) locals old)) c locals c (record { begin = begin; locals = first.locals }) old new
+if_laid c line locals from past place e b first begin old m now new at there is cond one chooses room slots =
+    let st = state (on_line c line) locals old in
+    let t = condition st e in
+    let bl = stmt b (inside (with_temps st t.temps)) in
+    let size = t.test.size + bl.code.size + 0 in
+    let nodes = room.nodes in
+    let e1 = cond (room_part c.first_temp size t.test.size old room (omega arith)) in
+    let one' : EmitsWithin bl c locals first m now = subst (λ ts. EmitsWithin (stmt b (inside (with_temps st ts))) c locals first m now) e1.grows.temps one in
+    let e2 = one' (room_behind c.first_temp size t.test.size bl.code.size old m room e1.grows (omega arith)) (omega (arith, slots)) in
+    let e3 = subst (λ ts. EmitsCode nothing ts Next now now) e2.emits.grows.temps (code_none (λ exits. exits.next) Next now (λ p. refl)) in
+    let grown = e2.grown in
+    record {
+      emits = subst (λ x. EmitsCode (choose t.test bl.code nothing) bl.behind.temps x old new) (sym (is (omega (arith, at, nodes)) ∙ ap At at))
+          (chooses t.test bl.code nothing t.temps bl.behind.temps bl.behind.temps old m now at there e1 e2.emits e3);
+      locals_then = e2.locals_then;
+      context = refl;
+      grown = omega (arith, grown);
+    }

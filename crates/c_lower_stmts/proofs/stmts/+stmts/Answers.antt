@@ -1,0 +1,180 @@
+use Rattle.std.proofs.Common.{◌≡◌, ◌<◌, ℕ, None, Some, length, map, take, option_map, refl, sym, ap, ◌∙◌, subst, rules}
+use Rattle.std.proofs.lemmas.Result.{IfOk-weaker}
+use Rattle.c_grammar.specs.Trees as tree
+use Rattle.c_tree.specs.declared.stmts.Stmt.TheViews.{If}
+use Rattle.c_tree.specs.Syntax.{stmt_tree, stmts_of, stmts_tree, expr_tree, simple_tree, local_tree, init_tree}
+use Rattle.c_tree.proofs.Branches.{if_else}
+use Rattle.c_types_stmts.proofs.Trees.{empty_is, if_is, while_is, do_while_is, for_is}
+use Rattle.c_lower_rules.specs.Contexts.{Context, within_scope}
+use Rattle.c_lower_rules.specs.Statements.{inside, stmt, stmts, condition, for_init, for_step, from_place, simple_from, declaration}
+use Rattle.c_lower_rules.specs.Numbers.{StmtHasIntNumbers, StmtsHaveIntNumbers}
+use Rattle.c_lower_emit.specs.declared.drafts.Target.TheVariants.{Next, Breaks, Continues}
+use Rattle.c_lower_emit.specs.Emitting.{EmitsTested}
+use Rattle.c_lower_exprs.specs.Contexts.{on_line, IsWithin}
+use Rattle.c_lower_stmts.specs.Laying.{state, EmitsLowered, EmitsWithin}
+use Rattle.c_lower_stmts.proofs.Branching.{jumped, if_laid, if_else_laid}
+use Rattle.c_lower_stmts.proofs.Rounds.{while_laid, do_laid, for_laid}
+use Rattle.c_lower_stmts.proofs.Rows.{stmts_turn, numbers_at, one_more}
+use Rattle.c_lower_simples.proofs.Within.{within_then}
+use Rattle.c_lower_stmts.proofs.Scopes.{entered_within}
+use Rattle.c_lower_stmts.proofs.Trees.{local_is, simple_is, break_is, continue_is, return_is}
+use Rattle.c_lower_stmts.proofs.stmts.+stmts.Goals as goal
+
+pub stmt-returns-in-Empty-clause-laid : goal.stmt-returns-in-Empty-clause-laid
+stmt-returns-in-Empty-clause-laid t c = λ numbers line.
+    let tree_is = ap stmt_tree c.in-Empty.is ∙ empty_is c.in-Empty.field-0 in
+    subst (λ s. EmitsLowered (stmt s (state (on_line c.args.c.now line) c.args.locals c.args.out.now)) c.args.c.now c.args.locals c.args.c.now (record { begin = Next; locals = c.args.locals }) c.args.out.now c.args.out.now)
+    (sym tree_is) (jumped c.args.c.now line c.args.locals (λ exits. exits.next) Next c.args.out.now (λ p. refl))
+
+pub stmt-returns-in-Break-clause-laid : goal.stmt-returns-in-Break-clause-laid
+stmt-returns-in-Break-clause-laid t c = λ numbers line.
+    let tree_is = ap stmt_tree c.in-Break.is ∙ break_is c.in-Break.field-0 in
+    subst (λ s. EmitsLowered (stmt s (state (on_line c.args.c.now line) c.args.locals c.args.out.now)) c.args.c.now c.args.locals c.args.c.now (record { begin = Breaks; locals = c.args.locals }) c.args.out.now c.args.out.now)
+    (sym tree_is) (jumped c.args.c.now line c.args.locals (λ exits. exits.breaks) Breaks c.args.out.now (λ p. refl))
+
+pub stmt-returns-in-Continue-clause-laid : goal.stmt-returns-in-Continue-clause-laid
+stmt-returns-in-Continue-clause-laid t c = λ numbers line.
+    let tree_is = ap stmt_tree c.in-Continue.is ∙ continue_is c.in-Continue.field-0 in
+    subst (λ s. EmitsLowered (stmt s (state (on_line c.args.c.now line) c.args.locals c.args.out.now)) c.args.c.now c.args.locals c.args.c.now (record { begin = Continues; locals = c.args.locals }) c.args.out.now c.args.out.now)
+    (sym tree_is) (jumped c.args.c.now line c.args.locals (λ exits. exits.continues) Continues c.args.out.now (λ p. refl))
+
+pub stmt-returns-in-Local-clause-laid : goal.stmt-returns-in-Local-clause-laid
+stmt-returns-in-Local-clause-laid t c =
+    let tree_is = ap stmt_tree c.in-Local.is ∙ local_is c.in-Local.one in
+    IfOk-weaker c.declared.result _ _ (λ laid is numbers line.
+    let st = state (on_line c.args.c.now line) c.args.locals c.args.out.now in
+    subst (λ s. EmitsLowered (stmt s st) c.args.c.now c.args.locals c.declared.new.c laid c.args.out.now c.declared.new.out) (sym tree_is)
+    (subst (λ p. EmitsLowered (declaration (local_tree c.in-Local.one) (from_place st p)) c.args.c.now c.args.locals c.declared.new.c laid c.args.out.now c.declared.new.out) c.place_of_local.ensures
+    (is (subst StmtHasIntNumbers tree_is numbers) line))) c.declared.ensures.laid
+
+pub stmt-returns-in-Simple-clause-laid : goal.stmt-returns-in-Simple-clause-laid
+stmt-returns-in-Simple-clause-laid t c =
+    let tree_is = ap stmt_tree c.in-Simple.is ∙ simple_is c.in-Simple.one in
+    IfOk-weaker c.once.result _ _ (λ laid is numbers line.
+    let st = state (on_line c.args.c.now line) c.args.locals c.args.out.now in
+    subst (λ s. EmitsLowered (stmt s st) c.args.c.now c.args.locals c.args.c.now laid c.args.out.now c.once.new.out) (sym tree_is)
+    (subst (λ p. EmitsLowered (simple_from st (from_place st p) (simple_tree c.in-Simple.one)) c.args.c.now c.args.locals c.args.c.now laid c.args.out.now c.once.new.out) c.place_of_simple.ensures
+    (is (subst StmtHasIntNumbers tree_is numbers) line))) c.once.ensures
+
+pub stmt-returns-in-Return-clause-laid : goal.stmt-returns-in-Return-clause-laid
+stmt-returns-in-Return-clause-laid t c =
+    let tree_is = ap stmt_tree c.in-Return.is ∙ return_is c.in-Return.place c.in-Return.value in
+    IfOk-weaker c.exit.result _ _ (λ laid is numbers line.
+    subst (λ s. EmitsLowered (stmt s (state (on_line c.args.c.now line) c.args.locals c.args.out.now)) c.args.c.now c.args.locals c.args.c.now laid c.args.out.now c.exit.new.out) (sym tree_is)
+    (is (subst StmtHasIntNumbers tree_is numbers) line)) c.exit.ensures
+
+pub stmt-returns-in-None-clause-laid : goal.stmt-returns-in-None-clause-laid
+stmt-returns-in-None-clause-laid t c = λ numbers line.
+    let s = c.in-If in
+    let whole : c.args.one.now ≡ If s.place s.test s.body None = s.is ∙ ap (λ o. If s.place s.test s.body o) c.in-None.is in
+    let tree_is = ap stmt_tree whole ∙ if_is s.place s.test s.body in
+    let n = subst StmtHasIntNumbers tree_is numbers in
+    subst (λ x. EmitsLowered (stmt x (state (on_line c.args.c.now line) c.args.locals c.args.out.now)) c.args.c.now c.args.locals c.nested.new.c (record { begin = c.at.result; locals = c.in_ok-first-in-If.first.locals }) c.args.out.now c.choose.new.out)
+    (sym tree_is)
+    (subst (λ x. EmitsLowered (stmt (tree.Stmt.If s.place (expr_tree s.test) (stmt_tree s.body.value)) (state (on_line c.args.c.now line) c.args.locals c.args.out.now)) c.args.c.now c.args.locals x (record { begin = c.at.result; locals = c.in_ok-first-in-If.first.locals }) c.args.out.now c.choose.new.out)
+    (sym c.in_ok-first-in-If.ensures.context)
+    (if_laid c.args.c.now line c.args.locals c.len-from.result c.len-past.result s.place (expr_tree s.test) (stmt_tree s.body.value) c.in_ok-first-in-If.first c.at.result c.args.out.now c.tested.new.out
+    c.nested.new.out c.choose.new.out c.len-from.ensures c.len-past.ensures c.at.ensures (c.in_ok-tested-in-If.ensures n.0 line c.args.locals) (c.in_ok-first-in-If.ensures.laid n.1 line) c.choose.ensures))
+
+pub stmt-returns-in_ok-second-in-Some-clause-laid : goal.stmt-returns-in_ok-second-in-Some-clause-laid
+stmt-returns-in_ok-second-in-Some-clause-laid t c = λ numbers line.
+    let s = c.in-If in
+    let whole : c.args.one.now ≡ If s.place s.test s.body (Some c.in-Some.other) = s.is ∙ ap (λ o. If s.place s.test s.body o) c.in-Some.is in
+    let tree_is = ap stmt_tree whole ∙ if_else s.place s.test s.body c.in-Some.other in
+    let n = subst StmtHasIntNumbers tree_is numbers in
+    let first = c.in_ok-first-in-If.first in
+    let second = c.in_ok-second-in-Some.second in
+    let kept = c.in_ok-first-in-If.ensures.context in
+    let two : EmitsWithin (stmt (stmt_tree c.in-Some.other.value) (inside (state (on_line c.args.c.now line) first.locals c.nested.new.out))) c.args.c.now first.locals second c.nested.new.out c.nested-in-Some.new.out =
+    subst (λ x. EmitsWithin (stmt (stmt_tree c.in-Some.other.value) (inside (state (on_line x line) first.locals c.nested.new.out))) x first.locals second c.nested.new.out c.nested-in-Some.new.out) kept
+    (c.in_ok-second-in-Some.ensures.laid n.2 line) in
+    subst (λ x. EmitsLowered (stmt x (state (on_line c.args.c.now line) c.args.locals c.args.out.now)) c.args.c.now c.args.locals c.nested-in-Some.new.c (record { begin = c.at-in-Some.result; locals = second.locals }) c.args.out.now c.choose-in-Some.new.out)
+    (sym tree_is)
+    (subst (λ x. EmitsLowered (stmt (tree.Stmt.IfElse s.place (expr_tree s.test) (stmt_tree s.body.value) (stmt_tree c.in-Some.other.value)) (state (on_line c.args.c.now line) c.args.locals c.args.out.now)) c.args.c.now c.args.locals x (record { begin = c.at-in-Some.result; locals = second.locals }) c.args.out.now c.choose-in-Some.new.out)
+    (sym (c.in_ok-second-in-Some.ensures.context ∙ kept))
+    (if_else_laid c.args.c.now line c.args.locals c.len-from.result c.len-past.result s.place (expr_tree s.test) (stmt_tree s.body.value) (stmt_tree c.in-Some.other.value) first second c.at-in-Some.result
+    c.args.out.now c.tested.new.out c.nested.new.out c.nested-in-Some.new.out c.choose-in-Some.new.out c.len-from.ensures c.len-past.ensures c.at-in-Some.ensures
+    (c.in_ok-tested-in-If.ensures n.0 line c.args.locals) (c.in_ok-first-in-If.ensures.laid n.1 line) two c.choose-in-Some.ensures))
+
+pub stmt-returns-in_ok-close-in-While-clause-laid : goal.stmt-returns-in_ok-close-in-While-clause-laid
+stmt-returns-in_ok-close-in-While-clause-laid t c = λ numbers line.
+    let s = c.in-While in
+    let tree_is = ap stmt_tree s.is ∙ while_is s.place s.test s.body in
+    let n = subst StmtHasIntNumbers tree_is numbers in
+    let opened = c.in_ok-opened-in-While in
+    let first = c.in_ok-laid-in-While.laid in
+    subst (λ x. EmitsLowered (stmt x (state (on_line c.args.c.now line) c.args.locals c.args.out.now)) c.args.c.now c.args.locals c.nested-in-While.new.c (record { begin = c.at-in-While.result; locals = first.locals }) c.args.out.now c.close.new.out)
+    (sym tree_is)
+    (subst (λ x. EmitsLowered (stmt (tree.Stmt.While s.place (expr_tree s.test) (stmt_tree s.body.value)) (state (on_line c.args.c.now line) c.args.locals c.args.out.now)) c.args.c.now c.args.locals x (record { begin = c.at-in-While.result; locals = first.locals }) c.args.out.now c.close.new.out)
+    (sym c.in_ok-laid-in-While.ensures.context)
+    (while_laid c.args.c.now line c.args.locals opened.opened.head opened.opened.index c.len-from-in-While.result c.len-past-in-While.result opened.opened.visible.items s.place (expr_tree s.test) (stmt_tree s.body.value) first
+    c.at-in-While.result c.args.out.now c.tested-in-While.new.out c.nested-in-While.new.out c.close.new.out opened.ensures.head opened.ensures.index opened.ensures.visible c.len-from-in-While.ensures
+    c.len-past-in-While.ensures c.at-in-While.ensures (c.in_ok-tested-in-While.ensures n.0 line c.args.locals) (c.in_ok-laid-in-While.ensures.laid n.1 line) c.in_ok-close-in-While.ensures))
+
+pub stmt-returns-in_ok-begin-in-DoWhile-clause-laid : goal.stmt-returns-in_ok-begin-in-DoWhile-clause-laid
+stmt-returns-in_ok-begin-in-DoWhile-clause-laid t c = λ numbers line.
+    let s = c.in-DoWhile in
+    let tree_is = ap stmt_tree s.is ∙ do_while_is s.place s.body s.test in
+    let n = subst StmtHasIntNumbers tree_is numbers in
+    let opened = c.in_ok-opened-in-DoWhile in
+    let first = c.in_ok-laid-in-DoWhile.laid in
+    let kept = c.in_ok-laid-in-DoWhile.ensures.context in
+    let cond : EmitsTested (condition (state (on_line c.args.c.now line) first.locals c.nested-in-DoWhile.new.out) (expr_tree s.test)) c.args.c.now.first_temp c.nested-in-DoWhile.new.out c.tested-in-DoWhile.new.out =
+    subst (λ (x : Context). EmitsTested (condition (state (on_line x line) first.locals c.nested-in-DoWhile.new.out) (expr_tree s.test)) x.first_temp c.nested-in-DoWhile.new.out c.tested-in-DoWhile.new.out) kept
+    (c.in_ok-tested-in-DoWhile.ensures n.1 line first.locals) in
+    subst (λ x. EmitsLowered (stmt x (state (on_line c.args.c.now line) c.args.locals c.args.out.now)) c.args.c.now c.args.locals c.nested-in-DoWhile.new.c (record { begin = c.in_ok-begin-in-DoWhile.begin; locals = first.locals }) c.args.out.now c.close_behind.new.out)
+    (sym tree_is)
+    (subst (λ x. EmitsLowered (stmt (tree.Stmt.DoWhile s.place (stmt_tree s.body.value) (expr_tree s.test)) (state (on_line c.args.c.now line) c.args.locals c.args.out.now)) c.args.c.now c.args.locals x (record { begin = c.in_ok-begin-in-DoWhile.begin; locals = first.locals }) c.args.out.now c.close_behind.new.out)
+    (sym kept)
+    (do_laid c.args.c.now line c.args.locals opened.opened.head opened.opened.index c.len-from-in-DoWhile.result opened.opened.visible.items s.place (expr_tree s.test) (stmt_tree s.body.value) first
+    c.in_ok-begin-in-DoWhile.begin c.args.out.now c.nested-in-DoWhile.new.out c.tested-in-DoWhile.new.out c.close_behind.new.out opened.ensures.head opened.ensures.index opened.ensures.visible
+    c.len-from-in-DoWhile.ensures (c.in_ok-laid-in-DoWhile.ensures.laid n.0 line) cond c.in_ok-begin-in-DoWhile.ensures))
+
+pub stmt-returns-in_ok-close-in-For-clause-laid : goal.stmt-returns-in_ok-close-in-For-clause-laid
+stmt-returns-in_ok-close-in-For-clause-laid t c = λ numbers line.
+    let s = c.in-For in
+    let tree_is = ap stmt_tree s.is ∙ for_is s.place s.first s.test s.last s.body in
+    let n = subst StmtHasIntNumbers tree_is numbers in
+    let opened = c.in_ok-opened-in-For in
+    let first = c.in_ok-begun-in-For.begun in
+    let second = c.in_ok-laid-in-For.laid in
+    let third = c.in_ok-stepped-in-For.stepped in
+    let kept = c.in_ok-laid-in-For.ensures.context in
+    let inner = c.init.new.c in
+    let within : IsWithin (within_scope c.args.c.now) inner = entered_within c.args.c.now c.enter-mark.new.self inner c.enter-mark.ensures.scope c.in_ok-begun-in-For.ensures.within in
+    let left : c.leave.new.self ≡ c.args.c.now =
+    c.leave.ensures c.args.c.now (subst (IsWithin (within_scope c.args.c.now)) (sym kept) within) c.enter-mark.ensures.begin c.enter-mark.ensures.bound in
+    let inits : (line : ℕ) → EmitsLowered (for_init (state (on_line (within_scope c.args.c.now) line) c.args.locals c.args.out.now) s.place (init_tree s.first)) (within_scope c.args.c.now) c.args.locals inner first c.args.out.now c.init.new.out =
+    subst (λ x. (line : ℕ) → EmitsLowered (for_init (state (on_line x line) c.args.locals c.args.out.now) s.place (init_tree s.first)) x c.args.locals inner first c.args.out.now c.init.new.out) c.enter-mark.ensures.scope
+    (c.in_ok-begun-in-For.ensures.laid n.0) in
+    let steps : (line : ℕ) → EmitsWithin (for_step (state (on_line inner line) second.locals c.nested-in-For.new.out) (option_map simple_tree s.last)) inner second.locals third c.nested-in-For.new.out c.step.new.out =
+    subst (λ x. (line : ℕ) → EmitsWithin (for_step (state (on_line x line) second.locals c.nested-in-For.new.out) (option_map simple_tree s.last)) x second.locals third c.nested-in-For.new.out c.step.new.out) kept
+    (c.in_ok-stepped-in-For.ensures n.2) in
+    subst (λ x. EmitsLowered (stmt x (state (on_line c.args.c.now line) c.args.locals c.args.out.now)) c.args.c.now c.args.locals c.leave.new.self (record { begin = c.followed_by.result; locals = third.locals }) c.args.out.now c.lead_next.new.self)
+    (sym tree_is)
+    (subst (λ x. EmitsLowered (stmt (tree.Stmt.For s.place (init_tree s.first) (option_map expr_tree s.test) (option_map simple_tree s.last) (stmt_tree s.body.value)) (state (on_line c.args.c.now line) c.args.locals c.args.out.now)) c.args.c.now c.args.locals x (record { begin = c.followed_by.result; locals = third.locals }) c.args.out.now c.lead_next.new.self)
+    (sym left)
+    (for_laid c.args.c.now inner line c.args.locals c.len-start.result opened.opened.head opened.opened.index c.len-from-in-For.result c.len-past-in-For.result opened.opened.visible.items s.place (init_tree s.first)
+    (option_map expr_tree s.test) (option_map simple_tree s.last) (stmt_tree s.body.value) first second third c.followed_by.result c.at-target.result c.args.out.now c.init.new.out c.tested_for.new.out
+    c.nested-in-For.new.out c.step.new.out c.close-in-For.new.out c.lead_next.new.self within c.len-start.ensures opened.ensures.head opened.ensures.index opened.ensures.visible c.len-from-in-For.ensures
+    c.len-past-in-For.ensures c.at-target.ensures inits (λ l. c.in_ok-tested_for-in-For.ensures n.1 l first.locals) (c.in_ok-laid-in-For.ensures.laid n.3) steps c.in_ok-close-in-For.ensures
+    c.lead_next.ensures c.followed_by.ensures))
+
+pub stmts-loop-one-preserved : goal.stmts-loop-one-preserved
+stmts-loop-one-preserved t c =
+    let items = c.deref-one-items.result.now in
+    let i = c.loop-one.one-index in
+    let lt : i < length items = search rules in
+    let same : c.args.ones.now.items ≡ items = search rules in
+    record {
+      within = within_then c.args.c.now c.loop-one.c c.stmt.new.c c.loop-one.invariant.within c.in_ok-next.ensures.within;
+      laid = λ numbers line.
+          let each = numbers_at items i c.one-item.result lt (subst (λ xs. StmtsHaveIntNumbers (stmts_tree xs)) same numbers) in
+          let this = subst (λ x. StmtHasIntNumbers (stmt_tree x)) (sym c.one-item.is) each in
+          subst (λ xs. EmitsLowered (stmts (stmts_of xs) (state (on_line c.args.c.now line) c.args.locals c.args.out.now)) c.args.c.now c.args.locals c.stmt.new.c (record { begin = c.followed_by.result; locals = c.in_ok-next.next.locals })
+          c.args.out.now c.lead_next.new.self)
+          (one_more items i c.one-item.result lt c.one-item.is)
+          (stmts_turn c.args.c.now c.loop-one.c c.stmt.new.c line c.args.locals c.len-start.result c.len-past.result (map stmt_tree (take i items)) (stmt_tree c.one-item.result) c.loop-one.laid c.in_ok-next.next
+          c.followed_by.result c.args.out.now c.loop-one.out c.stmt.new.out c.lead_next.new.self c.loop-one.invariant.within c.len-start.ensures c.len-past.ensures (c.loop-one.invariant.laid numbers line)
+          (λ l. c.in_ok-next.ensures.laid this l) c.lead_next.ensures c.followed_by.ensures);
+    }

@@ -1,0 +1,149 @@
+//! Statements and the heads of statements that hold no other statements.
+ghost use Rattle.std.specs.Prelude.{◌≡◌, ℕ, None, IfSome, OnOk, IfOk, option_map};
+ghost use Rattle.c_tree.specs.Syntax.{expr_tree, simple_tree, local_tree, init_tree};
+ghost use Rattle.c_lower_rules.specs.Statements.{condition, for_condition, for_init, for_step, from_place, simple_from, return_from, declaration};
+ghost use Rattle.c_lower_rules.specs.Numbers.{HasIntNumbers, SimpleHasIntNumbers, LocalHasIntNumbers, InitHasIntNumbers};
+ghost use Rattle.c_lower_emit.specs.Emitting.{EmitsTested};
+ghost use Rattle.c_lower_exprs.specs.Contexts.{on_line, IsWithin};
+ghost use Rattle.c_lower_stmts.specs.Laying.{state, EmitsLowered, EmitsWithin};
+
+use crate::laid::Laid;
+use crate::loops::at;
+use crate::parts::{condition, performed, returned};
+use c_lower_emit::drafts::Target;
+use c_lower_emit::output::Output;
+use c_lower_emit::uses::Use;
+use c_lower_exprs::context::Context;
+use c_lower_exprs::operators::spot;
+use c_lower_simples::declaring::declaration;
+use c_lower_simples::simples::place_of_simple;
+use c_tree::{Expr, ForInit, Local, Place, Simple};
+use c_types_exprs::exprs::place_of_expr;
+use c_types_names::kinds::CType;
+use shape_data::program::Operand;
+use std::alloc::AllocError;
+
+/// A condition.
+pub fn tested<'a>(c: &Context<'a>, expr: &'a Expr, out: &mut Output<'a>) -> Result<(), AllocError>
+    ensures { OnOk result (HasIntNumbers (expr_tree expr.now) → (line locals : ℕ) → EmitsTested (condition (state (on_line c.now line) locals out.old) (expr_tree expr.now)) c.now.first_temp out.old out.new) }
+{
+    condition(c, c.line_of(place_of_expr(expr)), expr, out)
+}
+
+/// The test that always holds, whose nodes have the line of the place.
+fn forever<'a>(c: &Context<'a>, place: Place, out: &mut Output<'a>) -> Result<(), AllocError>
+    ensures { OnOk result ((line locals : ℕ) → EmitsTested (for_condition (state (on_line c.now line) locals out.old) place None) c.now.first_temp out.old out.new) }
+{
+    let spot = spot(c, c.line_of(place));
+    out.release();
+    out.at_hand(spot, CType::Int, Operand::Num(1), Use::Test)?;
+    Ok(())
+}
+
+/// The condition of a `for` at the place, which holds where it is missing.
+pub fn tested_for<'a>(
+    c: &Context<'a>,
+    place: Place,
+    expr: &'a Option<Expr>,
+    out: &mut Output<'a>,
+) -> Result<(), AllocError>
+    ensures { OnOk result (IfSome (option_map expr_tree expr.now) HasIntNumbers → (line locals : ℕ)
+        → EmitsTested (for_condition (state (on_line c.now line) locals out.old) place (option_map expr_tree expr.now)) c.now.first_temp out.old out.new) }
+{
+    match expr {
+        None => forever(c, place, out),
+        Some(expr) => tested(c, expr, out),
+    }
+}
+
+/// A simple statement, whose nodes have the line of the place.
+pub fn once<'a>(
+    c: &Context<'a>,
+    locals: u32,
+    place: Place,
+    one: &'a Simple,
+    out: &mut Output<'a>,
+) -> Result<Laid, AllocError>
+    ensures { IfOk result (λ laid. SimpleHasIntNumbers (simple_tree one.now) → (line : ℕ)
+        → EmitsLowered (simple_from (state (on_line c.now line) locals out.old) (from_place (state (on_line c.now line) locals out.old) place) (simple_tree one.now)) c.now locals c.now laid out.old out.new) }
+{
+    let begin = at(out.len());
+    performed(c, c.line_of(place), one, out)?;
+    Ok(Laid { begin, locals })
+}
+
+/// The step of a `for`.
+pub fn step<'a>(
+    c: &Context<'a>,
+    locals: u32,
+    one: &'a Option<Simple>,
+    out: &mut Output<'a>,
+) -> Result<Laid, AllocError>
+    ensures { IfOk result (λ laid. IfSome (option_map simple_tree one.now) SimpleHasIntNumbers → (line : ℕ)
+        → EmitsWithin (for_step (state (on_line c.now line) locals out.old) (option_map simple_tree one.now)) c.now locals laid out.old out.new) }
+{
+    match one {
+        None => Ok(Laid {
+            begin: Target::Next,
+            locals,
+        }),
+        Some(one) => once(c, locals, place_of_simple(one), one, out),
+    }
+}
+
+/// A `return` at the place.
+pub fn exit<'a>(
+    c: &Context<'a>,
+    locals: u32,
+    place: Place,
+    value: &'a Option<Expr>,
+    out: &mut Output<'a>,
+) -> Result<Laid, AllocError>
+    ensures { IfOk result (λ laid. IfSome (option_map expr_tree value.now) HasIntNumbers → (line : ℕ)
+        → EmitsLowered (return_from (state (on_line c.now line) locals out.old) (from_place (state (on_line c.now line) locals out.old) place) (option_map expr_tree value.now)) c.now locals c.now laid out.old out.new) }
+{
+    let begin = at(out.len());
+    returned(c, c.line_of(place), value, out)?;
+    Ok(Laid { begin, locals })
+}
+
+/// A declaration of locals, whose nodes have the line of the place.
+pub fn declared<'a>(
+    c: &mut Context<'a>,
+    locals: u32,
+    place: Place,
+    one: &'a Local,
+    out: &mut Output<'a>,
+) -> Result<Laid, AllocError>
+    ensures within { OnOk result (IsWithin c.old c.new) }
+    ensures laid { IfOk result (λ laid. LocalHasIntNumbers (local_tree one.now) → (line : ℕ)
+        → EmitsLowered (declaration (local_tree one.now) (from_place (state (on_line c.old line) locals out.old) place)) c.old locals c.new laid out.old out.new) }
+{
+    let begin = at(out.len());
+    let line = c.line_of(place);
+    out.release();
+    let locals = declaration(c, line, locals, one, out)?;
+    Ok(Laid { begin, locals })
+}
+
+/// What a `for` at the place begins with.
+pub fn init<'a>(
+    c: &mut Context<'a>,
+    locals: u32,
+    place: Place,
+    one: &'a ForInit,
+    out: &mut Output<'a>,
+) -> Result<Laid, AllocError>
+    ensures within { OnOk result (IsWithin c.old c.new) }
+    ensures laid { IfOk result (λ laid. InitHasIntNumbers (init_tree one.now) → (line : ℕ)
+        → EmitsLowered (for_init (state (on_line c.old line) locals out.old) place (init_tree one.now)) c.old locals c.new laid out.old out.new) }
+{
+    match one {
+        ForInit::Empty => Ok(Laid {
+            begin: Target::Next,
+            locals,
+        }),
+        ForInit::Local(one) => declared(c, locals, place, one, out),
+        ForInit::Simple(one) => once(c, locals, place, one, out),
+    }
+}

@@ -1,0 +1,137 @@
+//! Loops: what stands before their first node, and what their pieces become when they stand.
+ghost use Rattle.std.specs.Prelude.{◌≡◌, ◌<◌, ◌≤◌, List, length, OnOk, IfOk};
+ghost use Rattle.c_lower_rules.specs.Code.{Code, Test, repeat, repeat_first};
+ghost use Rattle.c_lower_rules.specs.Contexts.{visible};
+ghost use Rattle.c_lower_rules.specs.Temporaries.{Temp};
+ghost use Rattle.c_lower_emit.specs.declared.drafts.Target.TheVariants.{At};
+ghost use Rattle.c_lower_emit.specs.Emitting.{Out, with_loop, EmitsTest, EmitsCode};
+ghost use Rattle.c_lower_stmts.specs.Loops.{all_to, round};
+
+use c_lower_emit::drafts::{AS_THEY_ARE, Target, Ways};
+use c_lower_emit::output::Output;
+use c_lower_exprs::context::Context;
+use std::alloc::AllocError;
+
+/// A loop whose first node comes next: its place, how many loops there were before it, and the slots of the variables in scope.
+#[derive(Drop)]
+pub struct Opened {
+    pub head: usize,
+    pub index: usize,
+    pub visible: Vec<u32>,
+}
+
+/// Where a loop begins.
+pub fn open(c: &Context, out: &Output) -> Result<Opened, AllocError>
+    ensures head { IfOk result (λ opened. opened.head ≡ length out.now.nodes) }
+    ensures index { IfOk result (λ opened. opened.index ≡ length out.now.loops) }
+    ensures visible { IfOk result (λ opened. opened.visible.items ≡ visible c.now) }
+{
+    let visible = c.visible()?;
+    Ok(Opened {
+        head: out.len(),
+        index: out.loops_len(),
+        visible,
+    })
+}
+
+/// The place as a target.
+pub fn at(place: usize) -> Target
+    ensures { place < 4294967296 → result ≡ At place }
+{
+    Target::At(u32::try_from(place).unwrap_or(u32::MAX))
+}
+
+/// All exits lead to one place.
+fn all_to(place: Target) -> Ways
+    ensures { result ≡ all_to place }
+{
+    Ways {
+        next: place,
+        breaks: place,
+        continues: place,
+        ..AS_THEY_ARE
+    }
+}
+
+/// Within a loop, whose next round begins at a place.
+fn round(again: Target) -> Ways
+    ensures { result ≡ round again }
+{
+    Ways {
+        next: again,
+        breaks: Target::Next,
+        continues: again,
+        ..AS_THEY_ARE
+    }
+}
+
+/// Puts a loop together: its test, its body and its step, which end where the nodes do.
+pub fn close(
+    opened: Opened,
+    body: usize,
+    step: usize,
+    body_begin: Target,
+    step_begin: Target,
+    out: &mut Output,
+) -> Result<(), AllocError>
+    ensures { OnOk result ((t : Test) → (b s : Code) → (u v x : List Temp) → (o m n : Out) → opened.head ≡ length o.nodes → opened.index ≡ length o.loops → body ≡ length m.nodes → step ≡ length n.nodes
+        → length out.old.nodes < 4294967296 → EmitsTest t u o m → EmitsCode b v body_begin m n → EmitsCode s x step_begin n out.old
+        → EmitsCode (repeat opened.visible.items t b s) x (At (length o.nodes)) o out.new) }
+{
+    let Opened {
+        head,
+        index,
+        visible,
+    } = opened;
+    let past = out.len();
+    let to_head = all_to(at(head));
+    out.redirect(step, past, to_head);
+    let ways = round(step_begin.redirect(to_head));
+    out.redirect(body, step, ways);
+    let test_ways = Ways {
+        holds: body_begin.redirect(ways),
+        fails: Target::Next,
+        ..AS_THEY_ARE
+    };
+    out.redirect(head, body, test_ways);
+    add(index, head, visible, out)?;
+    Ok(())
+}
+
+/// Adds the loop.
+fn add(index: usize, head: usize, visible: Vec<u32>, out: &mut Output) -> Result<(), AllocError>
+    ensures { OnOk result (index ≤ length out.old.loops → head < 4294967296 → length out.old.nodes < 4294967296
+        → out.new ≡ with_loop index (record { head = head; past = length out.old.nodes; visible = visible.items }) out.old) }
+{
+    out.add_loop(index, u32::try_from(head).unwrap_or(u32::MAX), visible)
+}
+
+/// Puts together a loop whose test stands behind its body, and gives where a run of it begins.
+pub fn close_behind(
+    opened: Opened,
+    test: usize,
+    body_begin: Target,
+    out: &mut Output,
+) -> Result<Target, AllocError>
+    ensures { IfOk result (λ begin. (t : Test) → (b : Code) → (u v : List Temp) → (o m : Out) → opened.head ≡ length o.nodes → opened.index ≡ length o.loops → test ≡ length m.nodes
+        → length out.old.nodes < 4294967296 → EmitsCode b u body_begin o m → EmitsTest t v m out.old
+        → EmitsCode (repeat_first opened.visible.items b t) v begin o out.new) }
+{
+    let Opened {
+        head,
+        index,
+        visible,
+    } = opened;
+    let past = out.len();
+    let ways = round(at(test));
+    let begin = body_begin.redirect(ways);
+    let test_ways = Ways {
+        holds: begin,
+        fails: Target::Next,
+        ..AS_THEY_ARE
+    };
+    out.redirect(test, past, test_ways);
+    out.redirect(head, test, ways);
+    add(index, head, visible, out)?;
+    Ok(begin)
+}

@@ -1,5 +1,0 @@
-use Rattle.c_lowering.proofs.WellFormed.{have_well_formed}
-use Rattle.c_lowering.proofs.laws.programs_are_well_formed.Goals as goal
-
-pub returns : goal.returns
-returns c = have_well_formed

@@ -1,9 +1,0 @@
-pub mod Noting
-pub mod Stacking
-pub mod Definitions
-pub mod Stars
-pub mod Searching
-pub mod Fields
-pub mod Lowering
-pub mod Arguments
-pub mod Appending

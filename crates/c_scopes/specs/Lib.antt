@@ -1,4 +1,0 @@
-pub mod Seen
-pub mod Firsts
-pub mod Lowered
-pub mod Specifiers

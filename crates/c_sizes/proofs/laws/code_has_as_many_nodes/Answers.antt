@@ -1,5 +1,0 @@
-use Rattle.c_sizes.proofs.SizedBodies.{have_as_many_nodes}
-use Rattle.c_sizes.proofs.laws.code_has_as_many_nodes.Goals as goal
-
-pub returns : goal.returns
-returns c = have_as_many_nodes

@@ -1,5 +1,0 @@
-use Rattle.c_sizes.proofs.SizedBodies.{have_sizes}
-use Rattle.c_sizes.proofs.laws.code_has_its_size.Goals as goal
-
-pub returns : goal.returns
-returns c = have_sizes

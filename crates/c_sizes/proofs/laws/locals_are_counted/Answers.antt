@@ -1,5 +1,0 @@
-use Rattle.c_sizes.proofs.SizedBodies.{count_locals}
-use Rattle.c_sizes.proofs.laws.locals_are_counted.Goals as goal
-
-pub returns : goal.returns
-returns c = count_locals

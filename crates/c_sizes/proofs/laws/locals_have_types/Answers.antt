@@ -1,5 +1,0 @@
-use Rattle.c_sizes.proofs.DeclaredLocals.{have_local_kinds}
-use Rattle.c_sizes.proofs.laws.locals_have_types.Goals as goal
-
-pub returns : goal.returns
-returns c = have_local_kinds

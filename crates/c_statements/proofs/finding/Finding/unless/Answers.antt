@@ -1,6 +1,0 @@
-use Rattle.c_typing.specs.Types.{unless}
-use Rattle.c_statements.proofs.Adding.{refused}
-use Rattle.c_statements.proofs.finding.Finding.unless.Goals as goal
-
-pub returns : goal.returns
-returns c = refused (unless c.args.holds c.args.place c.args.code) c.args.self.now c.unless.new.self c.unless.ensures

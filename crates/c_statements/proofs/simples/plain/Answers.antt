@@ -1,9 +1,0 @@
-use Rattle.c_typing.specs.Statements.{plain}
-use Rattle.c_tree.specs.Syntax.{expr_tree}
-use Rattle.c_statements.proofs.Adding.{both}
-use Rattle.c_statements.proofs.simples.plain.Goals as goal
-
-pub returns : goal.returns
-returns c =
-    both c.push_kinds.result (plain c.args.env.now (expr_tree c.args.expr.now)) c.args.found.now c.expr_refusals.new.first c.push_kinds.new.list
-    c.expr_refusals.ensures c.push_kinds.ensures

@@ -1,0 +1,9 @@
+use Rattle.std.proofs.Common.{◌≡◌, map, drop}
+use Rattle.c_types_rules.specs.Expressions.{kind_of_members}
+use Rattle.c_tree.specs.Syntax.{ident_tree}
+use Rattle.c_types_names.specs.Seen.{kind_seen}
+use Rattle.c_types_exprs.proofs.exprs.kind_of_members.Given as goal
+
+abbrev pub invariant-loop-field : goal.invariant-loop-field
+invariant-loop-field l =
+    kind_of_members l.tables (kind_seen l.current) (map ident_tree (drop l.field-index l.fields)) ≡ kind_of_members l.tables (kind_seen l.initial.current) (map ident_tree l.fields)

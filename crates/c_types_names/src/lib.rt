@@ -1,0 +1,14 @@
+//! The names of a C program: what is declared, by its name and in the order of the text, which variables stand at a place, and the
+//! types of objects (variables, parameters, fields, results), by the typing rules of `c_types_rules`.
+#![tactic(auto)]
+
+pub mod declared;
+pub mod env;
+pub mod first;
+mod firsts;
+pub mod hiding;
+pub mod kinds;
+pub mod name_set;
+mod named;
+pub mod objects;
+pub mod tables;

@@ -1,5 +1,0 @@
-use Rattle.c_typing.proofs.Places.{have_first_places}
-use Rattle.c_typing.proofs.laws.first_places.Goals as goal
-
-pub returns : goal.returns
-returns c = have_first_places

@@ -1,5 +1,0 @@
-use Rattle.c_typing.proofs.OwnTypes.{have_own}
-use Rattle.c_typing.proofs.laws.own_type_is_last.Goals as goal
-
-pub returns : goal.returns
-returns c = have_own

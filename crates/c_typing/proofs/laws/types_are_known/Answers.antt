@@ -1,5 +1,0 @@
-use Rattle.c_typing.proofs.KnownPrograms.{have_known}
-use Rattle.c_typing.proofs.laws.types_are_known.Goals as goal
-
-pub returns : goal.returns
-returns c = have_known

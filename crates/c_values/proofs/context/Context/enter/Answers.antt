@@ -1,9 +1,0 @@
-use Rattle.std.proofs.Common.{◌≡◌, length, sym, ap, ◌∙◌, rules}
-use Rattle.c_lowering.specs.Contexts.{Context}
-use Rattle.c_values.proofs.Stacking.{length-stacked}
-use Rattle.c_values.proofs.context.Context.enter.Goals as goal
-
-pub returns-clause-bound : goal.returns-clause-bound
-returns-clause-bound c =
-    let kept : c.len-bound.result ≡ length c.self.inside.bound.items = search rules in
-    kept ∙ sym (length-stacked c.self.inside.bound.items) ∙ ap (λ (x : Context). length x.bound) c.self.view_is

@@ -1,9 +1,0 @@
-//! Expressions as code of the flow form, at a place of a procedure's body: each is emitted in one of its uses as the piece that the
-//! definitions of `c_lowering` say.
-#![tactic(auto)]
-
-pub mod context;
-pub mod members;
-pub mod operators;
-mod params;
-pub mod values;

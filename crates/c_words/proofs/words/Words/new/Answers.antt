@@ -1,5 +1,0 @@
-use Rattle.c_words.proofs.Cursor.{numbers_listed}
-use Rattle.c_words.proofs.words.Words.new.Goals as goal
-
-pub invariant_of-result : goal.invariant_of-result
-invariant_of-result c = record { classes = c.requires.classes; numbers = numbers_listed c.args.tokens.now c.requires.listed }

@@ -1,6 +1,0 @@
-use Rattle.std.proofs.Common.{◌∙◌, sym}
-use Rattle.c_words.proofs.Steps.{name_stops}
-use Rattle.c_words.proofs.words.Words.take_name.Goals as goal
-
-pub returns-then-not-sees-clause-value : goal.returns-then-not-sees-clause-value
-returns-then-not-sees-clause-value c = name_stops c.wrong.result c.args.self.now (sym c.sees.ensures ∙ c.if-not-sees.true) c.wrong.ensures
