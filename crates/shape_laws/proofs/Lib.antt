@@ -3,11 +3,15 @@ pub mod Atoms
 pub mod Cells
 pub mod Chains
 pub mod Changes
+pub mod ContainingHolds
+pub mod ContainingShapes
 pub mod Continued
 pub mod FrameRuns
 pub mod FrameSteps
 pub mod Meets
+pub mod Refuting
 pub mod Returning
+pub mod Shapes
 pub mod StepsKept
 pub mod StepsStacks
 pub mod Sums

@@ -100,7 +100,7 @@ IsSum-assoc {structs} {whole} {first} {others} {second} {third} outer inner = re
 pub at_first : (cell : Cell) (cells : List Cell) → cell_at (cell ∷ cells) cell.at ≡ Some cell
 at_first cell cells = simp ((Decides-int_eq cell.at cell.at).1 refl)
 
-at_later : (cell : Cell) (cells : List Cell) (at : ℤ) → cell.at <ℤ at → cell_at (cell ∷ cells) at ≡ cell_at cells at
+pub at_later : (cell : Cell) (cells : List Cell) (at : ℤ) → cell.at <ℤ at → cell_at (cell ∷ cells) at ≡ cell_at cells at
 at_later cell cells at above = by_test (int_eq cell.at at) refl
   where
     by_test : (b : Bool) → int_eq cell.at at ≡ b → cell_at (cell ∷ cells) at ≡ cell_at cells at

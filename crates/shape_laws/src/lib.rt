@@ -7,6 +7,8 @@ pub mod examples;
 pub mod frames;
 pub mod heaps;
 pub mod meaning;
+pub mod refutations;
 pub mod returns;
 pub mod runs;
 pub mod steps;
+pub mod structures;

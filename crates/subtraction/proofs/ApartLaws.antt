@@ -6,15 +6,15 @@ use Rattle.std.proofs.lemmas.List.Elements.{All-head, All-nil, All-tail}
 use Rattle.shape_data.specs.declared.symbolic.Exp.{Exp}
 use Rattle.shape_data.specs.declared.symbolic.Exp.TheVariants.{Var, Const}
 use Rattle.shape_data.specs.declared.symbolic.SymState.{SymState}
-use Rattle.heap_laws.specs.Each.{EachInState}
-use Rattle.heap_laws.specs.Mapped.{on_state, renamed}
+use Rattle.sym_laws.specs.Each.{EachInState}
+use Rattle.sym_laws.specs.Mapped.{on_state, renamed}
 use Rattle.sym_canon.proofs.NumberLaws.{state-agrees}
-use Rattle.match_laws.specs.Covers.{above, apart_from, number_from}
-use Rattle.match_laws.specs.Rooms.{IsSmall}
-use Rattle.match_laws.specs.Variables.{with_exps, with_state}
+use Rattle.sym_matching.specs.Covers.{above, apart_from, number_from}
+use Rattle.sym_matching.specs.Rooms.{IsSmall}
+use Rattle.sym_matching.specs.Variables.{with_exps, with_state}
 use Rattle.subtraction.specs.Apart.{number_within, renumbered}
-use Rattle.subtraction.specs.Conditions.{AreSmall}
-use Rattle.subtraction.proofs.SmallLaws.{small-exps, small-heap}
+use Rattle.matching_steps.specs.Conditions.{AreSmall}
+use Rattle.matching.proofs.SmallLaws.{small-exps, small-heap}
 
 pub above_below : (names : List ℕ) (first limit : ℕ) → first ≤ limit → All (λ x. x < limit) names → above first names ≤ limit
 above_below [] first limit low all = low

@@ -10,13 +10,13 @@ use Rattle.shape_data.specs.declared.symbolic.Fact.{Fact}
 use Rattle.shape_data.specs.declared.symbolic.Fact.TheVariants.{Eq, Ne}
 use Rattle.shape_data.specs.declared.symbolic.SymHeap.{SymHeap}
 use Rattle.shape_data.specs.declared.symbolic.SymState.{SymState}
-use Rattle.heap_laws.specs.Mapped.{on_atom, on_fact, on_heap, on_state}
+use Rattle.sym_laws.specs.Mapped.{on_atom, on_fact, on_heap, on_state}
 use Rattle.sym_canon.specs.Numbering.{sides}
 use Rattle.sym_canon.specs.Placing.{exps_of}
-use Rattle.match_laws.specs.NewVariables.{HasRoom}
-use Rattle.match_laws.specs.Rooms.{fields_of, fields_of_all}
-use Rattle.match_laws.specs.Variables.{with_atoms, with_exps, with_facts, with_heap, with_state, with_variable}
-use Rattle.match_laws.proofs.RoomLaws.{room_of_few}
+use Rattle.sym_matching.specs.NewVariables.{HasRoom}
+use Rattle.sym_matching.specs.Rooms.{fields_of, fields_of_all}
+use Rattle.sym_matching.specs.Variables.{with_atoms, with_exps, with_facts, with_heap, with_state, with_variable}
+use Rattle.sym_matching.proofs.RoomLaws.{room_of_few}
 
 -- few parts, and few fields each
 pub record IsFew (heap : SymHeap) : Type 0 where
@@ -79,7 +79,7 @@ length-state state names slots few =
     let other : length (with_heap (with_exps names state.locals) state.heap) ≤ length (with_exps names state.locals) + 131076000 = length-heap state.heap (with_exps names state.locals) few in
     omega arith
 
-few_each : (atoms : List Atom) → All IsNarrow atoms → fields_of_all atoms ≤ 32768 * length atoms
+pub few_each : (atoms : List Atom) → All IsNarrow atoms → fields_of_all atoms ≤ 32768 * length atoms
 few_each [] h = omega arith
 few_each (atom ∷ atoms) h =
     let here : fields_of atom ≤ 32768 = All-head IsNarrow atom atoms h in

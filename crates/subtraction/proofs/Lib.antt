@@ -1,9 +1,5 @@
 pub mod ApartLaws
-pub mod AtomTurns
 pub mod CoverLengths
-pub mod FieldTurns
-pub mod MatchSteps
-pub mod NewVariableTurns
-pub mod SmallLaws
+pub mod OwedSteps
 pub mod StateConditions
-pub mod WalkTurns
+pub mod SubtractSteps

@@ -1,5 +1,5 @@
 -- What states and posts within the sizes have, and that well-formed ones are so.
-use Rattle.std.specs.Prelude.{◌≡◌, ℕ, ◌+◌, ◌<◌, ◌≤◌, [], length}
+use Rattle.std.specs.Prelude.{◌≡◌, ℕ, ◌+◌, ◌*◌, ◌<◌, ◌≤◌, [], length}
 use Rattle.std.proofs.Common.{arith}
 use Rattle.std.proofs.lemmas.Bool.{ltb-true}
 use Rattle.std.proofs.lemmas.List.Elements.{All-weaker}
@@ -7,15 +7,17 @@ use Rattle.shape_data.specs.declared.symbolic.Exp.{Exp}
 use Rattle.shape_data.specs.declared.symbolic.Exp.TheVariants.{Var, Const}
 use Rattle.shape_data.specs.declared.symbolic.SymState.{SymState}
 use Rattle.shape_data.specs.WellFormed.{IsExp, widest}
-use Rattle.heap_laws.specs.Each.{EachInState}
-use Rattle.heap_laws.specs.Mapped.{renamed}
-use Rattle.match_laws.specs.Covers.{above, apart_from, number_from}
-use Rattle.match_laws.specs.NewVariables.{HasRoom}
-use Rattle.match_laws.specs.Rooms.{IsSmall, fields_of_all}
-use Rattle.match_laws.specs.Variables.{with_state}
-use Rattle.match_laws.proofs.SizeLaws.{well_formed_is_within_sizes}
+use Rattle.sym_laws.specs.Each.{EachInState}
+use Rattle.sym_laws.specs.Mapped.{renamed}
+use Rattle.sym_matching.specs.Covers.{above, apart_from, number_from}
+use Rattle.sym_matching.specs.NewVariables.{HasRoom}
+use Rattle.sym_matching.specs.Rooms.{IsSmall, fields_of_all}
+use Rattle.sym_matching.specs.Variables.{with_state}
+use Rattle.sym_matching.proofs.SizeLaws.{well_formed_is_within_sizes}
+use Rattle.matching.specs.Names.{names_of_all}
+use Rattle.matching.proofs.MatchSteps.{few_names}
 use Rattle.subtraction.specs.Conditions.{IsStateWithinSizes, WellFormedPostIsWithinSizes, WellFormedStateIsWithinSizes}
-use Rattle.subtraction.proofs.CoverLengths.{IsFew, few-mapped, locals-mapped, states-room}
+use Rattle.subtraction.proofs.CoverLengths.{IsFew, few-mapped, few_each, locals-mapped, states-room}
 
 pub state_small : (state : SymState) → IsStateWithinSizes state → EachInState IsSmall state
 state_small state is = record { locals = is.locals; heap = is.heap.variables }
@@ -36,6 +38,14 @@ covering-room a b apart one other is =
 pub covering-few : (a b apart : SymState) → IsStateWithinSizes b → apart ≡ apart_from a b → length apart.heap.spatial + length apart.heap.pure < 4294967296
 covering-few a b apart other is =
     let parts : length (apart_from a b).heap.pure + length (apart_from a b).heap.spatial ≤ 4000 = (few-mapped (apart_by a) b.heap (few b other)).parts in
+    rw is (omega arith)
+
+pub covering-names : (a b apart : SymState) → IsStateWithinSizes b → apart ≡ apart_from a b → names_of_all apart.heap.spatial < 4294967296
+covering-names a b apart other is =
+    let low : IsFew (apart_from a b).heap = few-mapped (apart_by a) b.heap (few b other) in
+    let parts : length (apart_from a b).heap.pure + length (apart_from a b).heap.spatial ≤ 4000 = low.parts in
+    let fields : fields_of_all (apart_from a b).heap.spatial ≤ 32768 * length (apart_from a b).heap.spatial = few_each (apart_from a b).heap.spatial low.fields in
+    let names : names_of_all (apart_from a b).heap.spatial ≤ fields_of_all (apart_from a b).heap.spatial + length (apart_from a b).heap.spatial = few_names (apart_from a b).heap.spatial in
     rw is (omega arith)
 
 pub covering-slots : (a b apart : SymState) → length b.locals ≡ length a.locals → apart ≡ apart_from a b → length apart.locals ≡ length a.locals

@@ -1,7 +1,7 @@
 -- Numbers for the existential variables of a wanted state, within 32 bits.
 use Rattle.std.specs.Prelude.{ℕ, ◌+◌, ◌-◌, if◌then◌else◌, ltb}
 use Rattle.shape_data.specs.declared.symbolic.Exp.{Exp}
-use Rattle.heap_laws.specs.Mapped.{renamed}
+use Rattle.sym_laws.specs.Mapped.{renamed}
 
 -- existential variables numbered from a first one on, in the order that they have; one whose number would not have 32 bits
 -- keeps its own

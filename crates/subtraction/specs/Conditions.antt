@@ -1,11 +1,10 @@
--- What the calls ask of their arguments: the sizes that all that is well formed has.
-use Rattle.std.specs.Prelude.{ℕ, ◌<◌, ◌≤◌, List, length, All}
+-- What the coverings ask of their arguments: the sizes that all that is well formed has.
+use Rattle.std.specs.Prelude.{ℕ, ◌≤◌, List, length, All}
 use Rattle.shape_data.specs.declared.program.StructDef.{StructDef}
-use Rattle.shape_data.specs.declared.symbolic.Exp.{Exp}
 use Rattle.shape_data.specs.declared.symbolic.Post.{Post}
 use Rattle.shape_data.specs.declared.symbolic.SymState.{SymState}
 use Rattle.shape_data.specs.WellFormed.{AreStructs, IsPost, IsState, widest}
-use Rattle.match_laws.specs.Rooms.{IsSmall, IsWithinSizes}
+use Rattle.sym_matching.specs.Rooms.{IsSmall, IsWithinSizes}
 
 -- the heap is within the sizes, the variables of the locals are below 2^31, and there are no more locals than a procedure may
 -- have slots
@@ -18,14 +17,6 @@ pub record IsStateWithinSizes (state : SymState) : Type 0 where
 pub record IsPostWithinSizes (post : Post) : Type 0 where
   pub ret : IsSmall post.ret
   pub heap : IsWithinSizes post.heap
-
--- variables are below 2^31
-abbrev pub AreSmall : List ℕ → Type 0
-AreSmall names = All (λ x. x < 2147483648) names
-
--- and so are those of a binding
-abbrev pub IsSmallBinding : List (ℕ × Exp) → Type 0
-IsSmallBinding binding = All (λ (bound : ℕ × Exp). (bound.0 < 2147483648) × IsSmall bound.1) binding
 
 -- LAWS
 

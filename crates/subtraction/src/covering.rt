@@ -1,28 +1,30 @@
 //! Whether a state or a post covers another: whatever meets the second then meets the first, by the law
-//! `match_laws::laws::covering_is_met`.
+//! `sym_matching::laws::covering_is_met`.
 ghost use Rattle.std.specs.Prelude.{◌≡◌, ◌↔◌, ◌+◌, ◌<◌, [], IfOk, IsTrue, filter, leb, length};
-ghost use Rattle.heap_laws.specs.Each.{EachInState};
+ghost use Rattle.sym_laws.specs.Each.{EachInState};
 ghost use Rattle.sym_canon.specs.Canonical.{as_state as as_state_of, canon_post as canon_post_of, canon_state as canon_state_of};
-ghost use Rattle.match_laws.specs.Covers.{PostCovers, StateCovers, above as above_of, apart_from as apart_from_of, equal_slots as equal_slots_of, existentials as existentials_of, match_state as match_state_of, matches_state as matches_state_of, takes_all as takes_all_of};
-ghost use Rattle.match_laws.specs.Matches.{want_heap as want_heap_of};
-ghost use Rattle.match_laws.specs.NewVariables.{HasRoom};
-ghost use Rattle.match_laws.specs.Rooms.{IsSmall, fields_of_all};
-ghost use Rattle.match_laws.specs.Steps.{and_then};
-ghost use Rattle.match_laws.specs.Variables.{with_state};
-ghost use Rattle.match_laws.specs.WantedFacts.{want_all_owed as want_all_owed_of};
+ghost use Rattle.sym_matching.specs.Covers.{PostCovers, StateCovers, above as above_of, apart_from as apart_from_of, equal_slots as equal_slots_of, existentials as existentials_of, match_state as match_state_of, matches_state as matches_state_of, takes_all as takes_all_of};
+ghost use Rattle.sym_matching.specs.Matches.{want_heap as want_heap_of};
+ghost use Rattle.sym_matching.specs.NewVariables.{HasRoom};
+ghost use Rattle.sym_matching.specs.Rooms.{IsSmall, fields_of_all};
+ghost use Rattle.sym_matching.specs.Steps.{and_then};
+ghost use Rattle.sym_matching.specs.Variables.{with_state};
+ghost use Rattle.sym_matching.specs.WantedFacts.{want_all_owed as want_all_owed_of};
 ghost use Rattle.subtraction.specs.Apart.{number_within};
-ghost use Rattle.subtraction.specs.Conditions.{AreSmall, IsPostWithinSizes, IsStateWithinSizes};
-ghost use Rattle.subtraction.specs.Rules.{strict};
+ghost use Rattle.matching_steps.specs.Conditions.{AreSmall};
+ghost use Rattle.matching_steps.specs.InSetting.{rules_in};
+ghost use Rattle.matching.specs.Names.{names_of_all};
+ghost use Rattle.subtraction.specs.Conditions.{IsPostWithinSizes, IsStateWithinSizes};
 
-use crate::facts::want_all_owed;
-use crate::matching::{has_junk, start, want_heap};
-use crate::reading::Facts;
-use crate::variables::add_state;
-use match_laws::{Matching, Owed, Turned};
+use matching::facts::want_all_owed;
+use matching::matches::{has_junk, start, want_heap};
+use matching_steps::reading::Setting;
+use matching_steps::variables::add_state;
 use shape_data::symbolic::{Exp, FIRST_EXISTENTIAL, Post, SymHeap, SymState};
 use shape_data::{Row, copy_of, is_same};
 use std::alloc::{AllocError, Global};
 use sym_canon::{canon_post, canon_state};
+use sym_matching::{Matching, Mode, Owed, Turned};
 use sym_parts::{Mapping, map_state};
 
 /// The variables of a state.
@@ -143,17 +145,18 @@ fn equal_slots(alloc: Global, wants: &[Exp], haves: &[Exp]) -> Result<Vec<Owed>,
 /// The match of the locals, slot by slot, then of the heap.
 fn want_state(
     alloc: Global,
-    rules: &Facts,
+    setting: &Setting,
     slots: &[Owed],
     b: &SymHeap,
     m: Matching,
 ) -> Result<Turned, AllocError>
     requires room { HasRoom (fields_of_all b.now.spatial) m.used }
+    requires names { m.next + names_of_all b.now.spatial < 4294967296 }
     requires few { length b.now.spatial + length b.now.pure < 4294967296 }
-    ensures { IfOk result (λ turned. turned ≡ and_then (want_heap_of (strict rules.now) b.now) (want_all_owed_of (strict rules.now) slots.now m)) }
+    ensures { IfOk result (λ turned. turned ≡ and_then (want_heap_of (rules_in setting.now) b.now) (want_all_owed_of (rules_in setting.now) slots.now m)) }
 {
-    match want_all_owed(rules, slots, m)? {
-        Turned::On(n) => want_heap(alloc, rules, b, n),
+    match want_all_owed(alloc, setting, slots, m)? {
+        Turned::On(n) => want_heap(alloc, setting, b, n),
         Turned::Stuck(number) => Ok(Turned::Stuck(number)),
     }
 }
@@ -162,18 +165,20 @@ fn want_state(
 fn match_state(alloc: Global, a: &SymState, b: &SymState) -> Result<Turned, AllocError>
     requires slots { length b.now.locals ≡ length a.now.locals }
     requires room { HasRoom (fields_of_all b.now.heap.spatial) (with_state (with_state [] a.now) b.now) }
+    requires names { names_of_all b.now.heap.spatial < 4294967296 }
     requires few { length b.now.heap.spatial + length b.now.heap.pure < 4294967296 }
     ensures { IfOk result (λ turned. turned ≡ match_state_of a.now b.now) }
 {
     let flexible = existentials(alloc, b)?;
     let used = variables_of_both(alloc, a, b)?;
     let slots = equal_slots(alloc, b.locals.as_slice(), a.locals.as_slice())?;
-    let m = start(alloc, &a.heap, &[], used)?;
-    let rules = Facts {
+    let m = start(alloc, &a.heap, &[], used, 0)?;
+    let setting = Setting {
+        mode: Mode::Subtract,
         facts: a.heap.pure.as_slice(),
         flexible: flexible.as_slice(),
     };
-    want_state(alloc, &rules, slots.as_slice(), &b.heap, m)
+    want_state(alloc, &setting, slots.as_slice(), &b.heap, m)
 }
 
 /// Whether a match went to its end and its frame has no atom.

@@ -7,9 +7,9 @@ use Rattle.shape_data.specs.declared.symbolic.Atom.{Atom}
 use Rattle.shape_data.specs.declared.symbolic.Atom.TheVariants.{Points, Seg, Junk}
 use Rattle.shape_data.specs.declared.symbolic.Exp.{Exp}
 use Rattle.shape_data.specs.declared.symbolic.Exp.TheVariants.{Const}
-use Rattle.heap_laws.specs.Junks.{is_junk, is_other}
-use Rattle.heap_laws.specs.Orders.{SayTheSame}
-use Rattle.heap_laws.proofs.OrderLemmas.{same-refl, same-trans, same-cons, same-append_left, same-append_right, same-parted}
+use Rattle.sym_laws.specs.Junks.{is_junk, is_other}
+use Rattle.sym_laws.specs.Orders.{SayTheSame}
+use Rattle.sym_laws.proofs.OrderLemmas.{same-refl, same-trans, same-cons, same-append_left, same-append_right, same-parted}
 use Rattle.sym_canon.specs.Placing.{exps_of, all_lead_to, is_placed, places_some, place_by, place_first, place_at, place, params_from, placed}
 
 by-same : (again : List Exp → List Atom → List Atom) → ((queue : List Exp) (left : List Atom) → SayTheSame left (again queue left)) → (queue : List Exp) (left : List Atom) (e : Exp) → SayTheSame left (place_by again queue left e)

@@ -4,9 +4,9 @@ ghost use Rattle.std.specs.List.{list_any};
 ghost use Rattle.shape_data.specs.declared.symbolic.Atom.{Atom as AnyAtom};
 ghost use Rattle.shape_data.specs.declared.symbolic.Exp.{Exp};
 ghost use Rattle.shape_data.specs.declared.symbolic.Exp.TheVariants.{Const};
-ghost use Rattle.heap_laws.specs.Addresses.{addresses};
-ghost use Rattle.heap_laws.specs.Expressions.{is_among};
-ghost use Rattle.heap_laws.specs.Junks.{is_junk as is_junk_of, is_other as is_other_of};
+ghost use Rattle.sym_laws.specs.Addresses.{addresses};
+ghost use Rattle.sym_laws.specs.Expressions.{is_among};
+ghost use Rattle.sym_laws.specs.Junks.{is_junk as is_junk_of, is_other as is_other_of};
 ghost use Rattle.sym_canon.specs.Placing.{all_lead_to, exps_of, is_cell_at as is_cell_at_of, is_placed as is_placed_of, is_placed_by as is_placed_by_of, is_segment_from as is_segment_from_of, leads_to, params_from, place as place_of, place_at, place_by, place_first, placed as placed_of, places_some as places_some_of};
 
 use shape_data::symbolic::{Atom, Exp};

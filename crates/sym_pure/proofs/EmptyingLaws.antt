@@ -15,13 +15,13 @@ use Rattle.shape_data.specs.Heap.{cell_at, IsSum}
 use Rattle.shape_data.specs.Meaning.{value, HoldsAtoms}
 use Rattle.shape_laws.proofs.Atoms.{HoldsAtoms-remove, HoldsAtoms-restore}
 use Rattle.shape_laws.proofs.Sums.{IsSum-empty_left}
-use Rattle.heap_laws.specs.Addresses.{address_of, addresses}
-use Rattle.heap_laws.specs.Expressions.{same_exp, is_among}
-use Rattle.heap_laws.specs.Mapped.{on_atom}
-use Rattle.heap_laws.proofs.AddressLemmas.{IsSum-not_both, IsHeap-not_zero, Seg-cases, address-owned, found_of_named}
-use Rattle.heap_laws.proofs.ExpressionLemmas.{same_exp-equal}
-use Rattle.heap_laws.proofs.MappedLemmas.{HoldsAtoms-mapped}
-use Rattle.heap_laws.proofs.SegmentLemmas.{segment_may_be_empty}
+use Rattle.sym_laws.specs.Addresses.{address_of, addresses}
+use Rattle.sym_laws.specs.Expressions.{same_exp, is_among}
+use Rattle.sym_laws.specs.Mapped.{on_atom}
+use Rattle.sym_laws.proofs.AddressLemmas.{IsSum-not_both, IsHeap-not_zero, Seg-cases, address-owned, found_of_named}
+use Rattle.sym_laws.proofs.ExpressionLemmas.{same_exp-equal}
+use Rattle.sym_laws.proofs.MappedLemmas.{HoldsAtoms-mapped}
+use Rattle.sym_laws.proofs.SegmentLemmas.{segment_may_be_empty}
 use Rattle.sym_pure.specs.declared.parts.Settled.{Settled}
 use Rattle.sym_pure.specs.declared.parts.Solved.{Solved}
 use Rattle.sym_pure.specs.Emptying.{is_plain, is_empty, place_of_empty, settle_at, settle}

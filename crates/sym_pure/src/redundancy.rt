@@ -1,7 +1,7 @@
 //! What says nothing new goes.
 ghost use Rattle.std.specs.Prelude.{◌≡◌, ◌&&◌, ◌||◌, IfOk};
-ghost use Rattle.heap_laws.specs.Addresses.{addresses};
-ghost use Rattle.heap_laws.specs.Junks.{is_junk as is_junk_of};
+ghost use Rattle.sym_laws.specs.Addresses.{addresses};
+ghost use Rattle.sym_laws.specs.Junks.{is_junk as is_junk_of};
 ghost use Rattle.sym_pure.specs.Emptying.{is_plain as is_plain_of};
 ghost use Rattle.sym_pure.specs.Redundancy.{are_constants as are_constants_of, is_redundant as is_redundant_of, needed as needed_of, one_junk as one_junk_of, with_needed, with_one_junk};
 

@@ -1,5 +1,5 @@
 use Rattle.std.proofs.Common.{◌≡◌, drop}
-use Rattle.match_laws.specs.Covers.{above}
+use Rattle.sym_matching.specs.Covers.{above}
 use Rattle.subtraction.proofs.covering.above.Given as goal
 
 abbrev pub invariant-loop-x : goal.invariant-loop-x

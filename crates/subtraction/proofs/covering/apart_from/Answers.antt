@@ -1,8 +1,8 @@
 -- The numbers have 32 bits.
 use Rattle.std.proofs.Common.{◌≡◌}
 use Rattle.std.proofs.lemmas.Result.{IfOk-weaker}
-use Rattle.heap_laws.specs.Mapped.{on_state}
-use Rattle.match_laws.specs.Covers.{above, apart_from}
+use Rattle.sym_laws.specs.Mapped.{on_state}
+use Rattle.sym_matching.specs.Covers.{above, apart_from}
 use Rattle.subtraction.specs.Apart.{renumbered}
 use Rattle.subtraction.proofs.ApartLaws.{is_apart, variables_small}
 use Rattle.subtraction.proofs.covering.apart_from.Goals as goal

@@ -1,5 +1,5 @@
 use Rattle.std.proofs.Common.{◌≡◌, ◌++◌, drop}
-use Rattle.match_laws.specs.Covers.{equal_slots}
+use Rattle.sym_matching.specs.Covers.{equal_slots}
 use Rattle.subtraction.proofs.covering.equal_slots.Given as goal
 
 abbrev pub invariant-loop-slot : goal.invariant-loop-slot

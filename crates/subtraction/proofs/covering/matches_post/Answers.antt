@@ -2,7 +2,7 @@
 use Rattle.std.proofs.Common.{◌≡◌, ◌∙◌, ap₂}
 use Rattle.std.proofs.lemmas.Result.{IfOk-weaker}
 use Rattle.sym_canon.specs.Canonical.{as_state}
-use Rattle.match_laws.specs.Covers.{matches_state}
+use Rattle.sym_matching.specs.Covers.{matches_state}
 use Rattle.subtraction.proofs.covering.matches_post.Goals as goal
 
 pub returns : goal.returns

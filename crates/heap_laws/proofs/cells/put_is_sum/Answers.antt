@@ -1,5 +1,0 @@
-use Rattle.heap_laws.proofs.CellLemmas.{put_is_sum}
-use Rattle.heap_laws.proofs.cells.put_is_sum.Goals as goal
-
-pub returns : goal.returns
-returns c = put_is_sum

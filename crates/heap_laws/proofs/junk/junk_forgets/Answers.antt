@@ -1,5 +1,0 @@
-use Rattle.heap_laws.proofs.JunkLemmas.{junk_forgets}
-use Rattle.heap_laws.proofs.junk.junk_forgets.Goals as goal
-
-pub returns : goal.returns
-returns c = junk_forgets

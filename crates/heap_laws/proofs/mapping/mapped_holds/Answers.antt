@@ -1,5 +1,0 @@
-use Rattle.heap_laws.proofs.MappedLemmas.{mapped_holds}
-use Rattle.heap_laws.proofs.mapping.mapped_holds.Goals as goal
-
-pub returns : goal.returns
-returns c = mapped_holds

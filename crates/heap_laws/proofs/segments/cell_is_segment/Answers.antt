@@ -1,5 +1,0 @@
-use Rattle.heap_laws.proofs.SegmentLemmas.{cell_is_segment}
-use Rattle.heap_laws.proofs.segments.cell_is_segment.Goals as goal
-
-pub returns : goal.returns
-returns c = cell_is_segment

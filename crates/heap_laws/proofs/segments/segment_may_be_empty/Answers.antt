@@ -1,5 +1,0 @@
-use Rattle.heap_laws.proofs.SegmentLemmas.{segment_may_be_empty}
-use Rattle.heap_laws.proofs.segments.segment_may_be_empty.Goals as goal
-
-pub returns : goal.returns
-returns c = segment_may_be_empty

@@ -1,5 +1,0 @@
-use Rattle.heap_laws.proofs.SegmentLemmas.{segment_unfolds}
-use Rattle.heap_laws.proofs.segments.segment_unfolds.Goals as goal
-
-pub returns : goal.returns
-returns c = segment_unfolds

@@ -1,5 +1,0 @@
-use Rattle.heap_laws.proofs.SegmentLemmas.{segments_join}
-use Rattle.heap_laws.proofs.segments.segments_join.Goals as goal
-
-pub returns : goal.returns
-returns c = segments_join

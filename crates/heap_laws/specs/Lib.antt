@@ -1,9 +1,0 @@
-pub mod Addresses
-pub mod CellSums
-pub mod Each
-pub mod Expressions
-pub mod Fresh
-pub mod Junks
-pub mod Mapped
-pub mod Orders
-pub mod Segments

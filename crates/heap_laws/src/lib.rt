@@ -1,9 +1,0 @@
-//! Laws of symbolic heaps, each the contract of a public function that does nothing; no code runs here. They
-//! stand on the laws of sums, chains and meanings in `shape_laws`. The crates above cite the lemmas in `proofs/`.
-#![tactic(auto)]
-
-pub mod cells;
-pub mod junk;
-pub mod mapping;
-pub mod order;
-pub mod segments;

@@ -1,8 +1,0 @@
-use Rattle.match_laws.proofs.CoverLaws.{covering_post_meets, covering_state_meets}
-use Rattle.match_laws.proofs.laws.covering_is_met.Goals as goal
-
-pub returns-clause-state : goal.returns-clause-state
-returns-clause-state c = covering_state_meets
-
-pub returns-clause-post : goal.returns-clause-post
-returns-clause-post c = covering_post_meets

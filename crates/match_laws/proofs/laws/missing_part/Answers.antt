@@ -1,8 +1,0 @@
-use Rattle.match_laws.proofs.MissingLaws.{missing_is_logical, subtract_misses_nothing}
-use Rattle.match_laws.proofs.laws.missing_part.Goals as goal
-
-pub returns-clause-nothing : goal.returns-clause-nothing
-returns-clause-nothing c = subtract_misses_nothing
-
-pub returns-clause-logical : goal.returns-clause-logical
-returns-clause-logical c = missing_is_logical

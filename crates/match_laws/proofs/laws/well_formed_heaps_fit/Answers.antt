@@ -1,5 +1,0 @@
-use Rattle.match_laws.proofs.SizeLaws.{well_formed_fits}
-use Rattle.match_laws.proofs.laws.well_formed_heaps_fit.Goals as goal
-
-pub returns : goal.returns
-returns c = well_formed_fits

@@ -1,8 +1,0 @@
-use Rattle.match_laws.proofs.RoomSteps.{atom_takes_room, atoms_take_room}
-use Rattle.match_laws.proofs.rooms.atoms_take_room.Goals as goal
-
-pub returns-clause-one : goal.returns-clause-one
-returns-clause-one c = atom_takes_room
-
-pub returns-clause-all : goal.returns-clause-all
-returns-clause-all c = atoms_take_room

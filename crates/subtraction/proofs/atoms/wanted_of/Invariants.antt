@@ -1,6 +1,0 @@
-use Rattle.std.proofs.Common.{◌≡◌, ◌++◌, drop}
-use Rattle.match_laws.specs.WantedAtoms.{wanted_from}
-use Rattle.subtraction.proofs.atoms.wanted_of.Given as goal
-
-abbrev pub invariant-loop-atom : goal.invariant-loop-atom
-invariant-loop-atom l = (wanted_from 0 l.atoms ≡ l.all ++ wanted_from l.number (drop l.atom-index l.atoms)) × (l.number ≡ l.atom-index)

@@ -1,0 +1,11 @@
+pub mod AddressLemmas
+pub mod CellLemmas
+pub mod EachLemmas
+pub mod ExpressionLemmas
+pub mod FreshLemmas
+pub mod InstanceLemmas
+pub mod JunkLemmas
+pub mod MappedLemmas
+pub mod OrderLemmas
+pub mod RenamedLemmas
+pub mod SegmentLemmas

@@ -1,0 +1,10 @@
+pub mod Addresses
+pub mod CellSums
+pub mod Each
+pub mod Expressions
+pub mod Fresh
+pub mod Instances
+pub mod Junks
+pub mod Mapped
+pub mod Orders
+pub mod Segments

@@ -1,0 +1,14 @@
+pub mod Answers
+pub mod Covers
+pub mod Examples
+pub mod Laws
+pub mod Matches
+pub mod NewVariables
+pub mod Reading
+pub mod Rooms
+pub mod Steps
+pub mod Variables
+pub mod WantedAtoms
+pub mod WantedCells
+pub mod WantedFacts
+pub mod WantedSegments

@@ -1,0 +1,5 @@
+pub mod Apart
+pub mod Calls
+pub mod Coverings
+pub mod Laws
+pub mod Sizes
