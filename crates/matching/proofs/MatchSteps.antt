@@ -1,0 +1,57 @@
+-- The match as a whole: the answer is the definition's.
+use Rattle.std.proofs.Common.{◌≡◌, ◌∙◌, ℕ, ◌+◌, ◌<◌, ◌≤◌, List, [], ◌∷◌, ◌++◌, length, ap, arith}
+use Rattle.shape_data.specs.declared.symbolic.Atom.{Atom}
+use Rattle.shape_data.specs.declared.symbolic.Atom.TheVariants.{Points, Seg, Junk}
+use Rattle.shape_data.specs.declared.symbolic.Exp.{Exp}
+use Rattle.shape_data.specs.declared.symbolic.Fact.{Fact}
+use Rattle.shape_data.specs.declared.symbolic.SymHeap.{SymHeap}
+use Rattle.sym_matching.specs.declared.matching.Abd.{Abd}
+use Rattle.sym_matching.specs.declared.matching.Matching.{Matching}
+use Rattle.sym_matching.specs.declared.matching.Mode.{Mode}
+use Rattle.sym_matching.specs.declared.matching.Turned.{Turned}
+use Rattle.sym_matching.specs.Matches.{answer_abd, argument_variables, matching, rules_of, start_of, want_heap}
+use Rattle.sym_matching.specs.Rooms.{IsWithinSizes, fields_of, fields_of_all, names_of}
+use Rattle.sym_matching.proofs.RoomLaws.{few_fields}
+use Rattle.matching.specs.Names.{names_of_all}
+use Rattle.matching_steps.specs.InSetting.{rules_with}
+
+pub start-used : (a : SymHeap) (bound : List (ℕ × Exp)) (used : List ℕ) (next : ℕ) (m : Matching) → m ≡ start_of a bound used next → m.used ≡ used
+start-used a bound used next m is = ap (λ (k : Matching). k.used) is
+
+pub start-next : (a : SymHeap) (bound : List (ℕ × Exp)) (used : List ℕ) (next : ℕ) (m : Matching) → m ≡ start_of a bound used next → m.next ≡ next
+start-next a bound used next m is = ap (λ (k : Matching). k.next) is
+
+module _ (mode : Mode) (a b : SymHeap) (bound : List (ℕ × Exp)) (flexible avoid : List ℕ) (next : ℕ) where
+  pub answered : (facts : List Fact) (used : List ℕ) (m : Matching) (turned : Turned) (found : Abd) → facts ≡ a.pure → used ≡ argument_variables a b bound flexible ++ avoid → m ≡ start_of a bound used next →
+      turned ≡ want_heap (rules_with mode facts flexible) b m → found ≡ answer_abd (rules_with mode facts flexible) b turned → found ≡ answer_abd (rules_of mode a flexible) b (matching mode a b bound flexible avoid next)
+  answered facts used m turned found facts_is used_is m_is went told =
+      let first : found ≡ answer_abd (rules_with mode facts flexible) b (want_heap (rules_with mode facts flexible) b m) = told ∙ ap (answer_abd (rules_with mode facts flexible) b) went in
+      let started : m ≡ start_of a bound (argument_variables a b bound flexible ++ avoid) next = m_is ∙ ap (λ names. start_of a bound names next) used_is in
+      first
+      ∙ ap (λ k. answer_abd (rules_with mode facts flexible) b (want_heap (rules_with mode facts flexible) b k)) started
+      ∙ ap (λ list. answer_abd (rules_with mode list flexible) b (want_heap (rules_with mode list flexible) b (start_of a bound (argument_variables a b bound flexible ++ avoid) next))) facts_is
+
+-- ---- room for new logical variables
+
+one_more : (atom : Atom) → names_of atom ≤ fields_of atom + 1
+one_more (Points at kind fields) = omega arith
+one_more (Seg kind link from to) = omega arith
+one_more Junk = omega arith
+
+pub few_names : (atoms : List Atom) → names_of_all atoms ≤ fields_of_all atoms + length atoms
+few_names [] = omega arith
+few_names (atom ∷ atoms) =
+    let here : names_of atom ≤ fields_of atom + 1 = one_more atom in
+    let later : names_of_all atoms ≤ fields_of_all atoms + length atoms = few_names atoms in
+    omega arith
+
+-- a heap within the sizes takes at most 131,076,000
+pub names_within : (b : SymHeap) → IsWithinSizes b → names_of_all b.spatial ≤ 131076000
+names_within b other =
+    let names : names_of_all b.spatial ≤ fields_of_all b.spatial + length b.spatial = few_names b.spatial in
+    let fields : fields_of_all b.spatial ≤ 131072000 = few_fields b other in
+    let parts : length b.pure + length b.spatial ≤ 4000 = other.parts in
+    omega arith
+
+pub arguments-names : (b : SymHeap) (next start : ℕ) → IsWithinSizes b → start ≡ next → next ≤ 65536 → start + names_of_all b.spatial < 4294967296
+arguments-names b next start other is low = let names : names_of_all b.spatial ≤ 131076000 = names_within b other in omega arith

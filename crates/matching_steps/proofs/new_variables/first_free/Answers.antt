@@ -1,0 +1,20 @@
+-- Each turn passes over a number in use.
+use Rattle.std.proofs.Common.{◌≡◌, ◌∙◌, ◌+◌, ◌-◌, ◌<◌, length, true, sym, arith}
+use Rattle.sym_laws.specs.Fresh.{is_one_of}
+use Rattle.sym_matching.specs.NewVariables.{first_free}
+use Rattle.matching_steps.proofs.NewVariableTurns.{passes_over, stays_below}
+use Rattle.matching_steps.proofs.new_variables.first_free.Goals as goal
+
+pub overflow_add-x : goal.overflow_add-x
+overflow_add-x c =
+    let inside : c.loop-turn.turn < length c.args.used.now = c.loop-turn-test.true in
+    let is : is_one_of c.args.used.now c.loop-turn.x ≡ true = sym c.is_in.ensures ∙ c.if-not-is_in.false in
+    let below : first_free (length c.args.used.now - c.loop-turn.turn) c.loop-turn.x c.args.used.now < 4294967296 = rw c.loop-turn.invariant at c.requires in
+    let next : c.loop-turn.x + 1 < 4294967296 = stays_below (length c.args.used.now) c.loop-turn.turn c.loop-turn.x c.args.used.now inside is below in
+    omega arith
+
+pub loop-turn-preserved : goal.loop-turn-preserved
+loop-turn-preserved c =
+    let inside : c.loop-turn.turn < length c.args.used.now = c.loop-turn-test.true in
+    let is : is_one_of c.args.used.now c.loop-turn.x ≡ true = sym c.is_in.ensures ∙ c.if-not-is_in.false in
+    c.loop-turn.invariant ∙ passes_over (length c.args.used.now) c.loop-turn.turn c.loop-turn.x c.args.used.now inside is

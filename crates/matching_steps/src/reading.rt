@@ -1,0 +1,108 @@
+//! Reading the expressions of the wanted heap: through the binding, and through the heap's equations.
+ghost use Rattle.std.specs.Prelude.{◌≡◌};
+ghost use Rattle.sym_laws.specs.Fresh.{is_one_of};
+ghost use Rattle.sym_matching.specs.Reading.{bound_exp as bound_exp_of, bound_to as bound_to_of, is_logical as is_logical_of, is_logical_variable as is_logical_variable_of, is_unbound as is_unbound_of, read as read_of, solved as solved_of, solved_exp as solved_exp_of};
+
+use shape_data::symbolic::{Exp, FIRST_EXISTENTIAL, Fact};
+use sym_matching::Mode;
+
+/// What stays the same through a match: whether parts may be missing, the heap's facts, and the flexible variables.
+#[derive(Clone, Copy)]
+pub struct Setting<'a> {
+    pub mode: Mode,
+    pub facts: &'a [Fact],
+    pub flexible: &'a [u32],
+}
+
+/// Whether the variable is in the list.
+pub fn is_in(list: &[u32], x: u32) -> bool
+    ensures { result ≡ is_one_of list.now x }
+{
+    list.iter().any(|y| x == *y)
+}
+
+/// The expression that a variable is bound to, if any.
+fn bound_to(binding: &[(u32, Exp)], x: u32) -> Option<Exp>
+    ensures { result ≡ bound_to_of binding.now x }
+{
+    for bound in binding {
+        if bound.0 == x {
+            return Some(bound.1);
+        }
+    }
+    None
+}
+
+/// An expression of the wanted heap, read through the binding.
+fn bound_exp(binding: &[(u32, Exp)], e: Exp) -> Exp
+    ensures { result ≡ bound_exp_of binding.now e }
+{
+    match e {
+        Exp::Var(x) => match bound_to(binding, x) {
+            Some(f) => f,
+            None => e,
+        },
+        Exp::Const(_) => e,
+    }
+}
+
+/// What the facts' equations solve a variable for.
+fn solved(facts: &[Fact], x: u32) -> Exp
+    ensures { result ≡ solved_of facts.now x }
+{
+    for fact in facts {
+        if let Fact::Eq(Exp::Var(y), right) = *fact {
+            if y == x {
+                return right;
+            }
+        }
+    }
+    Exp::Var(x)
+}
+
+/// An expression, read through the facts' equations.
+pub fn solved_exp(facts: &[Fact], e: Exp) -> Exp
+    ensures { result ≡ solved_exp_of facts.now e }
+{
+    match e {
+        Exp::Var(x) => solved(facts, x),
+        Exp::Const(_) => e,
+    }
+}
+
+/// An expression of the wanted heap, read through the binding and the heap's equations.
+pub fn read(facts: &[Fact], binding: &[(u32, Exp)], e: Exp) -> Exp
+    ensures { result ≡ read_of facts.now binding.now e }
+{
+    solved_exp(facts, bound_exp(binding, e))
+}
+
+/// Whether the expression is a flexible variable that is not bound yet.
+pub fn is_unbound(flexible: &[u32], binding: &[(u32, Exp)], e: Exp) -> bool
+    ensures { result ≡ is_unbound_of flexible.now binding.now e }
+{
+    match e {
+        Exp::Var(x) => is_in(flexible, x) && bound_to(binding, x).is_none(),
+        Exp::Const(_) => false,
+    }
+}
+
+/// Whether the expression is a logical variable.
+pub fn is_logical_variable(e: Exp) -> bool
+    ensures { result ≡ is_logical_variable_of e }
+{
+    match e {
+        Exp::Var(x) => x < FIRST_EXISTENTIAL,
+        Exp::Const(_) => false,
+    }
+}
+
+/// Whether the expression is a logical variable or a constant.
+pub fn is_logical(e: Exp) -> bool
+    ensures { result ≡ is_logical_of e }
+{
+    match e {
+        Exp::Var(x) => x < FIRST_EXISTENTIAL,
+        Exp::Const(_) => true,
+    }
+}

@@ -1,0 +1,4 @@
+pub mod CellTurns
+pub mod NumberLaws
+pub mod NumberTurns
+pub mod SampleLaws
