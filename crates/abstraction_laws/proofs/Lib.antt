@@ -1,0 +1,15 @@
+pub mod DoneLaws
+pub mod FewLaws
+pub mod ForgetLaws
+pub mod HeadLaws
+pub mod JoinLaws
+pub mod KeptLaws
+pub mod NormalResults
+pub mod OccurrenceLaws
+pub mod PairFormed
+pub mod PairResults
+pub mod PairRoomLaws
+pub mod ReachLaws
+pub mod ReduceLaws
+pub mod RoomLaws
+pub mod WellFormedResults

@@ -1,0 +1,12 @@
+pub mod Examples
+pub mod Forgetting
+pub mod Heads
+pub mod Joining
+pub mod Laws
+pub mod Losing
+pub mod Occurrences
+pub mod Pairs
+pub mod Reaching
+pub mod Repeating
+pub mod Results
+pub mod Rooms

@@ -1,0 +1,11 @@
+pub mod Branching
+pub mod Calling
+pub mod Cells
+pub mod Examples
+pub mod Execution
+pub mod Exposing
+pub mod Laws
+pub mod Meanings
+pub mod Pairs
+pub mod Rooms
+pub mod Values

@@ -1,0 +1,9 @@
+pub mod AnswerLemmas
+pub mod BesideLemmas
+pub mod BottomUpLemmas
+pub mod CaseLemmas
+pub mod CertificateLemmas
+pub mod ExampleLemmas
+pub mod LeadingLemmas
+pub mod ProcedureLemmas
+pub mod StackLemmas

@@ -1,0 +1,9 @@
+pub mod Answers
+pub mod Beside
+pub mod BottomUp
+pub mod Certificates
+pub mod Commands
+pub mod Examples
+pub mod Leading
+pub mod Procedures
+pub mod Stacks
