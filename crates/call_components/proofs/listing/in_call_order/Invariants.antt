@@ -1,0 +1,7 @@
+use Rattle.std.proofs.Common.{◌-◌, length}
+use Rattle.call_components.specs.Reaching.{rows}
+use Rattle.call_components.proofs.Listed.{IsListing}
+use Rattle.call_components.proofs.listing.in_call_order.Given as goal
+
+abbrev pub invariant-loop-turn : goal.invariant-loop-turn
+invariant-loop-turn l = IsListing l.names (rows l.calls) (length l.names - l._turn) (rows l.listed.items) l.marks.items

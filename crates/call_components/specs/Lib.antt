@@ -1,0 +1,4 @@
+pub mod Graphs
+pub mod Reaching
+pub mod Searching
+pub mod Tables

@@ -1,0 +1,36 @@
+-- Classes by a table of who reaches whom.
+use Rattle.std.specs.declared.option.Option.{Option}
+use Rattle.std.specs.declared.option.Option.TheVariants.{None, Some}
+use Rattle.std.specs.Prelude.{slice_get, ◌≡◌, ℕ, ◌<◌, ◌==◌, Bool, ◌&&◌, ◌||◌, not, List, map, length, slice_index_or}
+use Rattle.std.specs.List.{filter, list_any, list_all}
+use Rattle.component_keys.specs.Components.{holds, calls_of, are_mutual, is_first}
+use Rattle.call_components.specs.Reaching.{marked}
+
+-- two numbers are of one kind
+abbrev pub same_kind : List ℕ → ℕ → ℕ → Bool
+same_kind kinds one other = slice_index_or kinds one 0 == slice_index_or kinds other 0
+
+-- numbers are of one kind exactly where each reaches the other
+pub record AreKinds (calls : List (List ℕ)) (kinds : List ℕ) : Type 0 where
+  pub lengths : length kinds ≡ length calls
+  pub same : (one other : ℕ) → one < length calls → other < length calls → are_mutual calls one other ≡ same_kind kinds one other
+
+abbrev pub class_in : List ℕ → List ℕ → ℕ → List ℕ
+class_in kinds order number = filter (same_kind kinds number) order
+
+abbrev pub classes_in : List ℕ → List ℕ → List (List ℕ)
+classes_in kinds order = map (class_in kinds order) (filter (λ number. is_first number (class_in kinds order number)) order)
+
+-- no member is listed, and each that one of them calls is of its kind or listed
+abbrev pub is_next_in : List ℕ → List (List ℕ) → List Bool → List ℕ → Bool
+is_next_in kinds calls listed class =
+    not (list_any (marked listed) class) && list_all (λ number. list_all (λ callee. same_kind kinds callee number || marked listed callee) (calls_of calls number)) class
+
+-- what stands at a place that may be none
+abbrev pub at_place : {A : Type 0} → List A → Option ℕ → Option A
+at_place things None = None
+at_place things (Some place) = slice_get things place
+
+-- marked are those that were, and the numbers
+abbrev pub AreAllMarked : List ℕ → List Bool → List Bool → Type 0
+AreAllMarked numbers before after = (number : ℕ) → marked after number ≡ (marked before number || holds numbers number)

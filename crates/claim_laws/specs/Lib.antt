@@ -1,0 +1,5 @@
+pub mod World
+pub mod Logs
+pub mod Invariant
+pub mod Claims
+pub mod Waits

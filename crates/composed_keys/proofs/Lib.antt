@@ -1,0 +1,5 @@
+pub mod Calls
+pub mod Placed
+pub mod Noted
+pub mod Recursion
+pub mod Components

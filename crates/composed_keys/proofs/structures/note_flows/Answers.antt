@@ -1,0 +1,8 @@
+use Rattle.component_keys.specs.Structures.{type_struct, command_struct, atom_struct, named_by_heap, named_by_spec, named_by_flow, named_by_callee}
+use Rattle.composed_keys.proofs.Noted.{more_names}
+use Rattle.composed_keys.proofs.structures.note_flows.Goals as goal
+
+pub loop-flow-preserved : goal.loop-flow-preserved
+loop-flow-preserved c =
+    more_names c.args.structs.now named_by_flow c.args.flows.now c.loop-flow.flow-index c.flow-item.result c.args.numbers.now.items c.loop-flow.numbers.items c.note_flow.new.numbers.items c.loop-flow.invariant c.loop-flow-test.true c.flow-item.is
+    c.in_ok-note_flow.ensures

@@ -1,0 +1,4 @@
+pub mod Programs
+pub mod Rows
+pub mod Used
+pub mod Calling

@@ -1,0 +1,19 @@
+-- Structures by their places.
+use Rattle.std.specs.Prelude.{◌≡◌, List, [], ◌∷◌, ◌++◌, map, length}
+use Rattle.std.specs.Option.{option_to_list}
+use Rattle.std.specs.declared.option.Option.{Option}
+use Rattle.std.specs.Prelude.{ℕ}
+use Rattle.shape_data.specs.declared.program.StructDef.{StructDef}
+use Rattle.call_components.specs.Reaching.{rows}
+use Rattle.component_keys.specs.Components.{by_name}
+use Rattle.component_keys.specs.Structures.{pointed_rows, struct_numbers}
+use Rattle.composed_keys.specs.declared.rows.Structures.{Structures}
+
+-- whom the fields of each structure point to, and the order of the structures' names
+pub record AreStructures (structs : List StructDef) (table : Structures) : Type 0 where
+  pub pointed : rows table.pointed.items ≡ pointed_rows structs
+  pub order : table.order.items ≡ by_name (map (λ (def : StructDef). def.name) structs) (length structs)
+
+-- the place of the structure that may be named is put behind
+abbrev pub noted : List StructDef → List ℕ → Option (List ℕ) → List ℕ
+noted structs numbers name = numbers ++ struct_numbers structs (option_to_list name)

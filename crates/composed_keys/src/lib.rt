@@ -1,0 +1,15 @@
+//! The components of a program by the places of its procedures, and the keys under which they are analysed, as code. Each answer is
+//! that of the definitions in `component_keys`.
+#![tactic(auto)]
+
+pub mod keys;
+pub mod programs;
+pub mod rows;
+pub mod structures;
+#[cfg(test)]
+mod tests;
+
+pub use keys::key_of;
+pub use programs::components_of;
+pub use rows::{Component, Outer, Structures};
+pub use structures::structures_of;

@@ -1,0 +1,5 @@
+pub mod FirstLemmas
+pub mod LineLemmas
+pub mod Results
+pub mod SessionLemmas
+pub mod Streams
