@@ -20,9 +20,9 @@ module _ (a b : SymHeap) (bound : List (ℕ × Exp)) (flexible : List ℕ) (fres
       by_turn (On n) goes = law Abduce a b bound flexible avoid fresh n goes
       by_turn (Stuck number) goes = tt
 
-  pub found_beside : BiabduceGivesBeside → SplitsBeside a b avoid found
+  pub found_beside : BiabduceGivesBeside → SplitsBeside a b bound flexible avoid found
   found_beside law = by_answer found is
     where
-      by_answer : (answer : Abd) → answer ≡ biabduce_avoiding a b bound flexible fresh avoid → SplitsBeside a b avoid answer
+      by_answer : (answer : Abd) → answer ≡ biabduce_avoiding a b bound flexible fresh avoid → SplitsBeside a b bound flexible avoid answer
       by_answer (Found missing frame binding) same = λ structs fits s heap holds. law structs a b bound flexible fresh avoid missing frame binding fits (sym same) s heap holds
       by_answer (NoMatch wanted) same = tt

@@ -2,6 +2,7 @@
 use Rattle.std.specs.Prelude.{◌≡◌, ℕ, ℤ, true, List, All}
 use Rattle.shape_data.specs.declared.machine.Cell.{Cell}
 use Rattle.shape_data.specs.declared.program.StructDef.{StructDef}
+use Rattle.shape_data.specs.declared.symbolic.Exp.{Exp}
 use Rattle.shape_data.specs.declared.symbolic.SymHeap.{SymHeap}
 use Rattle.shape_data.specs.Meaning.{Holds}
 use Rattle.shape_laws.specs.Symbolic.{beside}
@@ -17,8 +18,9 @@ IsLogical (Found missing frame binding) = EachInHeap (λ e. is_logical e ≡ tru
 IsLogical (NoMatch wanted) = Unit {0}
 
 -- what holds a beside the missing part is a sum of one that holds the bound b and one that holds the frame, where b's cells have the
--- fields of their structures
-abbrev pub SplitsBeside : SymHeap → SymHeap → List ℕ → Abd → Type 0
-SplitsBeside a b avoid (Found missing frame binding) =
-    (structs : List StructDef) → All (FitsAtom structs) b.spatial → (s : ℕ → ℤ) (heap : List Cell) → Holds structs s heap (beside a missing) → GivesBeside structs s heap (beside a missing) b avoid binding frame
-SplitsBeside a b avoid (NoMatch wanted) = Unit {0}
+-- fields of their structures; what was bound stays so
+abbrev pub SplitsBeside : SymHeap → SymHeap → List (ℕ × Exp) → List ℕ → List ℕ → Abd → Type 0
+SplitsBeside a b bound flexible avoid (Found missing frame binding) =
+    (structs : List StructDef) → All (FitsAtom structs) b.spatial → (s : ℕ → ℤ) (heap : List Cell) → Holds structs s heap (beside a missing) →
+    GivesBeside structs s heap (beside a missing) b bound flexible avoid binding frame
+SplitsBeside a b bound flexible avoid (NoMatch wanted) = Unit {0}

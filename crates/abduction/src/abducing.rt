@@ -29,7 +29,7 @@ pub fn biabduce_avoiding(
     requires avoid { AreSmall avoid.now }
     ensures value { IfOk result (λ found. found ≡ biabduce_avoiding_of a.now b.now bound.now flexible.now fresh avoid.now) }
     ensures logical { IfOk result IsLogical }
-    ensures beside { IfOk result (SplitsBeside a.now b.now avoid.now) }
+    ensures beside { IfOk result (SplitsBeside a.now b.now bound.now flexible.now avoid.now) }
 {
     find(alloc, Mode::Abduce, a, b, bound, flexible, avoid, fresh)
 }
@@ -60,7 +60,7 @@ pub fn biabduce(
     requires fresh { fresh ≤ 65536 }
     ensures value { IfOk result (λ found. found ≡ biabduce_of a.now b.now bound.now flexible.now fresh) }
     ensures logical { IfOk result IsLogical }
-    ensures beside { IfOk result (SplitsBeside a.now b.now []) }
+    ensures beside { IfOk result (SplitsBeside a.now b.now bound.now flexible.now []) }
 {
     biabduce_avoiding(alloc, a, b, bound, flexible, fresh, &[])
 }

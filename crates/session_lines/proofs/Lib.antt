@@ -1,3 +1,4 @@
+pub mod Deciding
 pub mod FirstLemmas
 pub mod LineLemmas
 pub mod Results

@@ -5,7 +5,8 @@ use Rattle.session_lines.specs.declared.command.Command.{Command}
 use Rattle.session_lines.specs.declared.command.Command.TheVariants as command
 use Rattle.session_lines.specs.Laws.{OneFirst, OneSession, SomeSession}
 use Rattle.session_lines.specs.Lines.{IsFirst, IsFirstLine, body_size, command_of, line_text}
-use Rattle.session_lines.specs.Sessions.{Ending, End, Quit, Malformed, Full, HasCommands, end, full, malformed, quit, more, MOST_COMMANDS}
+use Rattle.session_lines.specs.Sessions.{Ending, End, Quit, Malformed, Full, HasCommands, end, full, malformed, quit, more, BeginsWithNone, MOST_COMMANDS}
+use Rattle.session_lines.proofs.Deciding.{first_in}
 use Rattle.session_lines.proofs.FirstLemmas.{first_line_once}
 use Rattle.session_lines.proofs.LineLemmas.{line_once, on_one_line}
 
@@ -98,30 +99,32 @@ quits_or_not other = inr (λ e. cc)
 few_or_most : (taken : ℕ) → (taken < MOST_COMMANDS) ⊎ (MOST_COMMANDS ≤ taken)
 few_or_most taken = cases_lt taken MOST_COMMANDS
 
--- where bytes are left, commands are taken or not, and so on behind them
-step_some : (taken offset : ℕ) (x : ℕ) (xs : List ℕ)
-    → ((taken offset : ℕ) (rest : List ℕ) → length rest < length (x ∷ xs) → ((commands : List Command) (ending : Ending) → HasCommands taken offset rest commands ending → ⊥) → ⊥)
-    → ((commands : List Command) (ending : Ending) → HasCommands taken offset (x ∷ xs) commands ending → ⊥) → ⊥
-step_some taken offset x xs again never = by (few_or_most taken)
+-- the stream has commands and an end
+abbrev HasSome : ℕ → ℕ → List ℕ → Type 0
+HasSome taken offset stream = (commands : List Command) × (ending : Ending) × HasCommands taken offset stream commands ending
+
+-- where bytes are left, a command is taken or not, and so on behind it
+step_some : (taken offset : ℕ) (x : ℕ) (xs : List ℕ) → ((taken offset : ℕ) (rest : List ℕ) → length rest < length (x ∷ xs) → HasSome taken offset rest) → HasSome taken offset (x ∷ xs)
+step_some taken offset x xs again = by (few_or_most taken) (first_in (x ∷ xs) some)
   where
     some : (x ∷ xs) ≢ []
     some e = cc
 
-    next : taken < MOST_COMMANDS → (one : Command) (rest : List ℕ) → IsFirst (x ∷ xs) one rest → ((one ≡ command.Quit) ⊎ (one ≢ command.Quit)) → ⊥
-    next few one rest first (inl quits) = never [] Quit (quit taken offset (x ∷ xs) rest few (subst (λ c. IsFirst (x ∷ xs) c rest) quits first))
+    next : taken < MOST_COMMANDS → (one : Command) (rest : List ℕ) → IsFirst (x ∷ xs) one rest → ((one ≡ command.Quit) ⊎ (one ≢ command.Quit)) → HasSome taken offset (x ∷ xs)
+    next few one rest first (inl quits) = ([], Quit, quit taken offset (x ∷ xs) rest few (subst (λ c. IsFirst (x ∷ xs) c rest) quits first))
     next few one rest first (inr goes_on) =
-        again (taken + 1) (offset + (length (x ∷ xs) - length rest)) rest (rest_shorter (x ∷ xs) rest one first)
-        (λ commands ending are. never (one ∷ commands) ending (more taken offset (x ∷ xs) rest one commands ending few goes_on first are))
+        let (commands, ending, are) = again (taken + 1) (offset + (length (x ∷ xs) - length rest)) rest (rest_shorter (x ∷ xs) rest one first) in
+        (one ∷ commands, ending, more taken offset (x ∷ xs) rest one commands ending few goes_on first are)
 
-    by : (taken < MOST_COMMANDS) ⊎ (MOST_COMMANDS ≤ taken) → ⊥
-    by (inl few) = never [] (Malformed (taken + 1) offset) (malformed taken offset (x ∷ xs) some few (λ one rest first. next few one rest first (quits_or_not one)))
-    by (inr most) = never [] Full (full taken offset (x ∷ xs) some most)
+    by : (taken < MOST_COMMANDS) ⊎ (MOST_COMMANDS ≤ taken) → ((one : Command) × (rest : List ℕ) × IsFirst (x ∷ xs) one rest) ⊎ BeginsWithNone (x ∷ xs) → HasSome taken offset (x ∷ xs)
+    by (inl few) (inl (one, rest, first)) = next few one rest first (quits_or_not one)
+    by (inl few) (inr none) = ([], Malformed (taken + 1) offset, malformed taken offset (x ∷ xs) some few none)
+    by (inr most) first = ([], Full, full taken offset (x ∷ xs) some most)
 
-commands_some : (bytes taken offset : ℕ) (stream : List ℕ) → length stream ≤ bytes → ((commands : List Command) (ending : Ending) → HasCommands taken offset stream commands ending → ⊥) → ⊥
-commands_some bytes taken offset [] within never = never [] End (end taken offset)
-commands_some zero taken offset (x ∷ xs) within never = absurd (omega arith)
-commands_some (suc bytes) taken offset (x ∷ xs) within never =
-    step_some taken offset x xs (λ taken' offset' rest shorter. commands_some bytes taken' offset' rest (omega arith)) never
+commands_some : (bytes taken offset : ℕ) (stream : List ℕ) → length stream ≤ bytes → HasSome taken offset stream
+commands_some bytes taken offset [] within = ([], End, end taken offset)
+commands_some zero taken offset (x ∷ xs) within = absurd (omega arith)
+commands_some (suc bytes) taken offset (x ∷ xs) within = step_some taken offset x xs (λ taken' offset' rest shorter. commands_some bytes taken' offset' rest (omega arith))
 
 pub some_session : SomeSession
-some_session stream never = commands_some (length stream) 0 0 stream (omega arith) never
+some_session stream = commands_some (length stream) 0 0 stream (omega arith)

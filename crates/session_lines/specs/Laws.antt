@@ -12,6 +12,6 @@ OneFirst = (stream rest rest' : List ℕ) (one other : Command) → IsFirst stre
 abbrev pub OneSession : Type 0
 OneSession = (stream : List ℕ) (ones others : List Command) (one other : Ending) → IsSession stream ones one → IsSession stream others other → (ones ≡ others) × (one ≡ other)
 
--- it cannot be that a stream has no commands and no end
+-- a stream has a list of commands, and an end
 abbrev pub SomeSession : Type 0
-SomeSession = (stream : List ℕ) → ((commands : List Command) (ending : Ending) → ¬ IsSession stream commands ending) → ⊥
+SomeSession = (stream : List ℕ) → (commands : List Command) × (ending : Ending) × IsSession stream commands ending

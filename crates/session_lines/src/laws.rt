@@ -11,7 +11,7 @@ pub fn one_session()
     ensures { OneSession }
 {}
 
-/// It cannot be that a stream has no commands and no end.
+/// A stream has commands and an end: which, is decided.
 pub fn some_session()
     ensures { SomeSession }
 {}

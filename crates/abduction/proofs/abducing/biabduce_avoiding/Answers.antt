@@ -15,5 +15,5 @@ returns-clause-logical c =
 
 pub returns-clause-beside : goal.returns-clause-beside
 returns-clause-beside c =
-    IfOk-weaker c.find.result (λ found. found ≡ biabduce_avoiding c.args.a.now c.args.b.now c.args.bound.now c.args.flexible.now c.args.fresh c.args.avoid.now) (SplitsBeside c.args.a.now c.args.b.now c.args.avoid.now)
+    IfOk-weaker c.find.result (λ found. found ≡ biabduce_avoiding c.args.a.now c.args.b.now c.args.bound.now c.args.flexible.now c.args.fresh c.args.avoid.now) (SplitsBeside c.args.a.now c.args.b.now c.args.bound.now c.args.flexible.now c.args.avoid.now)
     (λ found is. found_beside c.args.a.now c.args.b.now c.args.bound.now c.args.flexible.now c.args.fresh c.args.avoid.now found is biabduce_gives_beside) c.find.ensures
