@@ -79,14 +79,14 @@ named-found (first ∷ callees) name callee is = by_test (named-found callees na
         subst (λ c. Contains (first ∷ callees) c × (c.name ≡ name)) one (Contains-first first callees, (bytes_eq-Decides first.name name).0 same)
     by_test later false other h = let found = later h in (Contains-later first callees callee found.0, found.1)
 
-callee-found : (table : Table) (name : List ℕ) (callee : Callee) → callee_of table name ≡ Some callee → Contains (callees_of table) callee × (callee.name ≡ name)
+pub callee-found : (table : Table) (name : List ℕ) (callee : Callee) → callee_of table name ≡ Some callee → Contains (callees_of table) callee × (callee.name ≡ name)
 callee-found table name callee is = by_own (callee_named table.own name) refl is
   where
     by_own : (o : Option Callee) → callee_named table.own name ≡ o → option_or o (callee_named table.outer name) ≡ Some callee → Contains (callees_of table) callee × (callee.name ≡ name)
     by_own None is_own h = let found = named-found table.outer name callee h in (Contains-append_right table.own table.outer callee found.0, found.1)
     by_own (Some one) is_own h = let found = named-found table.own name callee (is_own ∙ h) in (Contains-append_left table.own table.outer callee found.0, found.1)
 
-first-found : (args : List Exp) (pair : Pair) (specs : List Spec) (fit : Fit) → first_subtracted args pair specs ≡ Some fit → (spec : Spec) × Contains specs spec × (subtracted args pair spec ≡ Some fit)
+pub first-found : (args : List Exp) (pair : Pair) (specs : List Spec) (fit : Fit) → first_subtracted args pair specs ≡ Some fit → (spec : Spec) × Contains specs spec × (subtracted args pair spec ≡ Some fit)
 first-found args pair [] fit is = cc
 first-found args pair (spec ∷ specs) fit is = by_first (first-found args pair specs fit) (subtracted args pair spec) refl is
   where

@@ -75,7 +75,7 @@ module _ (structs : List StructDef) (are : AreStructs structs) (params slots nod
 
   -- ---- expressions, slots, atoms
 
-  operand-exp : (k j : ℕ) (pair : Pair) → Room k j pair → (from : Operand) → IsExp (with_parts k) params (operand pair from)
+  pub operand-exp : (k j : ℕ) (pair : Pair) → Room k j pair → (from : Operand) → IsExp (with_parts k) params (operand pair from)
   operand-exp k j pair room (Slot slot) = All-or (IsExp (with_parts k) params) pair.state.locals slot (Const (pos 0)) tt room.state.locals
   operand-exp k j pair room (Num n) = tt
 
@@ -125,7 +125,7 @@ module _ (structs : List StructDef) (are : AreStructs structs) (params slots nod
       by_test true low later = All-cons (λ y. y < 65536) x (filter (λ y. ltb y 65536) xs) (ltb-true x 65536 low) later
       by_test false high later = later
 
-  logical-low : (pair : Pair) → new_logical count pair ≤ 65536
+  pub logical-low : (pair : Pair) → new_logical count pair ≤ 65536
   logical-low pair = above-low (filter (λ x. ltb x 65536) (pair_variables pair)) count (omega arith) (passes-low (pair_variables pair))
 
   module _ (k j : ℕ) (few : k ≤ 8000) (small : j ≤ 16000) where

@@ -38,7 +38,7 @@ module _ (structs : List StructDef) (are : AreStructs structs) (params slots nod
 
   -- ---- the canonical form of a well-formed state
 
-  fields-few : (m : ℕ) (atoms : List Atom) → All (IsAtom (with_parts m) structs params) atoms → fields_in atoms ≤ 32769 * length atoms
+  pub fields-few : (m : ℕ) (atoms : List Atom) → All (IsAtom (with_parts m) structs params) atoms → fields_in atoms ≤ 32769 * length atoms
   fields-few m [] each = omega arith
   fields-few m (Points at kind fields ∷ atoms) each =
       let few : length (at ∷ fields) ≤ 32769 = atom-few structs are params slots m (Points at kind fields) (All-head (IsAtom (with_parts m) structs params) (Points at kind fields) atoms each) in

@@ -15,4 +15,6 @@ pub mod TurnLemmas
 pub mod RoomLemmas
 pub mod CaseRooms
 pub mod FormedRooms
+pub mod CallRooms
 pub mod ExecutionRooms
+pub mod SearchRooms

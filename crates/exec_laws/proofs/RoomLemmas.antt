@@ -74,7 +74,7 @@ few_of (def ∷ structs) kind count each h = by_test (bytes_eq def.name kind) re
 pub few_fields : (structs : List StructDef) (kind : List ℕ) (def : StructDef) → AreStructs structs → struct_named structs kind ≡ Some def → length def.fields ≤ 32768
 few_fields structs kind def are is = few_of structs kind (length def.fields) are.each (rw is refl)
 
-two_sides : (fact : Fact) → length (sides fact) ≤ 2
+pub two_sides : (fact : Fact) → length (sides fact) ≤ 2
 two_sides (Eq left right) = omega arith
 two_sides (Ne left right) = omega arith
 
@@ -92,7 +92,7 @@ module _ (structs : List StructDef) (are : AreStructs structs) (params slots : �
   atom-few k (Seg kind link from to) is = omega arith
   atom-few k Junk is = omega arith
 
-  atoms-few : (k : ℕ) (atoms : List Atom) (names : List ℕ) → All (IsAtom (with_parts k) structs params) atoms → length (with_atoms names atoms) ≤ length names + 32769 * length atoms
+  pub atoms-few : (k : ℕ) (atoms : List Atom) (names : List ℕ) → All (IsAtom (with_parts k) structs params) atoms → length (with_atoms names atoms) ≤ length names + 32769 * length atoms
   atoms-few k [] names each = omega arith
   atoms-few k (atom ∷ atoms) names each =
       let narrow : length (exps_of atom) ≤ 32769 = atom-few k atom (All-head (IsAtom (with_parts k) structs params) atom atoms each) in

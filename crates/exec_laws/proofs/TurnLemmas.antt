@@ -109,11 +109,11 @@ form-fewer state = by_solved (solve state.heap.pure [])
     by_solved None = tt
     by_solved (Some solved) = by_settled (settle (length state.heap.spatial) solved state.heap.spatial) (settle-fewer (length state.heap.spatial) solved state.heap.spatial)
 
-abbrev PairHasNoMore : ℕ → Option Pair → Type 0
+abbrev pub PairHasNoMore : ℕ → Option Pair → Type 0
 PairHasNoMore count None = Unit {0}
 PairHasNoMore count (Some form) = length (atoms_of form) ≤ count
 
-formed-fewer : (mode : Mode) (params : ℕ) (pair : Pair) → PairHasNoMore (length (atoms_of pair)) (formed mode params pair)
+pub formed-fewer : (mode : Mode) (params : ℕ) (pair : Pair) → PairHasNoMore (length (atoms_of pair)) (formed mode params pair)
 formed-fewer Strict params pair = by_form (normal pair.state) (form-fewer pair.state)
   where
     by_form : (form : Normal) → FormHasNoMore pair.state form → PairHasNoMore (length (atoms_of pair)) (of_form (λ one. record pair { state = one }) form)

@@ -14,7 +14,7 @@ use Rattle.sym_matching.specs.WantedAtoms.{next_place, want_at, want_atom, want_
 use Rattle.sym_matching.proofs.RoomLaws.{room_parts}
 use Rattle.sym_matching.proofs.NextSteps.{atom_names}
 use Rattle.sym_matching.proofs.RoomSteps.{atom_takes_room}
-use Rattle.matching.specs.Names.{names_of_all}
+use Rattle.sym_matching.specs.Answers.{names_of_all}
 
 fields_removed : (wanted : List Wanted) (place : ℕ) (w : Wanted) → slice_get wanted place ≡ Some w → fields_wanted wanted ≡ fields_of w.atom + fields_wanted (remove wanted place)
 fields_removed [] place w is = cc

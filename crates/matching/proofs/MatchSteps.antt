@@ -12,7 +12,7 @@ use Rattle.sym_matching.specs.declared.matching.Turned.{Turned}
 use Rattle.sym_matching.specs.Matches.{answer_abd, argument_variables, matching, rules_of, start_of, want_heap}
 use Rattle.sym_matching.specs.Rooms.{IsWithinSizes, fields_of, fields_of_all, names_of}
 use Rattle.sym_matching.proofs.RoomLaws.{few_fields}
-use Rattle.matching.specs.Names.{names_of_all}
+use Rattle.sym_matching.specs.Answers.{names_of_all}
 use Rattle.matching_steps.specs.InSetting.{rules_with}
 
 pub start-used : (a : SymHeap) (bound : List (ℕ × Exp)) (used : List ℕ) (next : ℕ) (m : Matching) → m ≡ start_of a bound used next → m.used ≡ used

@@ -18,7 +18,7 @@ use Rattle.sym_matching.specs.Rooms.{IsSmall, IsWithinSizes, fields_of_all}
 use Rattle.sym_matching.specs.Variables.{with_atoms, with_binding, with_exps, with_facts, with_heap, with_variable}
 use Rattle.sym_matching.proofs.KeptLaws.{All-push_one}
 use Rattle.sym_matching.proofs.RoomLaws.{few_fields, room_below}
-use Rattle.matching_steps.specs.Conditions.{AreSmall, IsSmallBinding}
+use Rattle.sym_renaming.specs.Sizes.{AreSmall, IsSmallBinding}
 
 abbrev IsLow : ℕ → Type 0
 IsLow x = x < 2147483648

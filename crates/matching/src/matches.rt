@@ -8,9 +8,9 @@ ghost use Rattle.sym_matching.specs.Rooms.{IsWithinSizes, fields_of_all};
 ghost use Rattle.sym_matching.specs.Steps.{and_then};
 ghost use Rattle.sym_matching.specs.WantedFacts.{want_all_owed as want_all_owed_of, want_facts as want_facts_of};
 ghost use Rattle.sym_matching.specs.declared.matching.Turned.TheVariants.{On};
-ghost use Rattle.matching_steps.specs.Conditions.{AreSmall, IsSmallBinding};
+ghost use Rattle.sym_renaming.specs.Sizes.{AreSmall, IsSmallBinding};
 ghost use Rattle.matching_steps.specs.InSetting.{rules_in};
-ghost use Rattle.matching.specs.Names.{names_of_all};
+ghost use Rattle.sym_matching.specs.Answers.{names_of_all};
 
 use crate::atoms::{want_atoms, wanted_of};
 use crate::facts::{want_all_owed, want_facts};

@@ -1,10 +1,10 @@
 //! Reading the expressions of the wanted heap: through the binding, and through the heap's equations.
 ghost use Rattle.std.specs.Prelude.{◌≡◌};
-ghost use Rattle.sym_laws.specs.Fresh.{is_one_of};
-ghost use Rattle.sym_matching.specs.Reading.{bound_exp as bound_exp_of, bound_to as bound_to_of, is_logical as is_logical_of, is_logical_variable as is_logical_variable_of, is_unbound as is_unbound_of, read as read_of, solved as solved_of, solved_exp as solved_exp_of};
+ghost use Rattle.sym_matching.specs.Reading.{is_logical as is_logical_of, is_logical_variable as is_logical_variable_of, is_unbound as is_unbound_of, read as read_of, solved as solved_of, solved_exp as solved_exp_of};
 
 use shape_data::symbolic::{Exp, FIRST_EXISTENTIAL, Fact};
 use sym_matching::Mode;
+use sym_renaming::reading::{bound_exp, bound_to, is_in};
 
 /// What stays the same through a match: whether parts may be missing, the heap's facts, and the flexible variables.
 #[derive(Clone, Copy)]
@@ -12,38 +12,6 @@ pub struct Setting<'a> {
     pub mode: Mode,
     pub facts: &'a [Fact],
     pub flexible: &'a [u32],
-}
-
-/// Whether the variable is in the list.
-pub fn is_in(list: &[u32], x: u32) -> bool
-    ensures { result ≡ is_one_of list.now x }
-{
-    list.iter().any(|y| x == *y)
-}
-
-/// The expression that a variable is bound to, if any.
-fn bound_to(binding: &[(u32, Exp)], x: u32) -> Option<Exp>
-    ensures { result ≡ bound_to_of binding.now x }
-{
-    for bound in binding {
-        if bound.0 == x {
-            return Some(bound.1);
-        }
-    }
-    None
-}
-
-/// An expression of the wanted heap, read through the binding.
-fn bound_exp(binding: &[(u32, Exp)], e: Exp) -> Exp
-    ensures { result ≡ bound_exp_of binding.now e }
-{
-    match e {
-        Exp::Var(x) => match bound_to(binding, x) {
-            Some(f) => f,
-            None => e,
-        },
-        Exp::Const(_) => e,
-    }
 }
 
 /// What the facts' equations solve a variable for.

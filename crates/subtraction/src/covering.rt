@@ -1,31 +1,28 @@
 //! Whether a state or a post covers another: whatever meets the second then meets the first, by the law
 //! `sym_matching::laws::covering_is_met`.
-ghost use Rattle.std.specs.Prelude.{◌≡◌, ◌↔◌, ◌+◌, ◌<◌, [], IfOk, IsTrue, filter, leb, length};
-ghost use Rattle.sym_laws.specs.Each.{EachInState};
+ghost use Rattle.std.specs.Prelude.{◌≡◌, ◌↔◌, ◌+◌, ◌<◌, [], IfOk, IsTrue, length};
 ghost use Rattle.sym_canon.specs.Canonical.{as_state as as_state_of, canon_post as canon_post_of, canon_state as canon_state_of};
-ghost use Rattle.sym_matching.specs.Covers.{PostCovers, StateCovers, above as above_of, apart_from as apart_from_of, equal_slots as equal_slots_of, existentials as existentials_of, match_state as match_state_of, matches_state as matches_state_of, takes_all as takes_all_of};
+ghost use Rattle.sym_matching.specs.Covers.{PostCovers, StateCovers, apart_from as apart_from_of, equal_slots as equal_slots_of, match_state as match_state_of, matches_state as matches_state_of, takes_all as takes_all_of};
 ghost use Rattle.sym_matching.specs.Matches.{want_heap as want_heap_of};
 ghost use Rattle.sym_matching.specs.NewVariables.{HasRoom};
-ghost use Rattle.sym_matching.specs.Rooms.{IsSmall, fields_of_all};
+ghost use Rattle.sym_matching.specs.Rooms.{fields_of_all};
 ghost use Rattle.sym_matching.specs.Steps.{and_then};
 ghost use Rattle.sym_matching.specs.Variables.{with_state};
 ghost use Rattle.sym_matching.specs.WantedFacts.{want_all_owed as want_all_owed_of};
-ghost use Rattle.subtraction.specs.Apart.{number_within};
-ghost use Rattle.matching_steps.specs.Conditions.{AreSmall};
 ghost use Rattle.matching_steps.specs.InSetting.{rules_in};
-ghost use Rattle.matching.specs.Names.{names_of_all};
+ghost use Rattle.sym_matching.specs.Answers.{names_of_all};
 ghost use Rattle.subtraction.specs.Conditions.{IsPostWithinSizes, IsStateWithinSizes};
 
 use matching::facts::want_all_owed;
 use matching::matches::{has_junk, start, want_heap};
 use matching_steps::reading::Setting;
 use matching_steps::variables::add_state;
-use shape_data::symbolic::{Exp, FIRST_EXISTENTIAL, Post, SymHeap, SymState};
+use shape_data::symbolic::{Exp, Post, SymHeap, SymState};
 use shape_data::{Row, copy_of, is_same};
 use std::alloc::{AllocError, Global};
 use sym_canon::{canon_post, canon_state};
 use sym_matching::{Matching, Mode, Owed, Turned};
-use sym_parts::{Mapping, map_state};
+use sym_renaming::{existentials, state_apart};
 
 /// The variables of a state.
 fn variables_of(alloc: Global, state: &SymState) -> Result<Vec<u32>, AllocError>
@@ -46,84 +43,14 @@ fn variables_of_both(alloc: Global, a: &SymState, b: &SymState) -> Result<Vec<u3
     Ok(names)
 }
 
-/// The least number from a first one on that is above all the variables.
-fn above(first: u32, names: &[u32]) -> u32
-    requires { AreSmall names.now }
-    ensures { result ≡ above_of first names.now }
-{
-    let mut least = first;
-    for x in names {
-        if *x >= least {
-            least = *x + 1;
-        }
-    }
-    least
-}
-
-/// Numbers for existential variables, from a first one on.
-#[derive(Clone, Copy)]
-struct Apart {
-    first: u32,
-}
-
-impl Apart {
-    /// The number of a variable.
-    fn number_of(&self, x: u32) -> u32
-        ensures { result ≡ number_within self.now.first x }
-    {
-        if x < FIRST_EXISTENTIAL {
-            return x;
-        }
-        match self.first.checked_add(x - FIRST_EXISTENTIAL) {
-            Some(number) => number,
-            None => x,
-        }
-    }
-}
-
-impl Mapping for Apart {
-    ghost use Rattle.subtraction.specs.Apart.{renumbered};
-
-    ghost image = { λ apart. renumbered apart.first };
-
-    fn image_of(&self, e: Exp) -> Exp {
-        match e {
-            Exp::Var(x) => Exp::Var(self.number_of(x)),
-            Exp::Const(_) => e,
-        }
-    }
-}
-
 /// The wanted state with numbers for its existential variables that are free in the other.
 fn apart_from(alloc: Global, a: &SymState, b: &SymState) -> Result<SymState, AllocError>
-    requires a { EachInState IsSmall a.now }
-    requires b { EachInState IsSmall b.now }
+    requires a { IsStateWithinSizes a.now }
+    requires b { IsStateWithinSizes b.now }
     ensures { IfOk result (λ apart. apart ≡ apart_from_of a.now b.now) }
 {
     let names = variables_of(alloc, a)?;
-    let first = above(FIRST_EXISTENTIAL, names.as_slice());
-    map_state(alloc, &Apart { first }, b)
-}
-
-/// The existential variables of a list.
-fn existential_ones(alloc: Global, list: &[u32]) -> Result<Vec<u32>, AllocError>
-    ensures { IfOk result (λ names. names.items ≡ filter (λ x. leb 65536 x) list.now) }
-{
-    let mut names = Vec::new(alloc);
-    for x in list {
-        if FIRST_EXISTENTIAL <= *x {
-            names.push(*x)?;
-        }
-    }
-    Ok(names)
-}
-
-/// The existential variables of a state.
-fn existentials(alloc: Global, state: &SymState) -> Result<Vec<u32>, AllocError>
-    ensures { IfOk result (λ names. names.items ≡ existentials_of state.now) }
-{
-    let all = variables_of(alloc, state)?;
-    existential_ones(alloc, all.as_slice())
+    state_apart(alloc, names.as_slice(), b)
 }
 
 /// The wanted locals are equal to those that are there, slot by slot.

@@ -52,7 +52,7 @@ fresh_less Q count more used h =
 
 -- ---- the wanted atoms
 
-fields-from : (number : ℕ) (atoms : List Atom) → fields_wanted (wanted_from number atoms) ≡ fields_of_all atoms
+pub fields-from : (number : ℕ) (atoms : List Atom) → fields_wanted (wanted_from number atoms) ≡ fields_of_all atoms
 fields-from number [] = refl
 fields-from number (Points at kind fields ∷ atoms) = ap (λ count. length fields + count) (fields-from (number + 1) atoms)
 fields-from number (Seg kind link from to ∷ atoms) = ap (λ count. 0 + count) (fields-from (number + 1) atoms)
@@ -64,7 +64,7 @@ names-from number (Points at kind fields ∷ atoms) = ap (λ count. length field
 names-from number (Seg kind link from to ∷ atoms) = ap (λ count. 1 + count) (names-from (number + 1) atoms)
 names-from number (Junk ∷ atoms) = let later : names_wanted (wanted_from (number + 1) atoms) ≡ names_of_all atoms = names-from (number + 1) atoms in omega arith
 
-fields-removed : (wanted : List Wanted) (place : ℕ) (w : Wanted) → slice_get wanted place ≡ Some w → fields_wanted wanted ≡ fields_of w.atom + fields_wanted (remove wanted place)
+pub fields-removed : (wanted : List Wanted) (place : ℕ) (w : Wanted) → slice_get wanted place ≡ Some w → fields_wanted wanted ≡ fields_of w.atom + fields_wanted (remove wanted place)
 fields-removed [] place w is = cc
 fields-removed (first ∷ others) zero w is = let same : first ≡ w = cc in rw same refl
 fields-removed (first ∷ others) (suc place) w is =
@@ -215,7 +215,7 @@ left_over-fine limits structs params b n most each few = by_junk (has_junk b)
     by_junk false = (each, few)
 
 -- no more names than fields and atoms
-few_names : (atoms : List Atom) → names_of_all atoms ≤ fields_of_all atoms + length atoms
+pub few_names : (atoms : List Atom) → names_of_all atoms ≤ fields_of_all atoms + length atoms
 few_names [] = omega arith
 few_names (Points at kind fields ∷ atoms) = let later : names_of_all atoms ≤ fields_of_all atoms + length atoms = few_names atoms in omega arith
 few_names (Seg kind link from to ∷ atoms) = let later : names_of_all atoms ≤ fields_of_all atoms + length atoms = few_names atoms in omega arith

@@ -1,7 +1,7 @@
 -- What meets a state meets each state that covers it, and so for posts.
-use Rattle.std.specs.Prelude.{◌≡◌, ℕ, ◌<◌, ◌≤◌, ℤ, Bool, true, false, ◌==◌, leb, List, [], ◌∷◌, length, map, filter, All}
+use Rattle.std.specs.Prelude.{◌≡◌, ℕ, ◌<◌, ◌≤◌, ℤ, Bool, true, false, ◌==◌, leb, List, [], ◌∷◌, length, map, All}
 use Rattle.std.proofs.Common.{refl, sym, ap, subst, ◌∙◌, arith, ⊎_elim}
-use Rattle.std.proofs.lemmas.Bool.{and_parts, eqb-true, leb-true, lt-ltb, or_cases}
+use Rattle.std.proofs.lemmas.Bool.{and_parts, eqb-true, leb-true}
 use Rattle.std.proofs.lemmas.List.{length-map}
 use Rattle.std.proofs.lemmas.List.Elements.{All-map, All-weaker}
 use Rattle.shape_data.specs.declared.machine.Cell.{Cell}
@@ -25,9 +25,10 @@ use Rattle.sym_matching.specs.declared.matching.Matching.{Matching}
 use Rattle.sym_matching.specs.declared.matching.Mode.TheVariants.{Subtract}
 use Rattle.sym_matching.specs.declared.matching.Turned.{Turned}
 use Rattle.sym_matching.specs.declared.matching.Turned.TheVariants.{On, Stuck}
-use Rattle.sym_matching.specs.Covers.{above, apart_from, equal_slots, existentials, is_empty, match_state, matches_state, number_from, takes_all}
+use Rattle.sym_matching.specs.Covers.{apart_from, equal_slots, existentials, is_empty, match_state, matches_state, takes_all}
 use Rattle.sym_matching.specs.Laws.{AgreesOn, CoveringPostMeets, CoveringStateMeets, FitsAtom, FitsKind, Keeps}
 use Rattle.sym_matching.specs.Matches.{left_over, rules_of, start_of, want_heap}
+use Rattle.sym_matching.specs.NewVariables.{number_apart}
 use Rattle.sym_matching.specs.Reading.{bound_exp, through}
 use Rattle.sym_matching.specs.Steps.{Rules, and_then}
 use Rattle.sym_matching.specs.Variables.{with_exps, with_state}
@@ -36,6 +37,7 @@ use Rattle.sym_matching.proofs.FactLaws.{want_all_owed-settles}
 use Rattle.sym_matching.proofs.GivesLaws.{beside_emp}
 use Rattle.sym_matching.proofs.KeptLaws.{IsKept, AgreesOn-logical, Within, value-kept, values-alike}
 use Rattle.sym_matching.proofs.MatchLaws.{Stages, Stands-start, emp_logical, want_heap-stages}
+use Rattle.sym_matching.proofs.NewNumberLaws.{logical_stays, passed}
 use Rattle.sym_matching.proofs.ReadingLaws.{Keeps-trans}
 use Rattle.sym_matching.proofs.SettleLaws.{Settles, Stands-settle}
 use Rattle.sym_matching.proofs.StandLaws.{AreTrueOwed, Stands-agree}
@@ -52,16 +54,6 @@ equal_values u later (want ∷ wants) (have ∷ haves) same h =
     let first : value (through later u) want ≡ value u have = h.0 in
     let others : map (value u) haves ≡ map (value (through later u)) wants = equal_values u later wants haves lengths h.1 in
     cc
-
-passed : (test : ℕ → Bool) (xs : List ℕ) (x : ℕ) → is_one_of (filter test xs) x ≡ true → test x ≡ true
-passed test [] x h = cc
-passed test (y ∷ xs) x h = by_test (passed test xs x) (test y) refl
-  where
-    by_test : (is_one_of (filter test xs) x ≡ true → test x ≡ true) → (b : Bool) → test y ≡ b → test x ≡ true
-    by_test later true e =
-        let all : is_one_of (y ∷ filter test xs) x ≡ true = rw e at h in
-        ⊎_elim (λ here. let same : x ≡ y = eqb-true x y here in ap test same ∙ e) later (or_cases (x == y) (is_one_of (filter test xs) x) all)
-    by_test later false e = let all : is_one_of (filter test xs) x ≡ true = rw e at h in later all
 
 -- a logical variable is not flexible, and reads as itself
 logical_reads : (b : SymState) (later : List (ℕ × Exp)) (x : ℕ) → Keeps (existentials b) [] later → x < 65536 → bound_exp later (Var x) ≡ Var x
@@ -136,27 +128,25 @@ reads_number : (number : ℕ → ℕ) (t : ℕ → ℤ) (e : Exp) → value t (r
 reads_number number t (Var x) = refl
 reads_number number t (Const n) = refl
 
-number_low : (first x : ℕ) → x < 65536 → number_from first x ≡ x
-number_low first x low = rw (lt-ltb x 65536 low) refl
-
--- what meets the state numbered from anywhere meets the state
-numbered-meets : (structs : List StructDef) (first : ℕ) (b : SymState) (s : ℕ → ℤ) (locals : List ℤ) (heap : List Cell) → MeetsState structs s locals heap (on_state (renamed (number_from first)) b) → MeetsState structs s locals heap b
-numbered-meets structs first b s locals heap meets =
-    let u : ℕ → ℤ = λ x. meets.0 (number_from first x) in (
+-- what meets the state in other numbers, which logical variables keep, meets the state
+numbered-meets : (structs : List StructDef) (number : ℕ → ℕ) (b : SymState) → ((x : ℕ) → x < 65536 → number x ≡ x) → (s : ℕ → ℤ) (locals : List ℤ) (heap : List Cell) → MeetsState structs s locals heap (on_state (renamed number) b) →
+    MeetsState structs s locals heap b
+numbered-meets structs number b stays s locals heap meets =
+    let u : ℕ → ℤ = λ x. meets.0 (number x) in (
       u,
-      λ x low. ap meets.0 (number_low first x low) ∙ meets.1 x low,
-      meets.2 ∙ values-mapped meets.0 u (renamed (number_from first)) (reads_number (number_from first) meets.0) b.locals,
-      (Holds-mapped meets.0 u (renamed (number_from first)) (reads_number (number_from first) meets.0) structs heap b.heap).0 meets.3,
+      λ x low. ap meets.0 (stays x low) ∙ meets.1 x low,
+      meets.2 ∙ values-mapped meets.0 u (renamed number) (reads_number number meets.0) b.locals,
+      (Holds-mapped meets.0 u (renamed number) (reads_number number meets.0) structs heap b.heap).0 meets.3,
     )
 
 matches_state-meets : (structs : List StructDef) (a b : SymState) → All (FitsAtom structs) b.heap.spatial → matches_state a b ≡ true → (s : ℕ → ℤ) (locals : List ℤ) (heap : List Cell) → MeetsState structs s locals heap a → MeetsState structs s locals heap b
 matches_state-meets structs a b fits h s locals heap meets =
-    let number : ℕ → ℕ = number_from (above 65536 (with_state [] a)) in
+    let number : ℕ → ℕ = number_apart (with_state [] a) (existentials b) in
     let parts = and_parts (length b.locals == length a.locals) (takes_all (apart_from a b).heap (match_state a (apart_from a b))) h in
     let lengths : length (map (renamed number) b.locals) ≡ length a.locals = length-map b.locals (renamed number) ∙ eqb-true (length b.locals) (length a.locals) parts.0 in
     let fits' : All (FitsAtom structs) (map (on_atom (renamed number)) b.heap.spatial) =
     All-map (FitsAtom structs) (on_atom (renamed number)) b.heap.spatial (All-weaker (FitsAtom structs) (λ atom. FitsAtom structs (on_atom (renamed number) atom)) (fits_mapped structs (renamed number)) b.heap.spatial fits) in
-    numbered-meets structs (above 65536 (with_state [] a)) b s locals heap (match_state-meets structs a (apart_from a b) fits' lengths parts.1 s locals heap meets)
+    numbered-meets structs number b (λ x low. logical_stays (with_state [] a) (with_state [] b) x low) s locals heap (match_state-meets structs a (apart_from a b) fits' lengths parts.1 s locals heap meets)
 
 -- ---- both cases
 

@@ -1,4 +1,5 @@
 pub mod KeptLaws
+pub mod NewNumberLaws
 pub mod NewVariableLaws
 pub mod ReadingLaws
 pub mod StandLaws
@@ -19,3 +20,5 @@ pub mod NextSteps
 pub mod MissingLaws
 pub mod AnswerSteps
 pub mod AnswerLaws
+pub mod CountSteps
+pub mod CountLaws

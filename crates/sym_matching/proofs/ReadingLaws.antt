@@ -60,7 +60,7 @@ read_later facts flexible now later u e known keeps true_facts =
 
 -- ---- one more variable
 
-bound_to-push : (binding : List (ℕ × Exp)) (bound : ℕ × Exp) (x : ℕ) (e : Exp) → bound_to binding x ≡ Some e → bound_to (binding ++ bound ∷ []) x ≡ Some e
+pub bound_to-push : (binding : List (ℕ × Exp)) (bound : ℕ × Exp) (x : ℕ) (e : Exp) → bound_to binding x ≡ Some e → bound_to (binding ++ bound ∷ []) x ≡ Some e
 bound_to-push [] bound x e h = cc
 bound_to-push (first ∷ binding) bound x e h = by_test (bound_to-push binding bound x e) (first.0 == x) refl
   where
@@ -68,7 +68,7 @@ bound_to-push (first ∷ binding) bound x e h = by_test (bound_to-push binding b
     by_test later true f = let here : Some first.1 ≡ Some e = rw f at h in rw f here
     by_test later false f = let rest : bound_to binding x ≡ Some e = rw f at h in rw f (later rest)
 
-bound_to-new : (binding : List (ℕ × Exp)) (bound : ℕ × Exp) (x : ℕ) → bound_to binding x ≡ None → (bound.0 == x) ≡ true → bound_to (binding ++ bound ∷ []) x ≡ Some bound.1
+pub bound_to-new : (binding : List (ℕ × Exp)) (bound : ℕ × Exp) (x : ℕ) → bound_to binding x ≡ None → (bound.0 == x) ≡ true → bound_to (binding ++ bound ∷ []) x ≡ Some bound.1
 bound_to-new [] bound x h is = rw is refl
 bound_to-new (first ∷ binding) bound x h is = by_test (bound_to-new binding bound x) (first.0 == x) refl
   where
@@ -84,7 +84,7 @@ bound_to-other (first ∷ binding) bound x h is = by_test (bound_to-other bindin
     by_test later true f = let here : Some first.1 ≡ None = rw f at h in cc
     by_test later false f = let rest : bound_to binding x ≡ None = rw f at h in rw f (later rest is)
 
-none_of : (o : Option Exp) → is_none o ≡ true → o ≡ None
+pub none_of : (o : Option Exp) → is_none o ≡ true → o ≡ None
 none_of None h = refl
 none_of (Some e) h = cc
 

@@ -79,7 +79,7 @@ room_parts one other used room =
 
 -- ---- sizes
 
-few_each : (atoms : List Atom) → All (λ atom. fields_of atom ≤ 32768) atoms → fields_of_all atoms ≤ 32768 * length atoms
+pub few_each : (atoms : List Atom) → All (λ atom. fields_of atom ≤ 32768) atoms → fields_of_all atoms ≤ 32768 * length atoms
 few_each [] h = omega arith
 few_each (atom ∷ atoms) h =
     let here : fields_of atom ≤ 32768 = All-head (λ a. fields_of a ≤ 32768) atom atoms h in

@@ -21,7 +21,7 @@ use Rattle.sym_laws.specs.Each.{EachInAtom, EachInFact}
 use Rattle.sym_matching.specs.Laws.{FitsAtom, FittingCarries, WellFormedFits}
 use Rattle.sym_matching.specs.Rooms.{fields_of, IsSmall, WellFormedIsWithinSizes}
 
-small : (params : ℕ) (e : Exp) → IsExp widest params e → IsSmall e
+pub small : (params : ℕ) (e : Exp) → IsExp widest params e → IsSmall e
 small params (Var x) h = ltb-true x 2147483648 h
 small params (Const n) h = tt
 

@@ -1,4 +1,4 @@
--- What a match answers is well formed where its arguments are.
+-- What a match answers is well formed where its arguments are, and how large it is.
 use Rattle.std.specs.Prelude.{◌≡◌, ℕ, ◌+◌, ◌<◌, ◌≤◌, List, [], ◌∷◌, ◌++◌, length, All}
 use Rattle.shape_data.specs.declared.program.StructDef.{StructDef}
 use Rattle.shape_data.specs.declared.symbolic.Atom.{Atom}
@@ -75,3 +75,42 @@ BiabduceIsWellFormed =
     IsSymHeap widest structs params a → IsSymHeap widest structs params b → All (IsBound widest params) bound → All (MayOccur widest params) flexible →
     length (argument_variables a b bound flexible ++ avoid) ≤ 1073741824 → next + names_of_all b.spatial ≤ 2147483648 → biabduce_avoiding a b bound flexible next avoid ≡ abd.Found missing frame binding →
     IsFound widest structs params (length a.spatial) missing frame binding
+
+-- how large what a match makes is, of any arguments: no more atoms are left than there were; each new binding is of a flexible variable that was
+-- unbound, so there are no more of them than flexible variables; no more atoms are missing than are wanted; and no more parts than are wanted,
+-- with one for each wanted field
+pub record HasSizes (a b : SymHeap) (bound : List (ℕ × Exp)) (flexible : List ℕ) (n : Matching) : Type 0 where
+  pub left : length n.left ≤ length a.spatial
+  pub bindings : length n.binding ≤ length bound + length flexible
+  pub missing_atoms : length n.missing.spatial ≤ length b.spatial
+  pub missing_parts : length n.missing.pure + length n.missing.spatial ≤ length b.pure + length b.spatial + fields_of_all b.spatial
+
+-- in both modes
+abbrev pub MatchHasSizes : Type 0
+MatchHasSizes =
+    (mode : Mode) (a b : SymHeap) (bound : List (ℕ × Exp)) (flexible avoid : List ℕ) (next : ℕ) (n : Matching) → matching mode a b bound flexible avoid next ≡ On n →
+    HasSizes a b bound flexible n
+
+-- a subtraction leaves the facts of a, and no more atoms than a has
+pub record HasSubtractedSizes (a : SymHeap) (bound : List (ℕ × Exp)) (flexible : List ℕ) (frame : SymHeap) (binding : List (ℕ × Exp)) : Type 0 where
+  pub facts : frame.pure ≡ a.pure
+  pub atoms : length frame.spatial ≤ length a.spatial
+  pub bindings : length binding ≤ length bound + length flexible
+
+abbrev pub SubtractHasSizes : Type 0
+SubtractHasSizes =
+    (a b : SymHeap) (bound : List (ℕ × Exp)) (flexible avoid : List ℕ) (frame : SymHeap) (binding : List (ℕ × Exp)) → subtract_avoiding a b bound flexible avoid ≡ sub.Match frame binding →
+    HasSubtractedSizes a bound flexible frame binding
+
+-- an abduction leaves the facts of a with those that are missing, and no more atoms than a has
+pub record HasFoundSizes (a b : SymHeap) (bound : List (ℕ × Exp)) (flexible : List ℕ) (missing frame : SymHeap) (binding : List (ℕ × Exp)) : Type 0 where
+  pub facts : frame.pure ≡ a.pure ++ missing.pure
+  pub atoms : length frame.spatial ≤ length a.spatial
+  pub bindings : length binding ≤ length bound + length flexible
+  pub missing_atoms : length missing.spatial ≤ length b.spatial
+  pub missing_parts : length missing.pure + length missing.spatial ≤ length b.pure + length b.spatial + fields_of_all b.spatial
+
+abbrev pub BiabduceHasSizes : Type 0
+BiabduceHasSizes =
+    (a b : SymHeap) (bound : List (ℕ × Exp)) (flexible : List ℕ) (next : ℕ) (avoid : List ℕ) (missing frame : SymHeap) (binding : List (ℕ × Exp)) →
+    biabduce_avoiding a b bound flexible next avoid ≡ abd.Found missing frame binding → HasFoundSizes a b bound flexible missing frame binding

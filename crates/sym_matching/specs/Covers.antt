@@ -1,5 +1,5 @@
 -- When a state or a post covers another.
-use Rattle.std.specs.Prelude.{◌≡◌, ◌⊎◌, ℕ, ◌+◌, ◌-◌, Bool, true, false, ◌==◌, ◌&&◌, if◌then◌else◌, leb, ltb, List, [], ◌∷◌, length, filter}
+use Rattle.std.specs.Prelude.{◌≡◌, ◌⊎◌, ℕ, ◌+◌, Bool, true, false, ◌==◌, ◌&&◌, if◌then◌else◌, leb, ltb, List, [], ◌∷◌, length, filter}
 use Rattle.shape_data.specs.declared.symbolic.Atom.{Atom}
 use Rattle.shape_data.specs.declared.symbolic.Exp.{Exp}
 use Rattle.shape_data.specs.declared.symbolic.Post.{Post}
@@ -12,6 +12,7 @@ use Rattle.sym_matching.specs.declared.matching.Owed.{Owed}
 use Rattle.sym_matching.specs.declared.matching.Turned.{Turned}
 use Rattle.sym_matching.specs.declared.matching.Turned.TheVariants.{On, Stuck}
 use Rattle.sym_matching.specs.Matches.{left_over, rules_of, start_of, want_heap}
+use Rattle.sym_matching.specs.NewVariables.{number_apart}
 use Rattle.sym_matching.specs.Steps.{and_then}
 use Rattle.sym_matching.specs.Variables.{with_state}
 use Rattle.sym_matching.specs.WantedFacts.{want_all_owed}
@@ -21,17 +22,13 @@ abbrev pub above : ℕ → List ℕ → ℕ
 above first [] = first
 above first (x ∷ xs) = above (if ltb x first then first else x + 1) xs
 
--- existential variables moved up so that ?1 is the first one: ?n becomes first + n - 1
-abbrev pub number_from : ℕ → ℕ → ℕ
-number_from first x = if ltb x 65536 then x else first + (x - 65536)
-
--- the state b with numbers for its existential variables that are free in a
-abbrev pub apart_from : SymState → SymState → SymState
-apart_from a b = on_state (renamed (number_from (above 65536 (with_state [] a)))) b
-
 -- the existential variables of a state
 abbrev pub existentials : SymState → List ℕ
 existentials state = filter (λ x. leb 65536 x) (with_state [] state)
+
+-- the state b with numbers for its existential variables that are free in a
+abbrev pub apart_from : SymState → SymState → SymState
+apart_from a b = on_state (renamed (number_apart (with_state [] a) (existentials b))) b
 
 -- the wanted locals are equal to those that are there, slot by slot
 abbrev pub equal_slots : List Exp → List Exp → List Owed

@@ -20,13 +20,14 @@ use Rattle.sym_laws.specs.Fresh.{is_one_of}
 use Rattle.sym_laws.specs.Mapped.{renamed}
 use Rattle.sym_laws.proofs.MappedLemmas.{Holds-each, Holds-mapped}
 use Rattle.sym_matching.specs.Laws.{AgreesOn, StaysBound}
+use Rattle.sym_matching.specs.NewVariables.{at_its_place}
 use Rattle.sym_matching.specs.Reading.{bound_exp, bound_to, or_itself, through}
 use Rattle.sym_matching.specs.Variables.{with_binding, with_heap, with_variable}
 use Rattle.sym_matching.proofs.KeptLaws.{IsKept, AreTrueFacts-alike, HoldsAtoms-alike, kept-more, kept-name, value-kept}
 use Rattle.sym_matching.proofs.ReadingLaws.{value-through}
 use Rattle.sym_matching.proofs.VariableLaws.{binding-within, heap-kept, heap-within}
 use Rattle.sym_renaming.specs.declared.parts.Numbers.{Numbers}
-use Rattle.sym_renaming.specs.Apart.{at_its_place, number_of, numbers_apart}
+use Rattle.sym_renaming.specs.Apart.{number_of, numbers_apart}
 use Rattle.sym_renaming.specs.Calls.{bound_in, bound_or_new, in_caller, new_in_post, parameters_bound, post_in_caller, post_variables, pre_apart, pre_numbers, variables_from}
 use Rattle.sym_renaming.specs.Laws.{ArgumentsStand, MatchIsCall, PostBesideFrame, PostHolds, PostInCaller, PreInCaller, standing}
 use Rattle.sym_renaming.proofs.CoveringLemmas.{filtered}

@@ -1,7 +1,7 @@
 -- A state with new numbers for its existential variables means the same.
-use Rattle.std.specs.Prelude.{◌≡◌, ℕ, ◌<◌, ◌≤◌, leb, ℤ, Bool, true, false, ◌==◌, ◌||◌, List, [], ◌∷◌, filter}
-use Rattle.std.proofs.Common.{refl, sym, ap, ◌∙◌, arith, ⊎_elim}
-use Rattle.std.proofs.lemmas.Bool.{eqb-true, leb-false, leb-true, or_cases, or_left}
+use Rattle.std.specs.Prelude.{◌≡◌, ℕ, ◌<◌, leb, ℤ, Bool, true, false, ◌==◌, ◌||◌, List, [], ◌∷◌, filter}
+use Rattle.std.proofs.Common.{refl, sym, ap, ◌∙◌, ⊎_elim}
+use Rattle.std.proofs.lemmas.Bool.{eqb-true, leb-false, or_cases, or_left}
 use Rattle.shape_data.specs.declared.machine.Cell.{Cell}
 use Rattle.shape_data.specs.declared.program.StructDef.{StructDef}
 use Rattle.shape_data.specs.declared.symbolic.Exp.{Exp}
@@ -14,11 +14,12 @@ use Rattle.sym_laws.proofs.MappedLemmas.{Holds-each, Holds-mapped, values-each, 
 use Rattle.sym_matching.specs.Covers.{existentials}
 use Rattle.sym_matching.specs.Variables.{with_exps, with_state}
 use Rattle.sym_matching.proofs.KeptLaws.{AgreesOn-logical}
+use Rattle.sym_matching.proofs.NewNumberLaws.{logical_stays}
 use Rattle.sym_renaming.specs.Apart.{number_of}
 use Rattle.sym_renaming.specs.Coverings.{state_apart, state_numbers}
 use Rattle.sym_renaming.specs.Laws.{StateApartMeets}
 use Rattle.sym_renaming.proofs.ListedLemmas.{IsListed, heap-listed, locals-listed}
-use Rattle.sym_renaming.proofs.NumberLemmas.{numbers_are_apart, renumbered_values}
+use Rattle.sym_renaming.proofs.NumberLemmas.{renumbered_values}
 
 -- what passes a test and is in a list is in the filtered list, and nothing else is
 pub filtered : (test : ℕ → Bool) (xs : List ℕ) (x : ℕ) → is_one_of xs x ≡ true → test x ≡ true → is_one_of (filter test xs) x ≡ true
@@ -33,24 +34,10 @@ filtered test (y ∷ xs) x is passes = by_test (test y) refl (filtered test xs x
         or_true false = refl
     by_test false e later = rw e (⊎_elim (λ here. let same : x ≡ y = eqb-true x y here in let wrong : false ≡ true = sym e ∙ ap test (sym same) ∙ passes in cc) (λ there. later there passes) (or_cases (x == y) (is_one_of xs x) is))
 
-pub passed : (test : ℕ → Bool) (xs : List ℕ) (x : ℕ) → is_one_of (filter test xs) x ≡ true → test x ≡ true
-passed test [] x h = cc
-passed test (y ∷ xs) x h = by_test (passed test xs x) (test y) refl
-  where
-    by_test : (is_one_of (filter test xs) x ≡ true → test x ≡ true) → (b : Bool) → test y ≡ b → test x ≡ true
-    by_test later true e =
-        let all : is_one_of (y ∷ filter test xs) x ≡ true = rw e at h in
-        ⊎_elim (λ here. let same : x ≡ y = eqb-true x y here in ap test same ∙ e) later (or_cases (x == y) (is_one_of (filter test xs) x) all)
-    by_test later false e = let all : is_one_of (filter test xs) x ≡ true = rw e at h in later all
-
 module _ (used : List ℕ) (state : SymState) where
   -- logical variables keep their numbers
   low_stays : (x : ℕ) → x < 65536 → number_of (state_numbers used state) x ≡ x
-  low_stays x low = (numbers_are_apart used (existentials state)).others x (by_test (is_one_of (existentials state) x) refl)
-    where
-      by_test : (b : Bool) → is_one_of (existentials state) x ≡ b → b ≡ false
-      by_test true e = let above : 65536 ≤ x = leb-true 65536 x (passed (λ y. leb 65536 y) (with_state [] state) x e) in absurd (omega arith)
-      by_test false e = refl
+  low_stays x low = logical_stays used (with_state [] state) x low
 
   module _ (structs : List StructDef) (s : ℕ → ℤ) (locals : List ℤ) (heap : List Cell) where
     -- each number has the value of its variable

@@ -1,4 +1,5 @@
 pub mod CallLemmas
+pub mod CalledLemmas
 pub mod CoveringLemmas
 pub mod ListedLemmas
 pub mod NumberLemmas

@@ -1,56 +1,23 @@
 -- New numbers are existential, free and different; and an assignment can give them values.
-use Rattle.std.specs.Prelude.{◌≡◌, ℕ, zero, suc, ◌+◌, ◌<◌, ◌≤◌, ◌==◌, ℤ, Bool, true, false, not, ◌&&◌, ◌||◌, List, [], ◌∷◌, ◌++◌, length, map}
-use Rattle.std.proofs.Common.{refl, sym, ap, subst, ◌∙◌, arith, ⊎_elim}
+use Rattle.std.specs.Prelude.{◌≡◌, ℕ, zero, suc, ◌+◌, ◌<◌, ◌≤◌, ◌==◌, ℤ, Bool, true, false, not, ◌&&◌, List, [], ◌∷◌, ◌++◌, length, map}
+use Rattle.std.proofs.Common.{refl, sym, subst, ◌∙◌, arith, ⊎_elim}
 use Rattle.std.proofs.lemmas.Bool.{and_parts, eqb-true, eq-eqb, not-true, or_cases, or_right}
 use Rattle.std.proofs.lemmas.List.{length-map}
 use Rattle.std.proofs.lemmas.List.Elements.{All-cons, All-nil}
-use Rattle.std.proofs.lemmas.List.Folds.{list_any-append}
 use Rattle.shape_data.specs.declared.symbolic.Exp.TheVariants.{Var}
 use Rattle.shape_data.specs.Meaning.{value}
 use Rattle.sym_laws.specs.Fresh.{are_different, is_one_of}
 use Rattle.sym_matching.specs.Laws.{AgreesOn}
-use Rattle.sym_matching.specs.NewVariables.{first_free, fresh, fresh_variables}
+use Rattle.sym_matching.specs.NewVariables.{at_its_place, distinct, distinct_behind, first_free, fresh, fresh_variables}
 use Rattle.sym_matching.proofs.KeptLaws.{one_of-first, one_of-left, one_of-right}
+use Rattle.sym_matching.proofs.NewNumberLaws.{distinct-has, place-none}
 use Rattle.sym_matching.proofs.NewVariableLaws.{fresh_existential, fresh_free, fresh_values, length-fresh_variables, with_values}
 use Rattle.sym_renaming.specs.declared.parts.Numbers.{Numbers}
-use Rattle.sym_renaming.specs.Apart.{at_its_place, distinct, distinct_behind, number_of, numbers_apart}
+use Rattle.sym_renaming.specs.Apart.{number_of, numbers_apart}
 use Rattle.sym_renaming.specs.Laws.{NumbersAreApart}
 use Rattle.sym_renaming.specs.Sizes.{AreSmall}
 
 -- ---- each once
-
-same_either : (a b c : Bool) → (b ≡ true → a ≡ true) → (a || (b || c)) ≡ (a || c)
-same_either true b c from = refl
-same_either false true c from = let wrong : false ≡ true = from refl in cc
-same_either false false c from = refl
-
-either_right : (a b c : Bool) → ((a || (b || false)) || c) ≡ (a || (b || c))
-either_right true b c = refl
-either_right false true c = refl
-either_right false false c = refl
-
--- the list has what stood in front and what was listed, and nothing else
-pub distinct_behind-has : (xs names : List ℕ) (x : ℕ) → is_one_of (distinct_behind names xs) x ≡ (is_one_of names x || is_one_of xs x)
-distinct_behind-has [] names x = or_none (is_one_of names x)
-  where
-    or_none : (a : Bool) → a ≡ (a || false)
-    or_none true = refl
-    or_none false = refl
-distinct_behind-has (y ∷ xs) names x = by_test (is_one_of names y) refl (distinct_behind-has xs names x) (distinct_behind-has xs (names ++ y ∷ []) x)
-  where
-    found : is_one_of names y ≡ true → (x == y) ≡ true → is_one_of names x ≡ true
-    found e h = rw (eqb-true x y h) e
-
-    by_test : (b : Bool) → is_one_of names y ≡ b → is_one_of (distinct_behind names xs) x ≡ (is_one_of names x || is_one_of xs x) →
-        is_one_of (distinct_behind (names ++ y ∷ []) xs) x ≡ (is_one_of (names ++ y ∷ []) x || is_one_of xs x) →
-        is_one_of (distinct_behind names (y ∷ xs)) x ≡ (is_one_of names x || is_one_of (y ∷ xs) x)
-    by_test true e there new = rw e (there ∙ sym (same_either (is_one_of names x) (x == y) (is_one_of xs x) (found e)))
-    by_test false e there new =
-        let more : is_one_of (names ++ y ∷ []) x ≡ (is_one_of names x || ((x == y) || false)) = list_any-append (λ name. x == name) names (y ∷ []) in
-        rw e (new ∙ ap (λ a. a || is_one_of xs x) more ∙ either_right (is_one_of names x) (x == y) (is_one_of xs x))
-
-pub distinct-has : (xs : List ℕ) (x : ℕ) → is_one_of (distinct xs) x ≡ is_one_of xs x
-distinct-has xs x = distinct_behind-has xs [] x
 
 pub length-one_more : (names : List ℕ) (x : ℕ) → length (names ++ x ∷ []) ≡ length names + 1
 length-one_more [] x = refl
@@ -144,16 +111,6 @@ place-in (variable ∷ variables) (number ∷ numbers) x same is = by_test (x ==
         let rest : is_one_of variables x ≡ true = rw e at is in
         let same_place : at_its_place variables numbers x ≡ at_its_place (variable ∷ variables) (number ∷ numbers) x = rw e refl in
         subst (λ y. is_one_of (number ∷ numbers) y ≡ true) same_place (or_right (at_its_place variables numbers x == number) (is_one_of numbers (at_its_place variables numbers x)) (later rest))
-
--- a variable that is not listed keeps its number
-pub place-none : (variables numbers : List ℕ) (x : ℕ) → is_one_of variables x ≡ false → at_its_place variables numbers x ≡ x
-place-none [] numbers x none = refl
-place-none (variable ∷ variables) [] x none = refl
-place-none (variable ∷ variables) (number ∷ numbers) x none = by_test (x == variable) refl (place-none variables numbers x)
-  where
-    by_test : (b : Bool) → (x == variable) ≡ b → (is_one_of variables x ≡ false → at_its_place variables numbers x ≡ x) → at_its_place (variable ∷ variables) (number ∷ numbers) x ≡ x
-    by_test true e later = let wrong : true ≡ false = rw e at none in cc
-    by_test false e later = let rest : is_one_of variables x ≡ false = rw e at none in rw e (later rest)
 
 pub eqb_false : (x y : ℕ) → (x ≡ y → ⊥) → (x == y) ≡ false
 eqb_false x y apart = by_test (x == y) refl

@@ -23,17 +23,18 @@ use Rattle.sym_laws.specs.Mapped.{on_atom, on_fact, on_heap, on_post, on_state, 
 use Rattle.sym_laws.proofs.EachLemmas.{each-on_atoms, each-on_facts}
 use Rattle.sym_canon.specs.Numbering.{sides}
 use Rattle.sym_canon.specs.Placing.{exps_of}
-use Rattle.sym_matching.specs.NewVariables.{HasRoom, fresh_variables}
+use Rattle.sym_matching.specs.NewVariables.{HasRoom, distinct, fresh_variables}
 use Rattle.sym_matching.specs.Reading.{bound_to}
 use Rattle.sym_matching.specs.Rooms.{IsSmall, IsWithinSizes, fields_of}
 use Rattle.sym_matching.specs.Variables.{with_atoms, with_binding, with_exps, with_facts, with_heap, with_state, with_variable}
 use Rattle.sym_matching.proofs.KeptLaws.{one_of-first}
+use Rattle.sym_matching.proofs.NewNumberLaws.{distinct-has}
 use Rattle.sym_matching.proofs.RoomLaws.{room_of_few}
 use Rattle.sym_renaming.specs.declared.parts.Numbers.{Numbers}
-use Rattle.sym_renaming.specs.Apart.{distinct, number_of, numbers_apart}
+use Rattle.sym_renaming.specs.Apart.{number_of, numbers_apart}
 use Rattle.sym_renaming.specs.Calls.{bound_in, bound_or_new, in_caller, new_in_post, parameters_bound, post_numbers, post_variables, variables_from}
 use Rattle.sym_renaming.specs.Sizes.{AreSmall, CalledIsWithinSizes, FewBindingVariables, FewHeapVariables, FewStateVariables, IsSmallBinding, MappedHeapIsWellFormed, MappedIsWithinSizes, MappedPostIsWellFormed, MappedStateIsWellFormed, PostIsWithinSizes}
-use Rattle.sym_renaming.proofs.NumberLemmas.{distinct-has, few_distinct, fresh_small, length-one_more, numbers_are_apart}
+use Rattle.sym_renaming.proofs.NumberLemmas.{few_distinct, fresh_small, length-one_more, numbers_are_apart}
 
 -- ---- how many variables
 
@@ -96,7 +97,7 @@ few_binding_variables names (bound ∷ binding) =
     few_binding_variables (with_variable (names ++ bound.0 ∷ []) bound.1) binding in
     omega arith
 
-few_passing : (test : ℕ → Bool) (xs : List ℕ) → length (filter test xs) ≤ length xs
+pub few_passing : (test : ℕ → Bool) (xs : List ℕ) → length (filter test xs) ≤ length xs
 few_passing test [] = omega arith
 few_passing test (x ∷ xs) = by_test (test x) refl (few_passing test xs)
   where
@@ -104,11 +105,11 @@ few_passing test (x ∷ xs) = by_test (test x) refl (few_passing test xs)
     by_test true e later = rw e (omega arith)
     by_test false e later = rw e (omega arith)
 
-few_from : (x count : ℕ) → length (variables_from x count) ≡ count
+pub few_from : (x count : ℕ) → length (variables_from x count) ≡ count
 few_from x zero = refl
 few_from x (suc count) = let later : length (variables_from (x + 1) count) ≡ count = few_from (x + 1) count in omega arith
 
-few_post_variables : (post : Post) → IsWithinSizes post.heap → length (post_variables post) ≤ 131076001
+pub few_post_variables : (post : Post) → IsWithinSizes post.heap → length (post_variables post) ≤ 131076001
 few_post_variables post sizes =
     let first : length (with_variable [] post.ret) ≤ 0 + 1 = few_variable [] post.ret in
     let later : length (with_heap (with_variable [] post.ret) post.heap) ≤ length (with_variable [] post.ret) + 131076000 = few_heap_variables (with_variable [] post.ret) post.heap sizes in
@@ -220,7 +221,7 @@ small_number used list room x low = by_test (is_one_of list x) refl
     by_test true e = let near : number_of (numbers_apart used list) x < 65536 + length used + length list = (numbers_are_apart used list).near x e in omega arith
     by_test false e = let same : number_of (numbers_apart used list) x ≡ x = (numbers_are_apart used list).others x e in omega arith
 
-small_renamed : (used list : List ℕ) → length used + length list < 2147418112 → (e : Exp) → IsSmall e → IsSmall (renamed (number_of (numbers_apart used list)) e)
+pub small_renamed : (used list : List ℕ) → length used + length list < 2147418112 → (e : Exp) → IsSmall e → IsSmall (renamed (number_of (numbers_apart used list)) e)
 small_renamed used list room (Var x) small = small_number used list room x small
 small_renamed used list room (Const n) small = tt
 

@@ -1,7 +1,7 @@
 -- The turns of the loops.
 use Rattle.std.specs.Prelude.{◌≡◌, ℕ, zero, suc, ◌+◌, ◌-◌, ◌<◌, ◌≤◌, ◌==◌, false, List, [], ◌∷◌, ◌++◌, length, drop}
 use Rattle.std.proofs.Common.{refl, sym, ap, ◌∙◌, arith, append_assoc, drop-cons, get_or}
-use Rattle.sym_renaming.specs.Apart.{at_its_place}
+use Rattle.sym_matching.specs.NewVariables.{at_its_place}
 use Rattle.sym_renaming.specs.Calls.{variables_from}
 use Rattle.sym_renaming.proofs.NumberLemmas.{eqb_false}
 

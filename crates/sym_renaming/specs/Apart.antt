@@ -1,27 +1,7 @@
 -- New numbers for variables, apart from those in use: each gets its own, the least existential ones that are free.
-use Rattle.std.specs.Prelude.{ℕ, ◌==◌, if◌then◌else◌, List, [], ◌∷◌, ◌++◌, length}
-use Rattle.sym_laws.specs.Fresh.{is_one_of}
-use Rattle.sym_matching.specs.NewVariables.{fresh_variables}
+use Rattle.std.specs.Prelude.{ℕ, List, length}
+use Rattle.sym_matching.specs.NewVariables.{at_its_place, distinct, fresh_variables}
 use Rattle.sym_renaming.specs.declared.parts.Numbers.{Numbers}
-
--- a variable behind others, unless it is one of them
-abbrev pub with_new : List ℕ → ℕ → List ℕ
-with_new names x = if is_one_of names x then names else names ++ x ∷ []
-
--- variables behind others, each once, where it stands first
-abbrev pub distinct_behind : List ℕ → List ℕ → List ℕ
-distinct_behind names [] = names
-distinct_behind names (x ∷ xs) = distinct_behind (with_new names x) xs
-
--- each variable once, where it stands first
-abbrev pub distinct : List ℕ → List ℕ
-distinct xs = distinct_behind [] xs
-
--- what stands in the second list where the variable stands in the first; a variable that does not keeps its number
-abbrev pub at_its_place : List ℕ → List ℕ → ℕ → ℕ
-at_its_place [] numbers x = x
-at_its_place (variable ∷ variables) [] x = x
-at_its_place (variable ∷ variables) (number ∷ numbers) x = if x == variable then number else at_its_place variables numbers x
 
 -- the new number of a variable
 abbrev pub number_of : Numbers → ℕ → ℕ

@@ -12,11 +12,13 @@ use Rattle.shape_data.specs.Valid.{values_from}
 use Rattle.shape_laws.specs.Symbolic.{beside, occurs_in}
 use Rattle.sym_laws.specs.Fresh.{is_one_of}
 use Rattle.sym_laws.specs.Mapped.{on_heap}
+use Rattle.sym_matching.specs.Covers.{apart_from}
 use Rattle.sym_matching.specs.Laws.{AgreesOn, GivesBeside, StaysBound}
+use Rattle.sym_matching.specs.NewVariables.{at_its_place}
 use Rattle.sym_matching.specs.Reading.{bound_exp}
-use Rattle.sym_matching.specs.Variables.{with_heap}
+use Rattle.sym_matching.specs.Variables.{with_heap, with_state}
 use Rattle.sym_renaming.specs.declared.parts.Numbers.{Numbers}
-use Rattle.sym_renaming.specs.Apart.{at_its_place, number_of, numbers_apart}
+use Rattle.sym_renaming.specs.Apart.{number_of, numbers_apart}
 use Rattle.sym_renaming.specs.Calls.{others_flexible, parameters_bound, post_in_caller, pre_apart, pre_numbers, stands_for}
 use Rattle.sym_renaming.specs.Coverings.{state_apart}
 
@@ -112,3 +114,7 @@ abbrev pub StateApartMeets : Type 0
 StateApartMeets =
     (used : List ℕ) (state : SymState) (structs : List StructDef) (s : ℕ → ℤ) (locals : List ℤ) (heap : List Cell) →
     MeetsState structs s locals heap state ↔ MeetsState structs s locals heap (state_apart used state)
+
+-- the states that coverings match are those with new numbers
+abbrev pub CoveringsAreApart : Type 0
+CoveringsAreApart = (a b : SymState) → apart_from a b ≡ state_apart (with_state [] a) b

@@ -1,17 +1,18 @@
 -- The sizes of what gets new numbers.
-use Rattle.std.specs.Prelude.{ℕ, ◌+◌, ◌*◌, ◌<◌, ◌≤◌, List, length, All}
+use Rattle.std.specs.Prelude.{◌≡◌, ℕ, ◌+◌, ◌*◌, ◌<◌, ◌≤◌, List, length, All}
 use Rattle.shape_data.specs.declared.program.StructDef.{StructDef}
 use Rattle.shape_data.specs.declared.symbolic.Exp.{Exp}
 use Rattle.shape_data.specs.declared.symbolic.SymHeap.{SymHeap}
 use Rattle.shape_data.specs.declared.symbolic.SymState.{SymState}
-use Rattle.shape_data.specs.WellFormed.{IsExp, IsPost, IsState, IsSymHeap, Limits}
+use Rattle.shape_data.specs.WellFormed.{AreStructs, IsExp, IsPost, IsState, IsSymHeap, Limits, widest}
 use Rattle.shape_data.specs.declared.symbolic.Post.{Post}
 use Rattle.sym_laws.specs.Mapped.{on_heap, on_post, on_state}
+use Rattle.sym_matching.specs.Answers.{IsBound, MayOccur}
+use Rattle.sym_matching.specs.NewVariables.{distinct}
 use Rattle.sym_matching.specs.Rooms.{IsSmall, IsWithinSizes}
 use Rattle.sym_matching.specs.Variables.{with_binding, with_heap, with_state}
 use Rattle.sym_renaming.specs.declared.parts.CalledPre.{CalledPre}
 use Rattle.sym_renaming.specs.declared.parts.Numbers.{Numbers}
-use Rattle.sym_renaming.specs.Apart.{distinct}
 use Rattle.sym_renaming.specs.Calls.{called_with, post_in_caller}
 
 -- variables are below 2^31
@@ -72,3 +73,32 @@ abbrev pub PostIsWithinSizes : Type 0
 PostIsWithinSizes =
     (used : List ℕ) (apart : Numbers) (binding : List (ℕ × Exp)) (post : Post) → length used ≤ 1073741824 → length binding ≤ 268435456 → IsSmallBinding binding →
     IsSmall post.ret → IsWithinSizes post.heap → IsSmall (post_in_caller used apart binding post).ret × IsWithinSizes (post_in_caller used apart binding post).heap
+
+-- WELL-FORMEDNESS
+
+-- what a precondition is matched with in the caller is well formed: the heap, with as many parts, the variables that are bound, one for each
+-- argument, and the flexible ones, no more than variables occur
+pub record IsCalledWellFormed (structs : List StructDef) (params : ℕ) (args : List Exp) (pre : SymHeap) (called : CalledPre) : Type 0 where
+  pub heap : IsSymHeap widest structs params called.pre
+  pub facts : length called.pre.pure ≡ length pre.pure
+  pub atoms : length called.pre.spatial ≡ length pre.spatial
+  pub bound : All (IsBound widest params) called.bound
+  pub one_each : length called.bound ≡ length args
+  pub flexible : All (MayOccur widest params) called.flexible
+  pub few : length called.flexible ≤ length args + 131076000
+
+abbrev pub CalledIsWellFormed : Type 0
+CalledIsWellFormed =
+    (structs : List StructDef) (before after : ℕ) (used : List ℕ) (args : List Exp) (pre : SymHeap) → AreStructs structs → length used ≤ 1073741824 → length args ≤ 32768 →
+    All (IsExp widest after) args → IsSymHeap widest structs before pre → IsCalledWellFormed structs after args pre (called_with used args pre)
+
+-- and so is a post in the caller, with as many parts
+pub record IsPostWellFormed (structs : List StructDef) (params : ℕ) (post read : Post) : Type 0 where
+  pub well_formed : IsPost widest structs params read
+  pub facts : length read.heap.pure ≡ length post.heap.pure
+  pub atoms : length read.heap.spatial ≡ length post.heap.spatial
+
+abbrev pub PostIsWellFormed : Type 0
+PostIsWellFormed =
+    (structs : List StructDef) (before after : ℕ) (used : List ℕ) (apart : Numbers) (binding : List (ℕ × Exp)) (post : Post) → AreStructs structs → length used ≤ 1073741824 →
+    length binding ≤ 268435456 → All (IsBound widest after) binding → IsPost widest structs before post → IsPostWellFormed structs after post (post_in_caller used apart binding post)

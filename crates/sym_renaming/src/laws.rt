@@ -1,6 +1,6 @@
 //! Laws of renaming apart, each the contract of a function that does nothing.
-ghost use Rattle.sym_renaming.specs.Laws.{ArgumentsStand, MatchIsCall, NumbersAreApart, PostBesideFrame, PostInCaller, PreInCaller, StateApartMeets};
-ghost use Rattle.sym_renaming.specs.Sizes.{CalledIsWithinSizes, FewBindingVariables, FewDistinct, FewHeapVariables, FewStateVariables, MappedHeapIsWellFormed, MappedIsWithinSizes, MappedPostIsWellFormed, MappedStateIsWellFormed, PostIsWithinSizes};
+ghost use Rattle.sym_renaming.specs.Laws.{ArgumentsStand, CoveringsAreApart, MatchIsCall, NumbersAreApart, PostBesideFrame, PostInCaller, PreInCaller, StateApartMeets};
+ghost use Rattle.sym_renaming.specs.Sizes.{CalledIsWellFormed, CalledIsWithinSizes, FewBindingVariables, FewDistinct, FewHeapVariables, FewStateVariables, MappedHeapIsWellFormed, MappedIsWithinSizes, MappedPostIsWellFormed, MappedStateIsWellFormed, PostIsWellFormed, PostIsWithinSizes};
 
 /// New numbers are existential, free, different, and the least: so there are as many below them, from 65,536 on, as are in use.
 pub fn numbers_are_apart()
@@ -25,9 +25,10 @@ pub fn post_in_caller()
     ensures beside { PostBesideFrame }
 {}
 
-/// A state with new numbers for its existential variables means the same.
+/// A state with new numbers for its existential variables means the same; coverings match such states.
 pub fn state_apart_means_the_same()
-    ensures { StateApartMeets }
+    ensures meaning { StateApartMeets }
+    ensures coverings { CoveringsAreApart }
 {}
 
 /// Heaps within the sizes have few variables, so that there is room for new numbers.
@@ -50,4 +51,10 @@ pub fn mapped_is_well_formed()
 pub fn called_is_within_sizes()
     ensures pre { CalledIsWithinSizes }
     ensures post { PostIsWithinSizes }
+{}
+
+/// What a spec is matched with, and its posts in the caller, are well formed, with as many parts as they have in the callee.
+pub fn called_is_well_formed()
+    ensures pre { CalledIsWellFormed }
+    ensures post { PostIsWellFormed }
 {}

@@ -1,10 +1,11 @@
 //! New existential variables: the least numbers that are not in use.
-ghost use Rattle.std.specs.Prelude.{◌≡◌, ◌++◌, ◌<◌, IfOk, length};
+ghost use Rattle.std.specs.Prelude.{◌≡◌, ◌++◌, ◌<◌, IfOk, length, map};
+ghost use Rattle.shape_data.specs.declared.symbolic.Exp.TheVariants.{Var};
 ghost use Rattle.sym_matching.specs.NewVariables.{HasRoom, first_free as first_free_of, fresh as fresh_of, fresh_variables as fresh_variables_of};
 
 use crate::reading::is_in;
 use shape_data::Row;
-use shape_data::symbolic::FIRST_EXISTENTIAL;
+use shape_data::symbolic::{Exp, FIRST_EXISTENTIAL};
 use std::alloc::{AllocError, Global};
 
 /// The least number from one on that is not in use.
@@ -47,4 +48,15 @@ pub fn fresh_variables(
         used.push(x)?;
     }
     Ok(names)
+}
+
+/// Variables as expressions.
+pub fn as_exps(alloc: Global, names: &[u32]) -> Result<Row<Exp>, AllocError>
+    ensures { IfOk result (λ all. all ≡ map Var names.now) }
+{
+    let mut all = Row::new(alloc);
+    for x in names {
+        all.push(Exp::Var(*x))?;
+    }
+    Ok(all)
 }

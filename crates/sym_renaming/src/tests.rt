@@ -3,6 +3,7 @@
 ghost use Rattle.std.specs.Prelude.{IfOk};
 ghost use Rattle.sym_matching.specs.Rooms.{IsWithinSizes};
 
+use crate::new_variables::as_exps;
 use crate::sizes::is_within_sizes;
 use crate::variables::add_state;
 use crate::{Bound, bound_exp, called_pre, numbers_apart, post_in_caller, state_apart};
@@ -132,5 +133,13 @@ fn what_is_not_bound_stands_for_itself(rt: HostRuntime) -> Result<(), Fail> {
     let bound = Bound { binding: &binding };
     let read = map_heap(alloc, &bound, &heap)?;
     assert!(rt; read == heap_of(&rt, alloc, Fact::Eq(E1, SEVEN), SEVEN, E2, E1)?);
+    Ok(())
+}
+
+#[test]
+fn variables_are_expressions(rt: HostRuntime) -> Result<(), Fail> {
+    let alloc = rt.alloc();
+    let all = as_exps(alloc, &[0, 65_536])?;
+    assert!(rt; all.as_slice() == [X, E1].as_slice());
     Ok(())
 }

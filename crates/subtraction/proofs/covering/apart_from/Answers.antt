@@ -1,18 +1,15 @@
--- The numbers have 32 bits.
-use Rattle.std.proofs.Common.{◌≡◌}
+-- The variables of the other state are few; the state with new numbers is the one that coverings match.
+use Rattle.std.proofs.Common.{◌≡◌, ◌∙◌, ap}
 use Rattle.std.proofs.lemmas.Result.{IfOk-weaker}
-use Rattle.sym_laws.specs.Mapped.{on_state}
-use Rattle.sym_matching.specs.Covers.{above, apart_from}
-use Rattle.subtraction.specs.Apart.{renumbered}
-use Rattle.subtraction.proofs.ApartLaws.{is_apart, variables_small}
+use Rattle.sym_matching.specs.Covers.{apart_from}
+use Rattle.sym_renaming.specs.Coverings.{state_apart}
+use Rattle.subtraction.proofs.StateConditions.{variables-few}
 use Rattle.subtraction.proofs.covering.apart_from.Goals as goal
 
-pub above-first-requires : goal.above-first-requires
-above-first-requires c = rw c.as_slice.ensures.value (variables_small c.in_ok-names.names.items c.args.a.now c.requires.a c.in_ok-names.ensures)
+pub state_apart-requires-clause-used : goal.state_apart-requires-clause-used
+state_apart-requires-clause-used c = rw c.as_slice.ensures.value (variables-few c.args.a.now c.in_ok-names.names.items c.requires.a c.in_ok-names.ensures)
 
 pub returns : goal.returns
 returns c =
-    let least : c.above-first.result ≡ above 65536 c.in_ok-names.names.items = rw c.as_slice.ensures.value at c.above-first.ensures in
-    IfOk-weaker c.map_state.result (λ s. s ≡ on_state (renumbered c.above-first.result) c.args.b.now) (λ s. s ≡ apart_from c.args.a.now c.args.b.now)
-    (λ s mapped. is_apart c.args.a.now c.args.b.now s c.in_ok-names.names.items c.above-first.result c.requires.a c.requires.b c.in_ok-names.ensures least mapped)
-    c.map_state.ensures
+    IfOk-weaker c.state_apart.result (λ s. s ≡ state_apart c.as_slice.result.now c.args.b.now) (λ s. s ≡ apart_from c.args.a.now c.args.b.now)
+    (λ s is. is ∙ ap (λ used. state_apart used c.args.b.now) (c.as_slice.ensures.value ∙ c.in_ok-names.ensures)) c.state_apart.ensures

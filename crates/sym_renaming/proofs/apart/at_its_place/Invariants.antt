@@ -1,5 +1,5 @@
 use Rattle.std.proofs.Common.{◌≡◌, drop}
-use Rattle.sym_renaming.specs.Apart.{at_its_place}
+use Rattle.sym_matching.specs.NewVariables.{at_its_place}
 use Rattle.sym_renaming.proofs.apart.at_its_place.Given as goal
 
 abbrev pub invariant-loop-place : goal.invariant-loop-place

@@ -1,5 +1,5 @@
 use Rattle.std.proofs.Common.{◌≡◌, drop}
-use Rattle.sym_renaming.specs.Apart.{distinct, distinct_behind}
+use Rattle.sym_matching.specs.NewVariables.{distinct, distinct_behind}
 use Rattle.sym_renaming.proofs.apart.distinct.Given as goal
 
 abbrev pub invariant-loop-x : goal.invariant-loop-x

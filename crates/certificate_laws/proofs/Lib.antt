@@ -1,0 +1,7 @@
+pub mod SamenessLaws
+pub mod CoveringLaws
+pub mod GapLaws
+pub mod LimitLaws
+pub mod ResultLaws
+pub mod LeadingLaws
+pub mod SoundnessLaws

@@ -1,0 +1,9 @@
+pub mod Sameness
+pub mod Coverings
+pub mod Coming
+pub mod Inductive
+pub mod Gaps
+pub mod Laws
+pub mod Limits
+pub mod Results
+pub mod Examples
