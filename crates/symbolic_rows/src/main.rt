@@ -1,0 +1,57 @@
+//! Worked rows of matching, of samples and of abstraction. Each line of standard input is a row: a question, and the answer that was worked for it
+//! by hand from the rules (or by a second program that shares nothing with this one). Rows with another answer are printed with
+//! what was found, and at the end how many rows agree. Lines that are empty or begin with `#` are no rows. [`rows`] says what a
+//! row is.
+#![tactic(auto)]
+
+mod abstractions;
+mod coverings;
+mod fault;
+mod matches;
+mod rows;
+mod samples;
+mod scope;
+mod told;
+
+use fault::Fault;
+use rows::question;
+use scope::Scope;
+use std::alloc::Global;
+use std::io::{self, BufRead, BufReader};
+
+/// Whether the row's answer is the one found; where it is not, it is printed.
+fn agrees(rt: &impl Print, alloc: Global, scope: &Scope, row: &str) -> Result<bool, Fault> {
+    match question(row) {
+        "subtract" => matches::subtracts(rt, alloc, scope, row, "subtract"),
+        "abduce" => matches::abduces(rt, alloc, scope, row, "abduce"),
+        "both" => matches::agree(rt, alloc, scope, row),
+        "state" => coverings::covers_as_state(alloc, scope, row),
+        "post" => coverings::covers_as_post(alloc, scope, row),
+        "sample" => samples::samples(rt, alloc, scope, row),
+        "head" => abstractions::abstracts_at_head(rt, alloc, scope, row),
+        "exit" => abstractions::abstracts_at_exit(rt, alloc, scope, row),
+        "pair" => abstractions::abstracts_pair(rt, alloc, scope, row),
+        "candidate" => abstractions::abstracts_candidate(rt, alloc, scope, row),
+        _ => Err(Fault::Row),
+    }
+}
+
+fn main(rt: HostRuntime) -> io::Result<()> {
+    let alloc = rt.alloc();
+    let Ok(scope) = Scope::new(alloc) else {
+        return println!(rt; "no scope");
+    };
+    let mut count = 0u32;
+    for line in BufReader::new(alloc, rt.reader())?.lines(alloc) {
+        let row = line?;
+        if row.is_empty() || row.starts_with('#') {
+            continue;
+        }
+        match agrees(&rt, alloc, &scope, row.as_str()) {
+            Ok(true) => count = count.saturating_add(1),
+            Ok(false) => println!(rt; "another answer: {row}")?,
+            Err(fault) => println!(rt; "{fault:?}: {row}")?,
+        }
+    }
+    println!(rt; "{count} rows agree")
+}

@@ -1,0 +1,153 @@
+//! Rows of subtraction and of abduction.
+use crate::fault::Fault;
+use crate::rows::{number, part, text};
+use crate::scope::{Scope, variables};
+use crate::told::is_told;
+use abduction::biabduce_avoiding;
+use matching_steps::sizes::{are_small_variables, is_small_binding, is_within_sizes};
+use shape_data::Row;
+use shape_data::symbolic::{Exp, SymHeap};
+use std::alloc::Global;
+use subtraction::subtract_avoiding;
+use sym_matching::{Abd, Sub};
+
+/// The flexible variables: `?11`, `?12` and `?13`.
+const FLEXIBLE: [u32; 3] = [65_546, 65_547, 65_548];
+
+/// What is asked: the heap, the wanted heap, and the bound variables.
+#[derive(Drop)]
+struct Asked {
+    a: SymHeap,
+    b: SymHeap,
+    bound: Row<(u32, Exp)>,
+}
+
+/// What the row asks; the heap stands behind the word.
+fn question_of(alloc: Global, scope: &Scope, row: &str, word: &str) -> Result<Asked, Fault> {
+    let a = scope.heap(alloc, text(row, word))?;
+    let b = scope.heap(alloc, text(row, "wanted"))?;
+    let bound = scope.binding(alloc, text(row, "bound"))?;
+    Ok(Asked { a, b, bound })
+}
+
+/// The further variables that new ones avoid.
+fn avoided(alloc: Global, scope: &Scope, row: &str) -> Result<Row<u32>, Fault> {
+    let list = scope.exps(alloc, part(row, "avoid").unwrap_or(""))?;
+    variables(alloc, list.as_slice())
+}
+
+/// What subtraction answers.
+fn subtracted(alloc: Global, asked: &Asked, avoid: &[u32]) -> Result<Sub, Fault> {
+    let bound = asked.bound.as_slice();
+    let flexible = FLEXIBLE;
+    if !is_within_sizes(&asked.a)
+        || !is_within_sizes(&asked.b)
+        || !is_small_binding(bound)
+        || !are_small_variables(&flexible)
+        || !are_small_variables(avoid)
+    {
+        return Err(Fault::Row);
+    }
+    Ok(subtract_avoiding(alloc, &asked.a, &asked.b, bound, &flexible, avoid)?)
+}
+
+/// What abduction answers.
+fn abduced(alloc: Global, asked: &Asked, fresh: u32, avoid: &[u32]) -> Result<Abd, Fault> {
+    let bound = asked.bound.as_slice();
+    let flexible = FLEXIBLE;
+    if !is_within_sizes(&asked.a)
+        || !is_within_sizes(&asked.b)
+        || !is_small_binding(bound)
+        || !are_small_variables(&flexible)
+        || !are_small_variables(avoid)
+        || fresh > 65_536
+    {
+        return Err(Fault::Row);
+    }
+    Ok(biabduce_avoiding(alloc, &asked.a, &asked.b, bound, &flexible, fresh, avoid)?)
+}
+
+/// What subtraction answers to the row.
+fn found_by_subtraction(alloc: Global, scope: &Scope, row: &str, word: &str) -> Result<Sub, Fault> {
+    let avoid = avoided(alloc, scope, row)?;
+    let question = question_of(alloc, scope, row, word)?;
+    subtracted(alloc, &question, avoid.as_slice())
+}
+
+/// What abduction answers to the row.
+fn found_by_abduction(alloc: Global, scope: &Scope, row: &str, word: &str) -> Result<Abd, Fault> {
+    let fresh = number(row, "fresh", 3).ok_or(Fault::Row)?;
+    let avoid = avoided(alloc, scope, row)?;
+    let question = question_of(alloc, scope, row, word)?;
+    abduced(alloc, &question, fresh, avoid.as_slice())
+}
+
+/// The frame and the binding of a row.
+fn frame_and_binding(
+    alloc: Global,
+    scope: &Scope,
+    row: &str,
+) -> Result<(SymHeap, Row<(u32, Exp)>), Fault> {
+    let frame = scope.heap(alloc, text(row, "frame"))?;
+    let binding = scope.binding(alloc, text(row, "binds"))?;
+    Ok((frame, binding))
+}
+
+/// The answer of a row of subtraction.
+fn told_of_subtraction(alloc: Global, scope: &Scope, row: &str) -> Result<Sub, Fault> {
+    if part(row, "stuck").is_some() {
+        let wanted = number(row, "stuck", 0).ok_or(Fault::Row)?;
+        return Ok(Sub::NoMatch { wanted });
+    }
+    let (frame, binding) = frame_and_binding(alloc, scope, row)?;
+    Ok(Sub::Match { frame, binding })
+}
+
+/// The answer of a row of abduction.
+fn told_of_abduction(alloc: Global, scope: &Scope, row: &str) -> Result<Abd, Fault> {
+    if part(row, "stuck").is_some() {
+        let wanted = number(row, "stuck", 0).ok_or(Fault::Row)?;
+        return Ok(Abd::NoMatch { wanted });
+    }
+    let missing = scope.heap(alloc, text(row, "missing"))?;
+    let (frame, binding) = frame_and_binding(alloc, scope, row)?;
+    Ok(Abd::Found {
+        missing,
+        frame,
+        binding,
+    })
+}
+
+/// Whether subtraction from the heap behind the word gives what the row tells.
+pub fn subtracts(
+    rt: &impl Print,
+    alloc: Global,
+    scope: &Scope,
+    row: &str,
+    word: &str,
+) -> Result<bool, Fault> {
+    let told = told_of_subtraction(alloc, scope, row)?;
+    let found = found_by_subtraction(alloc, scope, row, word)?;
+    is_told(rt, &found, &told)
+}
+
+/// Whether abduction in the heap behind the word gives what the row tells.
+pub fn abduces(
+    rt: &impl Print,
+    alloc: Global,
+    scope: &Scope,
+    row: &str,
+    word: &str,
+) -> Result<bool, Fault> {
+    let told = told_of_abduction(alloc, scope, row)?;
+    let found = found_by_abduction(alloc, scope, row, word)?;
+    is_told(rt, &found, &told)
+}
+
+/// Whether both give what the row tells; nothing is missing.
+pub fn agree(rt: &impl Print, alloc: Global, scope: &Scope, row: &str) -> Result<bool, Fault> {
+    if !subtracts(rt, alloc, scope, row, "both")? {
+        return Ok(false);
+    }
+    abduces(rt, alloc, scope, row, "both")
+}

@@ -1,0 +1,57 @@
+//! The parts of a row, with ` ; ` between them. A part is a word and a text. The first word asks the question:
+//!
+//! - `subtract HEAP ; wanted HEAP`, with the answer `frame HEAP ; binds FACTS` or `stuck NUMBER`;
+//! - `abduce HEAP ; wanted HEAP`, with the answer `missing HEAP ; frame HEAP ; binds FACTS` or `stuck NUMBER`;
+//! - `both HEAP ; wanted HEAP`, where subtraction and abduction have the same answer and nothing is missing;
+//! - `state HEAP ; locals EXPRESSIONS ; by HEAP ; slots EXPRESSIONS`, whether the second state covers the first: `yes` or `no`;
+//! - `post POST ; by POST`, whether the second post covers the first: `yes` or `no`;
+//! - `head HEAP ; locals EXPRESSIONS ; ints SLOTS ; dead SLOTS`, a state at the head of a loop with the int slots and the dead slots of
+//!   its mark, with the answer `gives HEAP ; slots EXPRESSIONS` or `none`;
+//! - `exit POST ; pointer STRUCTURE ; recursive`, a post at an exit: where there is no structure the result is an int, and `recursive` may be
+//!   left out, with the answer `gives POST` or `none`;
+//! - `pair HEAP ; locals EXPRESSIONS ; missing HEAP ; ints SLOTS ; dead SLOTS`, a pair at the head of a loop, with the answer
+//!   `gives HEAP ; slots EXPRESSIONS ; misses HEAP` or `none`;
+//! - `candidate HEAP`, a candidate of a recursive component, with the answer `gives HEAP` or `none`;
+//! - `sample HEAP`, with the answer `gives VALUES CELLS`, a cell being `ADDRESS:KIND(VALUE,VALUE,)`, or `none`.
+//!
+//! Heaps and posts are texts of `sym_text`; a part that is left out is `emp`. What variables are bound to is written as equations.
+//! `?11`, `?12` and `?13` are flexible. A match may also have `bound FACTS`, `avoid EXPRESSIONS` and `fresh NUMBER`, which is 3 where
+//! it is left out, so that the first new logical variable is `$1`.
+
+/// The text behind a word, if the part is of it.
+fn behind<'a>(part: &'a str, word: &str) -> Option<&'a str> {
+    let text = part.strip_prefix(word)?;
+    if text.is_empty() || text.starts_with(' ') {
+        Some(text.trim())
+    } else {
+        None
+    }
+}
+
+/// The text of the part with this word, if the row has it.
+pub fn part<'a>(row: &'a str, word: &str) -> Option<&'a str> {
+    for part in row.split(';') {
+        if let Some(text) = behind(part.trim(), word) {
+            return Some(text);
+        }
+    }
+    None
+}
+
+/// The text of the part with this word, or of no heap.
+pub fn text<'a>(row: &'a str, word: &str) -> &'a str {
+    part(row, word).unwrap_or("emp")
+}
+
+/// The first word.
+pub fn question(row: &str) -> &str {
+    row.split(' ').next().unwrap_or("")
+}
+
+/// The number behind a word, or another.
+pub fn number(row: &str, word: &str, otherwise: u32) -> Option<u32> {
+    match part(row, word) {
+        Some(digits) => digits.parse().ok(),
+        None => Some(otherwise),
+    }
+}
