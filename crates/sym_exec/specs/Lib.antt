@@ -1,0 +1,5 @@
+pub mod Accesses
+pub mod Callers
+pub mod InSetting
+pub mod Sizes
+pub mod Turns
