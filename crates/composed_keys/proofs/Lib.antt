@@ -3,3 +3,4 @@ pub mod Placed
 pub mod Noted
 pub mod Recursion
 pub mod Components
+pub mod Compared

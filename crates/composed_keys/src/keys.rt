@@ -1,5 +1,5 @@
 //! Keys made of components.
-ghost use Rattle.std.specs.Prelude.{◌≡◌, ◌<◌, length, All, IfOk, slice_get};
+ghost use Rattle.std.specs.Prelude.{◌≡◌, ◌<◌, ◌↔◌, IsTrue, length, All, IfOk, slice_get};
 ghost use Rattle.std.specs.List.{filter_map, list_any};
 ghost use Rattle.component_keys.specs.Keys.{flows_of, key_over};
 ghost use Rattle.composed_keys.specs.Used.{AreStructures};
@@ -9,7 +9,7 @@ use crate::rows::Structures;
 use crate::structures::used;
 use shape_data::answer::{Callee, Key};
 use shape_data::program::{Cmd, Flow, Node, Program};
-use shape_data::{Name, Row, copy_of};
+use shape_data::{Name, Row, copy_of, is_same};
 use std::alloc::{AllocError, Global};
 
 /// The procedures at these places.
@@ -76,4 +76,44 @@ pub fn key_of(
         structs,
         callees,
     })
+}
+
+/// Whether these are the procedures at these places.
+pub fn are_flows(program: &Program, members: &[u32], flows: &[Flow]) -> bool
+    requires { All (λ number. number < length program.now.procs) members.now }
+    ensures { IsTrue result ↔ (flows.now ≡ filter_map (slice_get (flows_of program.now)) members.now) }
+{
+    if flows.len() != members.len() {
+        return false;
+    }
+    for (place, number) in members.iter().enumerate() {
+        if !is_same(&flows[place], &program.procs[*number as usize].flow) {
+            return false;
+        }
+    }
+    true
+}
+
+/// Whether a key is that of the procedures at these places, over its own callees.
+pub fn is_key_of(
+    alloc: Global,
+    program: &Program,
+    structures: &Structures,
+    members: &[u32],
+    key: &Key,
+) -> Result<bool, AllocError>
+    requires small { length program.now.structs < 4294967296 }
+    requires members { All (λ number. number < length program.now.procs) members.now }
+    requires structures { AreStructures program.now.structs structures.now }
+    ensures { IfOk result (λ is. IsTrue is ↔ (key.now ≡ key_over program.now.structs (filter_map (slice_get (flows_of program.now)) members.now) key.now.callees)) }
+{
+    if !are_flows(program, members, &key.procs) {
+        return Ok(false);
+    }
+    let structs = used(alloc, &program.structs, structures, &key.procs, &key.callees)?;
+    let recursive = call_themselves(&key.procs);
+    if !is_same(&key.recursive, &recursive) {
+        return Ok(false);
+    }
+    Ok(is_same(&key.structs, &structs))
 }

@@ -9,7 +9,7 @@ pub mod structures;
 #[cfg(test)]
 mod tests;
 
-pub use keys::key_of;
+pub use keys::{are_flows, is_key_of, key_of};
 pub use programs::components_of;
 pub use rows::{Component, Outer, Structures};
 pub use structures::structures_of;

@@ -1,5 +1,5 @@
 //! The components and a key of a small program: `f` calls `g`, and `g` takes a pointer to `s`, which points to `r`.
-use crate::{components_of, key_of, structures_of};
+use crate::{are_flows, components_of, is_key_of, key_of, structures_of};
 use shape_data::answer::Key;
 use shape_data::program::{Cmd, Field, Flow, Node, Operand, Proc, Program, StructDef, Ty};
 use shape_data::{Name, Row, well_formed_program};
@@ -113,5 +113,7 @@ fn a_key_has_the_structures_used(rt: HostRuntime) -> Result<(), Fail> {
     assert_eq!(rt; key.structs.len(), 2);
     assert_eq!(rt; key.structs[0].name.as_bytes(), b"r".as_slice());
     assert_eq!(rt; key.structs[1].name.as_bytes(), b"s".as_slice());
+    assert!(rt; are_flows(&program, &[1], &key.procs));
+    assert!(rt; is_key_of(alloc, &program, &structures, &[1], &key)?);
     Ok(())
 }

@@ -1,0 +1,10 @@
+pub mod Aims
+pub mod Views
+pub mod Places
+pub mod Rows
+pub mod Book
+pub mod Next
+pub mod Settled
+pub mod Found
+pub mod Moved
+pub mod Held

@@ -1,0 +1,28 @@
+-- What contracts see of a book.
+use Rattle.std.specs.Prelude.{ℕ, List, ◌==◌, ◌&&◌, Bool}
+use Rattle.std.specs.List.{list_any}
+use Rattle.shape_data.specs.declared.answer.Kept.{Kept}
+use Rattle.component_keys.specs.Tests.{key_test}
+use Rattle.claim_core.specs.Views.{Claimed, Solution}
+use Rattle.claim_laws.specs.World.{World, Event, Slot, Out}
+
+-- the log, and how many components are marked as settled
+pub record Contents : Type 0 where
+  pub log : List Event
+  pub marked : ℕ
+
+-- the outstanding claim has the number and the key
+abbrev pub is_claim : Claimed → Out → Bool
+is_claim claim out = out.number == claim.number && key_test.0 out.key claim.key
+
+-- an outstanding claim has the number and the key
+abbrev pub is_own : World → Claimed → Bool
+is_own world claim = list_any (is_claim claim) world.out
+
+-- a key with its answer
+abbrev pub solution_of : Kept → Solution
+solution_of kept = record { key = kept.key.value; answer = kept.answer.value }
+
+-- the same of a slot
+abbrev pub slot_solution : Slot → Solution
+slot_solution slot = record { key = slot.key; answer = slot.answer }
