@@ -110,7 +110,13 @@ pub fn is_key_of(
     if !are_flows(program, members, &key.procs) {
         return Ok(false);
     }
-    let structs = used(alloc, &program.structs, structures, &key.procs, &key.callees)?;
+    let structs = used(
+        alloc,
+        &program.structs,
+        structures,
+        &key.procs,
+        &key.callees,
+    )?;
     let recursive = call_themselves(&key.procs);
     if !is_same(&key.recursive, &recursive) {
         return Ok(false);
