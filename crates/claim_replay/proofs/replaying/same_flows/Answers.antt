@@ -1,0 +1,6 @@
+use Rattle.component_keys.specs.Tests.{flows_test}
+use Rattle.claim_replay.proofs.Firsts.{same_test}
+use Rattle.claim_replay.proofs.replaying.same_flows.Goals as goal
+
+pub returns : goal.returns
+returns c = same_test flows_test c.args.one.now c.args.other.now c.is_same.result c.is_same.ensures
