@@ -97,9 +97,6 @@ module _ (args : List Exp) (pair : Pair) (spec : Spec) (used : List ℕ) (called
     subtracted_is : fit_of_sub pair spec called.numbers answer ≡ subtracted args pair spec
     subtracted_is = rw (is, is_called, is_used) refl
 
-    pub subtracted_none : (wanted : ℕ) → answer ≡ sub.NoMatch wanted → None ≡ subtracted args pair spec
-    subtracted_none wanted same = rw same at subtracted_is
-
     pub subtracted_some : (frame missing : SymHeap) (binding : List (ℕ × Exp)) (posts : List Post) → answer ≡ sub.Match frame binding → missing ≡ pair.missing → posts ≡ spec.posts →
         Some (made_fit missing frame called.numbers binding posts) ≡ subtracted args pair spec
     subtracted_some frame missing binding posts same copied all = fit_same missing pair.missing frame called.numbers binding posts spec.posts copied all ∙ (rw same at subtracted_is)
@@ -107,9 +104,6 @@ module _ (args : List Exp) (pair : Pair) (spec : Spec) (used : List ℕ) (called
   module _ (setting : Setting) (first : ℕ) (is_first : first ≡ new_logical setting.params pair) (answer : Abd) (is : answer ≡ biabduce_avoiding pair.state.heap called.pre called.bound called.flexible first used) where
     found_is : fit_of_abd pair spec called.numbers answer ≡ found setting args pair spec
     found_is = rw (is, is_called, is_first, is_used) refl
-
-    pub found_none : (wanted : ℕ) → answer ≡ abd.NoMatch wanted → None ≡ found setting args pair spec
-    found_none wanted same = rw same at found_is
 
     pub found_clashes : (missing frame : SymHeap) (binding : List (ℕ × Exp)) → answer ≡ abd.Found missing frame binding → contradicts (beside pair.missing missing) ≡ true → None ≡ found setting args pair spec
     found_clashes missing frame binding same clash = let there : fit_of_abd pair spec called.numbers (abd.Found missing frame binding) ≡ found setting args pair spec = rw same at found_is in rw clash at there
