@@ -1,0 +1,4 @@
+pub mod AnswerLaws
+pub mod GivenLaws
+pub mod Starts
+pub mod Turns

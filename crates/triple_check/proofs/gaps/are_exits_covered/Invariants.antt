@@ -1,0 +1,8 @@
+use Rattle.std.proofs.Common.{◌≡◌, drop}
+use Rattle.std.specs.List.{list_all}
+use Rattle.certificate_laws.specs.Gaps.{is_exit_covered}
+use Rattle.triple_check.specs.InTask.{task_in}
+use Rattle.triple_check.proofs.gaps.are_exits_covered.Given as goal
+
+abbrev pub invariant-loop-exit : goal.invariant-loop-exit
+invariant-loop-exit l = list_all (is_exit_covered (task_in l.task) l.cert) l.exits ≡ list_all (is_exit_covered (task_in l.task) l.cert) (drop l.exit-index l.exits)

@@ -1,0 +1,8 @@
+use Rattle.std.proofs.Common.{◌≡◌, drop}
+use Rattle.certificate_laws.specs.Gaps.{first_found, node_gap, state_gap}
+use Rattle.triple_check.specs.InTask.{task_in}
+use Rattle.triple_check.proofs.gaps.node_gap.Given as goal
+
+abbrev pub invariant-loop-state : goal.invariant-loop-state
+invariant-loop-state l =
+    node_gap (task_in l.task) l.cert l.at l.states ≡ first_found (λ place state. state_gap (task_in l.task) l.cert l.at state) l.state-index (drop l.state-index l.states)

@@ -1,0 +1,39 @@
+-- What the checks ask of their arguments: well-formedness, with at most 96 parts in each heap that is given.
+use Rattle.std.specs.Prelude.{length}
+use Rattle.shape_data.specs.declared.answer.Callee.{Callee}
+use Rattle.shape_data.specs.declared.answer.ProcSummary.{ProcSummary}
+use Rattle.shape_data.specs.declared.symbolic.Cert.{Cert}
+use Rattle.shape_data.specs.declared.symbolic.Post.{Post}
+use Rattle.shape_data.specs.declared.symbolic.Spec.{Spec}
+use Rattle.shape_data.specs.declared.symbolic.SymState.{SymState}
+use Rattle.shape_data.specs.WellFormed.{AreStructs, FitCalls, IsCert, IsFlow, IsPost, IsSpec, IsState, IsSummary, widest}
+use Rattle.exec_laws.specs.Laws.{IsTableWithin, callees_of}
+use Rattle.certificate_laws.specs.Coming.{Task}
+use Rattle.certificate_laws.specs.Limits.{analysable}
+
+-- the analysis of a procedure is well formed: structures, flow, and the table, which each call fits
+pub record IsTask (task : Task) : Type 0 where
+  pub structs : AreStructs task.structs
+  pub flow : IsFlow task.structs task.flow
+  pub table : IsTableWithin task.structs 96 task.table
+  pub fits : FitCalls (λ (one : Callee). one.name) (λ (one : Callee). one.params) (callees_of task.table) task.flow
+
+-- a well-formed state of the procedure
+abbrev pub IsTaskState : Task → SymState → Type 0
+IsTaskState task state = IsState widest task.structs (length task.flow.params) (length task.flow.slots) state
+
+-- a well-formed post of the procedure
+abbrev pub IsTaskPost : Task → Post → Type 0
+IsTaskPost task post = IsPost widest task.structs (length task.flow.params) post
+
+-- a certificate of the procedure, with at most 96 parts in each heap
+abbrev pub IsTaskCert : Task → Cert → Type 0
+IsTaskCert task cert = IsCert analysable task.structs task.flow cert
+
+-- a spec of the procedure, with at most 96 parts in each heap
+abbrev pub IsTaskSpec : Task → Spec → Type 0
+IsTaskSpec task spec = IsSpec analysable task.structs (length task.flow.params) spec
+
+-- a summary of the procedure, with at most 96 parts in each heap
+abbrev pub IsTaskSummary : Task → ProcSummary → Type 0
+IsTaskSummary task summary = IsSummary analysable task.structs task.flow summary
