@@ -94,7 +94,7 @@ canon-fits structs params slots state are few is =
     })
     is
 
-start_form_is_well_formed : (task : Task) (pre : SymHeap) (form : SymState) → AreStructs task.structs → IsFlow task.structs task.flow →
+pub start_form_is_well_formed : (task : Task) (pre : SymHeap) (form : SymState) → AreStructs task.structs → IsFlow task.structs task.flow →
     IsSymHeap widest task.structs (length task.flow.params) pre → start_form task.flow pre ≡ Some form →
     IsState widest task.structs (length task.flow.params) (length task.flow.slots) form
 start_form_is_well_formed task pre form are is_flow is_pre h =

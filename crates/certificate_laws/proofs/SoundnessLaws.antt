@@ -49,7 +49,7 @@ use Rattle.certificate_laws.proofs.LeadingLaws.{at_exit-weakens, at_node-weakens
 -- ---- calls
 
 -- a call that fits the procedures and the callees of a key fits their table
-fits-both : (flows : List Flow) (outer own : List Callee) (command : Cmd) →
+pub fits-both : (flows : List Flow) (outer own : List Callee) (command : Cmd) →
     ((name : List ℕ) (args : ℕ) → All (λ (flow : Flow). flow.name ≡ name → length flow.params ≡ args) flows → All (λ (one : Callee). one.name ≡ name → length one.params ≡ args) own) →
     FitsCall (λ (one : Flow). one.name) (λ (one : Flow). one.params) flows command → FitsCall (λ (one : Callee). one.name) (λ (one : Callee). one.params) outer command →
     FitsCall (λ (one : Callee). one.name) (λ (one : Callee). one.params) (own ++ outer) command
