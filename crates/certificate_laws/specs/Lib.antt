@@ -1,9 +1,10 @@
-pub mod Sameness
-pub mod Coverings
 pub mod Coming
-pub mod Inductive
+pub mod Conditions
+pub mod Coverings
+pub mod Examples
 pub mod Gaps
+pub mod Inductive
 pub mod Laws
 pub mod Limits
 pub mod Results
-pub mod Examples
+pub mod Sameness

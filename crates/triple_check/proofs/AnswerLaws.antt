@@ -28,7 +28,7 @@ use Rattle.certificate_laws.specs.Limits.{analysable}
 use Rattle.certificate_laws.proofs.GapLaws.{no_gap}
 use Rattle.certificate_laws.proofs.LimitLaws as limits
 use Rattle.certificate_laws.proofs.SoundnessLaws.{fits-both, inductive_is_valid}
-use Rattle.triple_check.specs.Conditions.{IsTask}
+use Rattle.certificate_laws.specs.Conditions.{IsTask}
 
 module _ (key : Key) (answer : Answer) (is_key : IsKey analysable key) (is_answer : IsAnswer analysable key answer) where
   summary-of : (place : ℕ) (flow : Flow) (summary : ProcSummary) → slice_get key.procs place ≡ Some flow → slice_get answer.procs place ≡ Some summary → IsSummary analysable key.structs flow summary

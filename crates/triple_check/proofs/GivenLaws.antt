@@ -34,8 +34,7 @@ use Rattle.certificate_laws.specs.Inductive.{execution}
 use Rattle.certificate_laws.specs.Limits.{IsWider, analysable}
 use Rattle.certificate_laws.proofs.LimitLaws as limits
 use Rattle.certificate_laws.proofs.ResultLaws.{normal_post_is_well_formed, normal_state_is_well_formed, start_form_is_well_formed}
-use Rattle.triple_check.specs.Conditions.{IsTask, IsTaskCert, IsTaskPost, IsTaskSpec, IsTaskState}
-use Rattle.triple_check.specs.Steps.{AreNexts, IsGivenState, IsGivenStep}
+use Rattle.certificate_laws.specs.Conditions.{AreNexts, IsGivenState, IsGivenStep, IsTask, IsTaskCert, IsTaskPost, IsTaskSpec, IsTaskState}
 
 -- what is within the limits of the analysis is well formed; and so is what has twice as many parts
 known : IsWider analysable widest

@@ -1,3 +1,2 @@
-pub mod Conditions
 pub mod InTask
 pub mod Steps

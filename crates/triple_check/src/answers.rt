@@ -6,7 +6,7 @@ ghost use Rattle.sound_laws.specs.Answers.{AreValidIn, StandsIn, own_callees as 
 ghost use Rattle.certificate_laws.specs.Gaps.{first_gap as first_gap_of, summary_gap as summary_gap_of};
 ghost use Rattle.certificate_laws.specs.Inductive.{Inductive, table_of as table_of_answer};
 ghost use Rattle.certificate_laws.specs.Limits.{analysable};
-ghost use Rattle.triple_check.specs.Conditions.{IsTask, IsTaskSummary};
+ghost use Rattle.certificate_laws.specs.Conditions.{IsTask, IsTaskSummary};
 ghost use Rattle.triple_check.specs.InTask.{task_in};
 
 use crate::coming::Task;

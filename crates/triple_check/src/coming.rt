@@ -7,7 +7,7 @@ ghost use Rattle.sym_canon.specs.Canonical.{as_state as as_state_of};
 ghost use Rattle.abstraction_laws.specs.Heads.{post_of as post_of_state};
 ghost use Rattle.sound_laws.specs.Certificates.{start_state as start_state_of};
 ghost use Rattle.certificate_laws.specs.Coming.{at_exit as at_exit_of, at_node as at_node_of, normal_post as normal_post_of, normal_state as normal_state_of, start_at_node as start_at_node_of, start_form as start_form_of};
-ghost use Rattle.triple_check.specs.Conditions.{IsTask, IsTaskPost, IsTaskState};
+ghost use Rattle.certificate_laws.specs.Conditions.{IsTask, IsTaskPost, IsTaskState};
 ghost use Rattle.triple_check.specs.InTask.{task_in, variables_below};
 
 use exec_laws::Table;

@@ -3,7 +3,7 @@ use Rattle.std.specs.declared.option.Option.{Option}
 use Rattle.std.proofs.lemmas.Result.{IfOk-weaker}
 use Rattle.shape_data.specs.declared.symbolic.Post.{Post}
 use Rattle.certificate_laws.specs.Coming as coming
-use Rattle.triple_check.specs.Conditions.{IsTaskPost}
+use Rattle.certificate_laws.specs.Conditions.{IsTaskPost}
 use Rattle.triple_check.specs.InTask.{task_in}
 use Rattle.triple_check.proofs.GivenLaws.{exit-given, post-room}
 use Rattle.triple_check.proofs.coming.at_exit.Goals as goal

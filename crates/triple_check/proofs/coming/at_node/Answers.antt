@@ -3,7 +3,7 @@ use Rattle.std.specs.declared.option.Option.{Option}
 use Rattle.std.proofs.lemmas.Result.{IfOk-weaker}
 use Rattle.shape_data.specs.declared.symbolic.SymState.{SymState}
 use Rattle.abstraction_laws.specs.Heads.{abstract_head}
-use Rattle.triple_check.specs.Conditions.{IsTaskState}
+use Rattle.certificate_laws.specs.Conditions.{IsTaskState}
 use Rattle.triple_check.specs.InTask.{task_in}
 use Rattle.triple_check.proofs.GivenLaws.{head-given, state-room}
 use Rattle.triple_check.proofs.coming.at_node.Goals as goal

@@ -1,7 +1,7 @@
 use Rattle.std.proofs.Common.{rules}
 use Rattle.std.proofs.lemmas.List.Elements.{All-same}
 use Rattle.subtraction.specs.Conditions.{IsPostWithinSizes}
-use Rattle.triple_check.specs.Conditions.{IsTaskPost}
+use Rattle.certificate_laws.specs.Conditions.{IsTaskPost}
 use Rattle.triple_check.specs.InTask.{task_in}
 use Rattle.triple_check.proofs.GivenLaws.{exits-sizes, post-sizes}
 use Rattle.triple_check.proofs.gaps.is_exit_covered.Goals as goal

@@ -1,5 +1,5 @@
--- What the checks ask of their arguments: well-formedness, with at most 96 parts in each heap that is given.
-use Rattle.std.specs.Prelude.{length}
+-- The analysis of a procedure is well formed, and so is what it works on: at most 96 parts in each heap that is given.
+use Rattle.std.specs.Prelude.{ℕ, List, length, All}
 use Rattle.shape_data.specs.declared.answer.Callee.{Callee}
 use Rattle.shape_data.specs.declared.answer.ProcSummary.{ProcSummary}
 use Rattle.shape_data.specs.declared.symbolic.Cert.{Cert}
@@ -7,6 +7,8 @@ use Rattle.shape_data.specs.declared.symbolic.Post.{Post}
 use Rattle.shape_data.specs.declared.symbolic.Spec.{Spec}
 use Rattle.shape_data.specs.declared.symbolic.SymState.{SymState}
 use Rattle.shape_data.specs.WellFormed.{AreStructs, FitCalls, IsCert, IsFlow, IsPost, IsSpec, IsState, IsSummary, widest}
+use Rattle.exec_laws.specs.declared.parts.Step.{Step}
+use Rattle.exec_laws.specs.declared.parts.Step.TheVariants as step
 use Rattle.exec_laws.specs.Laws.{IsTableWithin, callees_of}
 use Rattle.certificate_laws.specs.Coming.{Task}
 use Rattle.certificate_laws.specs.Limits.{analysable}
@@ -37,3 +39,22 @@ IsTaskSpec task spec = IsSpec analysable task.structs (length task.flow.params) 
 -- a summary of the procedure, with at most 96 parts in each heap
 abbrev pub IsTaskSummary : Task → ProcSummary → Type 0
 IsTaskSummary task summary = IsSummary analysable task.structs task.flow summary
+
+-- WHAT AN EXECUTION IS GIVEN, AND WHAT IT GIVES
+
+-- a state of the procedure with at most 96 parts
+abbrev pub IsGivenState : Task → SymState → Type 0
+IsGivenState task state = IsState analysable task.structs (length task.flow.params) (length task.flow.slots) state
+
+-- a post of the procedure with at most 96 parts
+abbrev pub IsGivenPost : Task → Post → Type 0
+IsGivenPost task post = IsPost analysable task.structs (length task.flow.params) post
+
+-- states with their nodes are well formed
+abbrev pub AreNexts : Task → List (ℕ × SymState) → Type 0
+AreNexts task nexts = All (λ (next : ℕ × SymState). IsTaskState task next.1) nexts
+
+-- what an execution gives is well formed
+abbrev pub IsGivenStep : Task → Step → Type 0
+IsGivenStep task (step.Next nexts exits) = AreNexts task nexts × All (IsTaskPost task) exits
+IsGivenStep task (step.Fail cause line) = Unit {0}

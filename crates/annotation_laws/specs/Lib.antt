@@ -1,0 +1,3 @@
+pub mod Annotation
+pub mod Laws
+pub mod Listing

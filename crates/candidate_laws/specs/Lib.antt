@@ -1,0 +1,5 @@
+pub mod Candidates
+pub mod Coming
+pub mod Conditions
+pub mod Laws
+pub mod Searching
