@@ -21,7 +21,8 @@ spec_of pre posts = record { pre = pre; posts = posts }
 -- what is done is an inductive certificate of the precondition with the posts, under the table that was used, cut or not
 abbrev pub DoneIsInductive : Type 0
 DoneIsInductive =
-    (task : Task) (pre : SymHeap) (posts : List Post) (cert : Cert) → annotate task pre ≡ Done posts cert → IsInductiveCert task (spec_of pre posts) cert
+    (task : Task) (pre : SymHeap) (posts : List Post) (cert : Cert) → IsTask task → IsSymHeap analysable task.structs (length task.flow.params) pre →
+    annotate task pre ≡ Done posts cert → IsInductiveCert task (spec_of pre posts) cert
 
 -- it is well formed, with at most 96 parts in each heap, where the precondition is
 abbrev pub DoneIsWellFormed : Type 0

@@ -1,5 +1,5 @@
 -- The analysis of a procedure is well formed, and so is what it works on: at most 96 parts in each heap that is given.
-use Rattle.std.specs.Prelude.{ℕ, List, length, All}
+use Rattle.std.specs.Prelude.{ℕ, ◌<◌, List, length, All}
 use Rattle.shape_data.specs.declared.answer.Callee.{Callee}
 use Rattle.shape_data.specs.declared.answer.ProcSummary.{ProcSummary}
 use Rattle.shape_data.specs.declared.symbolic.Cert.{Cert}
@@ -58,3 +58,8 @@ AreNexts task nexts = All (λ (next : ℕ × SymState). IsTaskState task next.1)
 abbrev pub IsGivenStep : Task → Step → Type 0
 IsGivenStep task (step.Next nexts exits) = AreNexts task nexts × All (IsTaskPost task) exits
 IsGivenStep task (step.Fail cause line) = Unit {0}
+
+-- it goes on at nodes of the procedure
+abbrev pub GoesOnWithin : Task → Step → Type 0
+GoesOnWithin task (step.Next nexts exits) = All (λ (next : ℕ × SymState). next.0 < length task.flow.nodes) nexts
+GoesOnWithin task (step.Fail cause line) = Unit {0}

@@ -1,4 +1,4 @@
 pub mod AnswerLaws
-pub mod GivenLaws
+pub mod SizeLaws
 pub mod Starts
 pub mod Turns

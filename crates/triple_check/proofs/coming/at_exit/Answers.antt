@@ -5,7 +5,7 @@ use Rattle.shape_data.specs.declared.symbolic.Post.{Post}
 use Rattle.certificate_laws.specs.Coming as coming
 use Rattle.certificate_laws.specs.Conditions.{IsTaskPost}
 use Rattle.triple_check.specs.InTask.{task_in}
-use Rattle.triple_check.proofs.GivenLaws.{exit-given, post-room}
+use Rattle.certificate_laws.proofs.GivenLaws.{exit-given, post-room}
 use Rattle.triple_check.proofs.coming.at_exit.Goals as goal
 
 pub abstract_exit-requires-clause-sizes : goal.abstract_exit-requires-clause-sizes

@@ -5,7 +5,7 @@ use Rattle.shape_data.specs.declared.symbolic.SymState.{SymState}
 use Rattle.abstraction_laws.specs.Heads.{abstract_head}
 use Rattle.certificate_laws.specs.Conditions.{IsTaskState}
 use Rattle.triple_check.specs.InTask.{task_in}
-use Rattle.triple_check.proofs.GivenLaws.{head-given, state-room}
+use Rattle.certificate_laws.proofs.GivenLaws.{head-given, state-room}
 use Rattle.triple_check.proofs.coming.at_node.Goals as goal
 
 pub abstract_head-requires-clause-sizes : goal.abstract_head-requires-clause-sizes

@@ -5,7 +5,7 @@ use Rattle.std.proofs.Common.{rules}
 use Rattle.shape_data.specs.declared.symbolic.SymState.{SymState}
 use Rattle.certificate_laws.specs.Coming.{start_form}
 use Rattle.triple_check.specs.InTask.{task_in}
-use Rattle.triple_check.proofs.GivenLaws.{start-given}
+use Rattle.certificate_laws.proofs.GivenLaws.{start-given}
 use Rattle.triple_check.proofs.coming.start_at_node.Goals as goal
 
 pub at_node-requires-clause-state : goal.at_node-requires-clause-state

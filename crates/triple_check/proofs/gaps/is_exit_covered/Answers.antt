@@ -3,7 +3,7 @@ use Rattle.std.proofs.lemmas.List.Elements.{All-same}
 use Rattle.subtraction.specs.Conditions.{IsPostWithinSizes}
 use Rattle.certificate_laws.specs.Conditions.{IsTaskPost}
 use Rattle.triple_check.specs.InTask.{task_in}
-use Rattle.triple_check.proofs.GivenLaws.{exits-sizes, post-sizes}
+use Rattle.triple_check.proofs.SizeLaws.{exits-sizes, post-sizes}
 use Rattle.triple_check.proofs.gaps.is_exit_covered.Goals as goal
 
 pub is_post_covered-requires-clause-posts : goal.is_post_covered-requires-clause-posts

@@ -21,8 +21,6 @@ use Rattle.abstraction_laws.specs.Heads.{abstract_exit, abstract_head}
 use Rattle.abstraction_laws.specs.Rooms.{IsWithinRoom}
 use Rattle.abstraction_laws.proofs.RoomLaws.{well_formed_is_within_room}
 use Rattle.abstraction_laws.proofs.WellFormedResults.{abstract_exit_is_well_formed, abstract_head_is_well_formed}
-use Rattle.subtraction.specs.Conditions.{IsPostWithinSizes, IsStateWithinSizes}
-use Rattle.subtraction.proofs.StateConditions.{post_within, state_within}
 use Rattle.exec_laws.specs.declared.parts.Step.{Step}
 use Rattle.exec_laws.specs.declared.parts.Step.TheVariants as step
 use Rattle.exec_laws.specs.Execution.{exec}
@@ -34,7 +32,7 @@ use Rattle.certificate_laws.specs.Inductive.{execution}
 use Rattle.certificate_laws.specs.Limits.{IsWider, analysable}
 use Rattle.certificate_laws.proofs.LimitLaws as limits
 use Rattle.certificate_laws.proofs.ResultLaws.{normal_post_is_well_formed, normal_state_is_well_formed, start_form_is_well_formed}
-use Rattle.certificate_laws.specs.Conditions.{AreNexts, IsGivenState, IsGivenStep, IsTask, IsTaskCert, IsTaskPost, IsTaskSpec, IsTaskState}
+use Rattle.certificate_laws.specs.Conditions.{AreNexts, GoesOnWithin, IsGivenState, IsGivenStep, IsTask, IsTaskCert, IsTaskPost, IsTaskSpec, IsTaskState}
 
 -- what is within the limits of the analysis is well formed; and so is what has twice as many parts
 known : IsWider analysable widest
@@ -67,12 +65,6 @@ module _ (task : Task) (good : IsTask task) where
   pub post-room : (post : Post) → IsTaskPost task post → IsWithinRoom (as_state post)
   post-room post is = well_formed_is_within_room task.structs params 1 (as_state post) good.structs (omega arith) (as_one post is)
 
-  pub state-sizes : (state : SymState) → IsTaskState task state → IsStateWithinSizes state
-  state-sizes state is = state_within task.structs params slots state good.structs good.flow.slots is
-
-  pub post-sizes : (post : Post) → IsTaskPost task post → IsPostWithinSizes post
-  post-sizes post is = post_within task.structs params post good.structs is
-
   pub head-given : (state : SymState) (mark : HeadMark) → IsTaskState task state → (made : Option SymState) → made ≡ abstract_head state task.flow mark task.structs → IfSome made (IsTaskState task)
   head-given state mark is None same = tt
   head-given state mark is (Some form) same = abstract_head_is_well_formed task.structs task.structs slots state form task.flow mark good.structs good.flow.slots is (sym same)
@@ -90,18 +82,13 @@ module _ (task : Task) (good : IsTask task) where
     pub node-given : (at : ℕ) (states : List SymState) → slice_get cert.nodes at ≡ Some states → All (IsGivenState task) states
     node-given at states is = (All-at (AreStates analysable task.structs params slots) cert.nodes at states is_cert.nodes is).each
 
-    pub node-sizes : (at : ℕ) (states : List SymState) → slice_get cert.nodes at ≡ Some states → All IsStateWithinSizes states
-    node-sizes at states is = All-weaker (IsGivenState task) IsStateWithinSizes (λ state given. state-sizes state (state-wide state given)) states (node-given at states is)
-
     pub exits-wide : All (IsTaskPost task) cert.exits
     exits-wide = All-weaker (IsPost analysable task.structs params) (IsTaskPost task) post-wide cert.exits is_cert.exits
 
-    pub exits-sizes : All IsPostWithinSizes cert.exits
-    exits-sizes = All-weaker (IsTaskPost task) IsPostWithinSizes post-sizes cert.exits exits-wide
 
   module _ (spec : Spec) (is_spec : IsTaskSpec task spec) where
-    pub posts-sizes : All IsPostWithinSizes spec.posts
-    posts-sizes = All-weaker (IsPost analysable task.structs params) IsPostWithinSizes (λ post given. post-sizes post (post-wide post given)) spec.posts is_spec.posts
+    pub posts-wide : All (IsTaskPost task) spec.posts
+    posts-wide = All-weaker (IsPost analysable task.structs params) (IsTaskPost task) post-wide spec.posts is_spec.posts
 
     pub pre-wide : IsSymHeap widest task.structs params spec.pre
     pre-wide = limits.heap analysable widest known params task.structs spec.pre is_spec.pre
@@ -134,3 +121,19 @@ module _ (task : Task) (good : IsTask task) where
           let no_nexts : nexts ≡ [] = cc in
           let no_exits : exits ≡ [] = cc in
           (All-same (λ (next : ℕ × SymState). IsTaskState task next.1) nexts [] no_nexts (All-nil (λ (next : ℕ × SymState). IsTaskState task next.1)), All-same (IsTaskPost task) exits [] no_exits (All-nil (IsTaskPost task)))
+
+  -- it goes on at nodes of the procedure
+  pub step-within : (at : ℕ) (form : SymState) → IsGivenState task form → (one : Step) → one ≡ execution task at form → GoesOnWithin task one
+  step-within at form is (step.Fail cause line) same = tt
+  step-within at form is (step.Next nexts exits) same = by_node (slice_get task.flow.nodes at) refl
+    where
+      by_node : (o : Option Node) → slice_get task.flow.nodes at ≡ o → All (λ (next : ℕ × SymState). next.0 < length task.flow.nodes) nexts
+      by_node (Some node) is_node =
+          let fits = All-at (λ (one : Node). FitsCall (λ (it : Callee). it.name) (λ (it : Callee). it.params) (callees_of task.table) one.cmd) task.flow.nodes at node good.fits is_node in
+          let made = all_answers_are_well_formed task.flow task.structs at node form task.table nexts exits 96 96 good.structs good.flow is_node good.table fits (omega arith) (omega arith) (omega arith) is (sym same) in
+          All-weaker (λ (next : ℕ × SymState). (next.0 < length task.flow.nodes) × IsState (with_parts (96 + 96)) task.structs params slots next.1) (λ (next : ℕ × SymState). next.0 < length task.flow.nodes)
+              (λ next both. both.0) nexts made.0
+      by_node None none =
+          let nothing : step.Next [] [] ≡ step.Next nexts exits = rw none at (sym same) in
+          let no_nexts : nexts ≡ [] = cc in
+          All-same (λ (next : ℕ × SymState). next.0 < length task.flow.nodes) nexts [] no_nexts (All-nil (λ (next : ℕ × SymState). next.0 < length task.flow.nodes))
