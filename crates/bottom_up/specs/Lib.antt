@@ -1,0 +1,2 @@
+pub mod BottomUp
+pub mod Laws
