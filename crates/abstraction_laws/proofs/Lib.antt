@@ -1,3 +1,4 @@
+pub mod AtomsLaws
 pub mod DoneLaws
 pub mod FewLaws
 pub mod ForgetLaws

@@ -85,7 +85,7 @@ abstract_exit_is_normal post answer flow kinds recursive h =
     let form_normal : is_normal (as_state (post_of post.ret is.form)) ≡ true = subst (λ s. is_normal s ≡ true) (sym same) (form_is_normal (at_exit recursive kinds flow post) is.form is.form_is) in
     subst (λ made. is_normal (as_state made) ≡ true) is.made (canon_state_is_normal (as_state (post_of post.ret is.form)) (length flow.params) form_normal)
 
-missing-normal : (params : ℕ) (pair answer : Pair) → params ≤ 65536 → pair_in_forms params pair ≡ Some answer → is_normal (without_locals answer.missing) ≡ true
+pub missing-normal : (params : ℕ) (pair answer : Pair) → params ≤ 65536 → pair_in_forms params pair ≡ Some answer → is_normal (without_locals answer.missing) ≡ true
 missing-normal params pair answer few h = by_form (pair_form params pair) refl h
   where
     by_form : (o : Option Pair) → pair_form params pair ≡ o → option_map (canon_of params) o ≡ Some answer → is_normal (without_locals answer.missing) ≡ true
@@ -124,7 +124,7 @@ filter-shorter test (x ∷ xs) h = by_test (test x) refl h (filter-short test xs
     by_test true e k few go_on = let rest : list_all test xs ≡ false = rw e at k in let less : length (filter test xs) < length xs = go_on rest in rw e (omega (arith, less))
     by_test false e k few go_on = rw e (omega (arith, few))
 
-kept-short : (locals : List Exp) (atoms : List Atom) → length (keep_reached locals atoms) ≤ length atoms
+pub kept-short : (locals : List Exp) (atoms : List Atom) → length (keep_reached locals atoms) ≤ length atoms
 kept-short locals atoms = by_test (list_all (is_kept (seen_from locals atoms)) atoms) refl
   where
     by_test : (b : Bool) → list_all (is_kept (seen_from locals atoms)) atoms ≡ b → length (keep_seen (seen_from locals atoms) atoms) ≤ length atoms
@@ -140,7 +140,7 @@ joined-short may atoms = by_found (find_join may atoms) refl
     by_found None e = omega arith
     by_found (Some join) e = let less : length (with_join atoms (Some join)) < length atoms = join-shorter atoms join (found-is may atoms join e) in omega (arith, less)
 
-inner-short : (joins : Bool) (locals : List Exp) (atoms : List Atom) → length (join_inner joins locals atoms) ≤ length atoms
+pub inner-short : (joins : Bool) (locals : List Exp) (atoms : List Atom) → length (join_inner joins locals atoms) ≤ length atoms
 inner-short true locals atoms = joined-short (is_inner locals) atoms
 inner-short false locals atoms = omega arith
 

@@ -37,17 +37,18 @@ use Rattle.abstraction_laws.specs.Joining.{Join, find_join}
 use Rattle.abstraction_laws.specs.Losing.{is_disequality_of, is_lost_among}
 use Rattle.abstraction_laws.specs.Occurrences.{exps_of_heap}
 use Rattle.abstraction_laws.specs.Pairs.{beside_nothing, canon_of, exps_beside_facts, five_steps, heap_with_join, is_further, is_lost_equation, is_unknown, join_pair, join_pair_once, join_pair_times, lose_equations, lose_in_pair, made_existential, make_existential, may_join, pair_in_forms, pair_with_join, reduce_state, state_joined_at}
-use Rattle.abstraction_laws.specs.Results.{AbstractPairIsWellFormed, AbstractPreIsWellFormed, IsPair}
+use Rattle.abstraction_laws.specs.Results.{AbstractPairIsWellFormed, AbstractPairIsWithin, AbstractPreIsWellFormed, IsPair, with_at_most}
 use Rattle.abstraction_laws.specs.Rooms.{HasRoom}
+use Rattle.abstraction_laws.proofs.AtomsLaws.{HasNoMoreAtoms, arranged-long, pair_form-short, steps-short}
 use Rattle.abstraction_laws.proofs.KeptLaws.{all-filter, found-each}
 use Rattle.abstraction_laws.proofs.NormalResults.{filter-short, joined-short}
 use Rattle.abstraction_laws.proofs.PairRoomLaws.{joined_pair_has_room}
-use Rattle.abstraction_laws.proofs.RoomLaws.{few-fields, well_formed_is_within_room}
-use Rattle.abstraction_laws.proofs.WellFormedResults.{head-fits, joined-fits, loosen-atom, loosen-fact}
+use Rattle.abstraction_laws.proofs.RoomLaws.{few-fields, few_is_within_room}
+use Rattle.abstraction_laws.proofs.WellFormedResults.{head-fits-within, joined-fits, loosen, loosen-atom, loosen-fact}
 
--- each 32-bit number may be a variable
-abbrev wide : Limits
-wide = bounded 4294967296
+-- each 32-bit number may be a variable, and there may be so many parts
+abbrev wide : ℕ → Limits
+wide most = record (bounded 4294967296) { parts = most }
 
 -- ---- a function on expressions
 
@@ -88,66 +89,74 @@ module _ (from to : Limits) (structs : List StructDef) (params : ℕ) (f : Exp �
   state-mapped : (slots : ℕ) (state : SymState) → from.parts ≤ to.parts → IsState from structs params slots state → IsState to structs params slots (on_state f state)
   state-mapped slots state less is = record { one_each = length-map state.locals f ∙ is.one_each; locals = exps-mapped state.locals is.locals; heap = heap-mapped state.heap less is.heap }
 
-module _ (structs : List StructDef) (params : ℕ) where
+-- each heap of a pair has few atoms
+record HasFewAtoms (pair : Pair) : Type 0 where
+  missing : length pair.missing.spatial ≤ 12000
+  state : length pair.state.heap.spatial ≤ 12000
+
+few-fewer : (before after : Pair) → HasNoMoreAtoms before after → HasFewAtoms before → HasFewAtoms after
+few-fewer before after less few = record { missing = omega (arith, less.missing, few.missing); state = omega (arith, less.state, few.state) }
+
+module _ (most : ℕ) (structs : List StructDef) (params : ℕ) where
   -- ---- joins
 
-  join-fits : (may : ℕ → Bool) (heap : SymHeap) → IsSymHeap wide structs params heap → IsSymHeap wide structs params (heap_with_join heap (find_join may heap.spatial))
+  join-fits : (may : ℕ → Bool) (heap : SymHeap) → IsSymHeap (wide most) structs params heap → IsSymHeap (wide most) structs params (heap_with_join heap (find_join may heap.spatial))
   join-fits may heap is =
-      let few : length heap.pure + length heap.spatial ≤ 4000 = is.parts in
+      let few : length heap.pure + length heap.spatial ≤ most = is.parts in
       record {
         parts = omega (arith, joined-short may heap.spatial, few);
         facts = is.facts;
-        atoms = found-each (IsAtom wide structs params) tt (joined-fits 4294967296 (lit≤ tt) structs params) may heap.spatial is.atoms;
+        atoms = found-each (IsAtom (wide most) structs params) tt (joined-fits 4294967296 (lit≤ tt) structs params) may heap.spatial is.atoms;
       }
 
-  at-fits : (slots : ℕ) (state : SymState) (middle : Exp) → IsState wide structs params slots state → IsState wide structs params slots (state_joined_at state middle)
+  at-fits : (slots : ℕ) (state : SymState) (middle : Exp) → IsState (wide most) structs params slots state → IsState (wide most) structs params slots (state_joined_at state middle)
   at-fits slots state (Var x) is = record { one_each = is.one_each; locals = is.locals; heap = join-fits (λ y. y == x) state.heap is.heap }
   at-fits slots state (Const n) is = is
 
-  once-fits : (slots : ℕ) (pair : Pair) → IsPair wide structs params slots pair → IsPair wide structs params slots (join_pair_once params pair)
+  once-fits : (slots : ℕ) (pair : Pair) → IsPair (wide most) structs params slots pair → IsPair (wide most) structs params slots (join_pair_once params pair)
   once-fits slots pair is = by_found (find_join (may_join params pair.state) pair.missing.spatial) (join-fits (may_join params pair.state) pair.missing is.missing)
     where
-      by_found : (o : Option Join) → IsSymHeap wide structs params (heap_with_join pair.missing o) → IsPair wide structs params slots (pair_with_join pair o)
+      by_found : (o : Option Join) → IsSymHeap (wide most) structs params (heap_with_join pair.missing o) → IsPair (wide most) structs params slots (pair_with_join pair o)
       by_found None h = is
       by_found (Some join) h = record { missing = h; state = at-fits slots pair.state join.middle is.state }
 
-  times-fits : (turns slots : ℕ) (pair : Pair) → IsPair wide structs params slots pair → IsPair wide structs params slots (join_pair_times turns params pair)
+  times-fits : (turns slots : ℕ) (pair : Pair) → IsPair (wide most) structs params slots pair → IsPair (wide most) structs params slots (join_pair_times turns params pair)
   times-fits zero slots pair is = is
   times-fits (suc turns) slots pair is = times-fits turns slots (join_pair_once params pair) (once-fits slots pair is)
 
   -- ---- the third step
 
-  made-fits : (first : ℕ) (missing : SymHeap) → first + 65536 ≤ 4294967296 → (e : Exp) → IsExp wide params e → IsExp wide params (made_existential params first missing e)
+  made-fits : (first : ℕ) (missing : SymHeap) → first + 65536 ≤ 4294967296 → (e : Exp) → IsExp (wide most) params e → IsExp (wide most) params (made_existential params first missing e)
   made-fits first missing room (Const n) is = tt
   made-fits first missing room (Var x) is = by_test (is_unknown params missing x) refl
     where
-      by_test : (b : Bool) → is_unknown params missing x ≡ b → IsExp wide params (made_existential params first missing (Var x))
+      by_test : (b : Bool) → is_unknown params missing x ≡ b → IsExp (wide most) params (made_existential params first missing (Var x))
       by_test true e =
           let further : is_further params x ≡ true = (and_parts (is_further params x) (not (is_among (Var x) (exps_of_heap missing))) e).0 in
           let low : x < 65536 = ltb-true x 65536 ((and_parts (leb params x) (ltb x 65536) further).1) in
           rw e (lt-ltb (first + x) 4294967296 (omega (arith, low, room)))
       by_test false e = rw e is
 
-  existential-fits : (slots : ℕ) (pair : Pair) → first_new pair.state + 65536 ≤ 4294967296 → IsPair wide structs params slots pair → IsPair wide structs params slots (make_existential params pair)
+  existential-fits : (slots : ℕ) (pair : Pair) → first_new pair.state + 65536 ≤ 4294967296 → IsPair (wide most) structs params slots pair → IsPair (wide most) structs params slots (make_existential params pair)
   existential-fits slots pair room is = record {
     missing = is.missing;
-    state = state-mapped wide wide structs params (made_existential params (first_new pair.state) pair.missing) (made-fits (first_new pair.state) pair.missing room) slots pair.state (omega arith) is.state;
+    state = state-mapped (wide most) (wide most) structs params (made_existential params (first_new pair.state) pair.missing) (made-fits (first_new pair.state) pair.missing room) slots pair.state (omega arith) is.state;
   }
 
   -- ---- facts that go
 
-  facts-fit : (test : Fact → Bool) (heap : SymHeap) → IsSymHeap wide structs params heap → IsSymHeap wide structs params (record { pure = filter test heap.pure; spatial = heap.spatial })
+  facts-fit : (test : Fact → Bool) (heap : SymHeap) → IsSymHeap (wide most) structs params heap → IsSymHeap (wide most) structs params (record { pure = filter test heap.pure; spatial = heap.spatial })
   facts-fit test heap is =
-      let few : length heap.pure + length heap.spatial ≤ 4000 = is.parts in
-      record { parts = omega (arith, filter-short test heap.pure, few); facts = all-filter (IsFact wide params) test heap.pure is.facts; atoms = is.atoms }
+      let few : length heap.pure + length heap.spatial ≤ most = is.parts in
+      record { parts = omega (arith, filter-short test heap.pure, few); facts = all-filter (IsFact (wide most) params) test heap.pure is.facts; atoms = is.atoms }
 
-  equations-fit : (slots : ℕ) (pair : Pair) → IsPair wide structs params slots pair → IsPair wide structs params slots (lose_equations params pair)
+  equations-fit : (slots : ℕ) (pair : Pair) → IsPair (wide most) structs params slots pair → IsPair (wide most) structs params slots (lose_equations params pair)
   equations-fit slots pair is = record {
     missing = is.missing;
     state = record { one_each = is.state.one_each; locals = is.state.locals; heap = facts-fit (λ fact. not (is_lost_equation params pair.missing fact)) pair.state.heap is.state.heap };
   }
 
-  lost-fits : (slots : ℕ) (pair : Pair) → IsPair wide structs params slots pair → IsPair wide structs params slots (lose_in_pair params pair)
+  lost-fits : (slots : ℕ) (pair : Pair) → IsPair (wide most) structs params slots pair → IsPair (wide most) structs params slots (lose_in_pair params pair)
   lost-fits slots pair is =
       let test : Fact → Bool = λ fact. not (is_disequality_of (is_lost_among params (exps_beside_facts pair)) fact) in
       record {
@@ -157,120 +166,147 @@ module _ (structs : List StructDef) (params : ℕ) where
 
   -- ---- the normal form of a pair
 
-  solved-fits : (facts : List Fact) (x : ℕ) → All (IsFact wide params) facts → IsExp wide params (Var x) → IsExp wide params (solved facts x)
+  solved-fits : (facts : List Fact) (x : ℕ) → All (IsFact (wide most) params) facts → IsExp (wide most) params (Var x) → IsExp (wide most) params (solved facts x)
   solved-fits [] x is h = h
-  solved-fits (Eq (Var y) right ∷ facts) x is h = by_test (y == x) (solved-fits facts x (All-tail (IsFact wide params) (Eq (Var y) right) facts is) h)
+  solved-fits (Eq (Var y) right ∷ facts) x is h = by_test (y == x) (solved-fits facts x (All-tail (IsFact (wide most) params) (Eq (Var y) right) facts is) h)
     where
-      by_test : (b : Bool) → IsExp wide params (solved facts x) → IsExp wide params (if b then right else solved facts x)
-      by_test true k = (All-head (IsFact wide params) (Eq (Var y) right) facts is).1
+      by_test : (b : Bool) → IsExp (wide most) params (solved facts x) → IsExp (wide most) params (if b then right else solved facts x)
+      by_test true k = (All-head (IsFact (wide most) params) (Eq (Var y) right) facts is).1
       by_test false k = k
-  solved-fits (Eq (Const n) right ∷ facts) x is h = solved-fits facts x (All-tail (IsFact wide params) (Eq (Const n) right) facts is) h
-  solved-fits (Ne left right ∷ facts) x is h = solved-fits facts x (All-tail (IsFact wide params) (Ne left right) facts is) h
+  solved-fits (Eq (Const n) right ∷ facts) x is h = solved-fits facts x (All-tail (IsFact (wide most) params) (Eq (Const n) right) facts is) h
+  solved-fits (Ne left right ∷ facts) x is h = solved-fits facts x (All-tail (IsFact (wide most) params) (Ne left right) facts is) h
 
-  read-fits : (facts : List Fact) → All (IsFact wide params) facts → (e : Exp) → IsExp wide params e → IsExp wide params (read_through facts e)
+  read-fits : (facts : List Fact) → All (IsFact (wide most) params) facts → (e : Exp) → IsExp (wide most) params e → IsExp (wide most) params (read_through facts e)
   read-fits facts is (Var x) h = solved-fits facts x is h
   read-fits facts is (Const n) h = tt
 
   bare-fits : (limits : Limits) (heap : SymHeap) → IsSymHeap limits structs params heap → IsState limits structs params 0 (without_locals heap)
   bare-fits limits heap is = record { one_each = refl; locals = All-nil (IsExp limits params); heap = is }
 
-  form-fits : (slots : ℕ) (pair form : Pair) → IsForm params pair form → IsPair wide structs params slots pair → IsPair wide structs params slots form
+  form-fits : (slots : ℕ) (pair form : Pair) → IsForm params pair form → IsPair (wide most) structs params slots pair → IsPair (wide most) structs params slots form
   form-fits slots pair form is h =
-      let missing : IsState wide structs params 0 is.missing = form_is_well_formed wide structs params 0 (without_locals pair.missing) is.missing is.missing_is (bare-fits wide pair.missing h.missing) in
+      let missing : IsState (wide most) structs params 0 is.missing = form_is_well_formed (wide most) structs params 0 (without_locals pair.missing) is.missing is.missing_is (bare-fits (wide most) pair.missing h.missing) in
       let through : SymState = on_state (read_through is.missing.heap.pure) pair.state in
-      let read : IsState wide structs params slots through = state-mapped wide wide structs params (read_through is.missing.heap.pure) (read-fits is.missing.heap.pure missing.heap.facts) slots pair.state (omega arith) h.state in
+      let read : IsState (wide most) structs params slots through = state-mapped (wide most) (wide most) structs params (read_through is.missing.heap.pure) (read-fits is.missing.heap.pure missing.heap.facts) slots pair.state (omega arith) h.state in
       record {
-        missing = subst (IsSymHeap wide structs params) (sym is.form_is) (facts-fit (λ fact. not (is_further_equation params fact)) is.missing.heap missing.heap);
-        state = form_is_well_formed wide structs params slots through form.state is.state_is read;
+        missing = subst (IsSymHeap (wide most) structs params) (sym is.form_is) (facts-fit (λ fact. not (is_further_equation params fact)) is.missing.heap missing.heap);
+        state = form_is_well_formed (wide most) structs params slots through form.state is.state_is read;
       }
 
   -- ---- the canonical form of a pair
 
-  few-exps : (limits : Limits) (slots : ℕ) (state : SymState) → limits.parts ≤ 4000 → AreStructs structs → slots ≤ 32768 → IsState limits structs params slots state → most_exps state ≤ 131200000
-  few-exps limits slots state small are few is =
+  few-exps : (limits : Limits) (slots : ℕ) (state : SymState) → limits.parts ≤ 131100000 → AreStructs structs → slots ≤ 32768 → length state.heap.spatial ≤ 12000 → IsState limits structs params slots state → most_exps state ≤ 660000000
+  few-exps limits slots state small are few atoms is =
       let fields : fields_in state.heap.spatial ≤ length state.heap.spatial * 32768 = few-fields limits structs params are.each state.heap.spatial is.heap.atoms in
-      omega (arith, fields, is.heap.parts, small, is.one_each, few)
+      omega (arith, fields, is.heap.parts, small, is.one_each, few, atoms)
 
-  arranged-fits : (slots : ℕ) (state : SymState) → AreStructs structs → slots ≤ 32768 → IsState wide structs params slots state → IsState widest structs params slots (arranged params state)
-  arranged-fits slots state are few is =
-      let most : most_exps state ≤ 131200000 = few-exps wide slots state (omega arith) are few is in
-      arranged_is_well_formed wide widest structs params slots state
+  arranged-fits : (slots : ℕ) (state : SymState) → most ≤ 131100000 → AreStructs structs → slots ≤ 32768 → length state.heap.spatial ≤ 12000 → IsState (wide most) structs params slots state → IsState (with_at_most most) structs params slots (arranged params state)
+  arranged-fits slots state small are few atoms is =
+      let exps : most_exps state ≤ 660000000 = few-exps (wide most) slots state small are few atoms is in
+      arranged_is_well_formed (wide most) (with_at_most most) structs params slots state
       (record {
         logical = λ x low is. lt-ltb x 2147483648 (omega (arith, low));
-        numbered = λ place low. lt-ltb (65536 + place) 2147483648 (omega (arith, low, most));
+        numbered = λ place low. lt-ltb (65536 + place) 2147483648 (omega (arith, low, exps));
         parts = omega arith;
       }) is
 
-  number-fits : (seen : List ℕ) → params + length seen ≤ 2147483648 → (e : Exp) → IsExp widest params e → IsExp widest params (with_number params seen e)
+  number-fits : (seen : List ℕ) → params + length seen ≤ 2147483648 → (e : Exp) → IsExp (with_at_most most) params e → IsExp (with_at_most most) params (with_number params seen e)
   number-fits seen few (Const n) is = tt
   number-fits seen few (Var x) is = by_place (nat_lt (position_or_len (λ y. x == y) seen) (length seen)) refl
     where
-      by_place : (b : Bool) → nat_lt (position_or_len (λ y. x == y) seen) (length seen) ≡ b → IsExp widest params (with_number params seen (Var x))
+      by_place : (b : Bool) → nat_lt (position_or_len (λ y. x == y) seen) (length seen) ≡ b → IsExp (with_at_most most) params (with_number params seen (Var x))
       by_place true e =
           let low : position_or_len (λ y. x == y) seen < length seen = ltb-true (position_or_len (λ y. x == y) seen) (length seen) e in
           rw e (lt-ltb (params + position_or_len (λ y. x == y) seen) 2147483648 (omega (arith, low, few)))
       by_place false e = rw e is
 
-  turned : (left right : Exp) → IsFact widest params (Ne left right) → IsFact widest params (Ne right left)
+  turned : (left right : Exp) → IsFact (with_at_most most) params (Ne left right) → IsFact (with_at_most most) params (Ne right left)
   turned left right h = (h.1, h.0)
 
-  sorted-fits : (heap : SymHeap) → IsSymHeap widest structs params heap → IsSymHeap widest structs params (with_facts_sorted heap)
+  sorted-fits : (heap : SymHeap) → IsSymHeap (with_at_most most) structs params heap → IsSymHeap (with_at_most most) structs params (with_facts_sorted heap)
   sorted-fits heap is =
       let long : length (sorted_facts heap.pure) ≡ length heap.pure = sorted-length heap.pure in
-      record { parts = omega (arith, long, is.parts); facts = sorted-each (IsFact widest params) turned heap.pure is.facts; atoms = is.atoms }
+      record { parts = omega (arith, long, is.parts); facts = sorted-each (IsFact (with_at_most most) params) turned heap.pure is.facts; atoms = is.atoms }
 
-  canon-fits : (slots : ℕ) (pair : Pair) → AreStructs structs → slots ≤ 32768 → params ≤ 32768 → IsPair wide structs params slots pair → IsPair widest structs params slots (canon_of params pair)
-  canon-fits slots pair are few_slots few is =
+  canon-fits : (slots : ℕ) (pair : Pair) → most ≤ 131100000 → AreStructs structs → slots ≤ 32768 → params ≤ 32768 → HasFewAtoms pair → IsPair (wide most) structs params slots pair → IsPair (with_at_most most) structs params slots (canon_of params pair)
+  canon-fits slots pair small are few_slots few atoms is =
       let first : SymState = arranged params (without_locals pair.missing) in
       let second : SymState = arranged params pair.state in
       let before : List ℕ = sight_state (Further params) first [] in
       let seen : List ℕ = sight_state (Further params) second before in
-      let one : IsState widest structs params 0 first = arranged-fits 0 (without_locals pair.missing) are (omega arith) (bare-fits wide pair.missing is.missing) in
-      let two : IsState widest structs params slots second = arranged-fits slots pair.state are few_slots is.state in
-      let most_one : most_exps first ≤ 131200000 = few-exps widest 0 first (omega arith) are (omega arith) one in
-      let most_two : most_exps second ≤ 131200000 = few-exps widest slots second (omega arith) are few_slots two in
+      let one : IsState (with_at_most most) structs params 0 first = arranged-fits 0 (without_locals pair.missing) small are (omega arith) atoms.missing (bare-fits (wide most) pair.missing is.missing) in
+      let two : IsState (with_at_most most) structs params slots second = arranged-fits slots pair.state small are few_slots atoms.state is.state in
+      let few_first : length first.heap.spatial ≤ 12000 = omega (arith, arranged-long params (without_locals pair.missing), atoms.missing) in
+      let few_second : length second.heap.spatial ≤ 12000 = omega (arith, arranged-long params pair.state, atoms.state) in
+      let most_one : most_exps first ≤ 660000000 = few-exps (with_at_most most) 0 first small are (omega arith) few_first one in
+      let most_two : most_exps second ≤ 660000000 = few-exps (with_at_most most) slots second small are few_slots few_second two in
       let long_one : length before ≤ 0 + most_exps first = seen-longer (Further params) first [] in
       let long : length seen ≤ length before + most_exps second = seen-longer (Further params) second before in
       let room : params + length seen ≤ 2147483648 = omega (arith, few, most_one, most_two, long_one, long) in
       let number : Exp → Exp = with_number params seen in
-      let m : IsState widest structs params 0 (on_state number first) = state-mapped widest widest structs params number (number-fits seen room) 0 first (omega arith) one in
-      let s : IsState widest structs params slots (on_state number second) = state-mapped widest widest structs params number (number-fits seen room) slots second (omega arith) two in
+      let m : IsState (with_at_most most) structs params 0 (on_state number first) = state-mapped (with_at_most most) (with_at_most most) structs params number (number-fits seen room) 0 first (omega arith) one in
+      let s : IsState (with_at_most most) structs params slots (on_state number second) = state-mapped (with_at_most most) (with_at_most most) structs params number (number-fits seen room) slots second (omega arith) two in
       record {
         missing = sorted-fits (on_heap number first.heap) m.heap;
         state = record { one_each = s.one_each; locals = s.locals; heap = sorted-fits (on_heap number second.heap) s.heap };
       }
 
-  in_forms-fit : (slots : ℕ) (pair answer : Pair) → AreStructs structs → slots ≤ 32768 → params ≤ 32768 → IsPair wide structs params slots pair → pair_in_forms params pair ≡ Some answer → IsPair widest structs params slots answer
-  in_forms-fit slots pair answer are few_slots few is h = by_form (pair_form params pair) refl h
+  in_forms-fit : (slots : ℕ) (pair answer : Pair) → most ≤ 131100000 → AreStructs structs → slots ≤ 32768 → params ≤ 32768 → HasFewAtoms pair → IsPair (wide most) structs params slots pair → pair_in_forms params pair ≡ Some answer →
+      IsPair (with_at_most most) structs params slots answer
+  in_forms-fit slots pair answer small are few_slots few atoms is h = by_form (pair_form params pair) refl h
     where
-      by_form : (o : Option Pair) → pair_form params pair ≡ o → option_map (canon_of params) o ≡ Some answer → IsPair widest structs params slots answer
+      by_form : (o : Option Pair) → pair_form params pair ≡ o → option_map (canon_of params) o ≡ Some answer → IsPair (with_at_most most) structs params slots answer
       by_form None e k = cc
       by_form (Some form) e k =
           let same : canon_of params form ≡ answer = cc in
-          subst (IsPair widest structs params slots) same (canon-fits slots form are few_slots few (form-fits slots pair form (form-is params pair form e) is))
+          let formed : IsForm params pair form = form-is params pair form e in
+          let fewer : HasFewAtoms form = few-fewer pair form (pair_form-short params pair form formed) atoms in
+          subst (IsPair (with_at_most most) structs params slots) same (canon-fits slots form small are few_slots few fewer (form-fits slots pair form formed is))
 
-  -- what is well formed, between the wide limits
-  heap-loosened : (heap : SymHeap) → IsSymHeap widest structs params heap → IsSymHeap wide structs params heap
+  -- what is well formed, between the other limits
+  heap-loosened : (heap : SymHeap) → IsSymHeap (with_at_most most) structs params heap → IsSymHeap (wide most) structs params heap
   heap-loosened heap is = record {
     parts = is.parts;
-    facts = All-weaker (IsFact widest params) (IsFact wide params) (loosen-fact 4294967296 (lit≤ tt) structs params) heap.pure is.facts;
-    atoms = All-weaker (IsAtom widest structs params) (IsAtom wide structs params) (loosen-atom 4294967296 (lit≤ tt) structs params) heap.spatial is.atoms;
+    facts = All-weaker (IsFact (with_at_most most) params) (IsFact (wide most) params) (loosen-fact 4294967296 (lit≤ tt) structs params) heap.pure is.facts;
+    atoms = All-weaker (IsAtom (with_at_most most) structs params) (IsAtom (wide most) structs params) (loosen-atom 4294967296 (lit≤ tt) structs params) heap.spatial is.atoms;
   }
 
-  steps-fit : (kinds : List StructDef) (slots : ℕ) (pair : Pair) (mark : HeadMark) → AreStructs structs → slots ≤ 32768 → IsPair widest structs params slots pair → IsPair wide structs params slots (five_steps params kinds mark pair)
-  steps-fit kinds slots pair mark are few is =
+  steps-fit : (kinds : List StructDef) (slots : ℕ) (pair : Pair) (mark : HeadMark) → HasRoom pair.state → IsPair (with_at_most most) structs params slots pair → IsPair (wide most) structs params slots (five_steps params kinds mark pair)
+  steps-fit kinds slots pair mark has is =
       let first : Pair = reduce_state kinds mark pair in
       let second : Pair = join_pair params first in
-      let has : HasRoom pair.state = (well_formed_is_within_room structs params slots pair.state are few is.state).variables in
       let room : first_new second.state + 65536 ≤ 4294967296 = joined_pair_has_room kinds params pair mark has in
-      let one : IsPair wide structs params slots first = record { missing = heap-loosened pair.missing is.missing; state = head-fits structs kinds params slots pair.state mark are few is.state } in
-      let two : IsPair wide structs params slots second = times-fits (length first.missing.spatial) slots first one in
+      let one : IsPair (wide most) structs params slots first = record { missing = heap-loosened pair.missing is.missing; state = head-fits-within most structs kinds params slots pair.state mark has is.state } in
+      let two : IsPair (wide most) structs params slots second = times-fits (length first.missing.spatial) slots first one in
       lost-fits slots (lose_equations params (make_existential params second)) (equations-fit slots (make_existential params second) (existential-fits slots second room two))
 
+-- a well-formed pair of few atoms in normal and canonical form is well formed
+pub in_forms_is_well_formed : (most : ℕ) (structs : List StructDef) (params slots : ℕ) (pair answer : Pair) → most ≤ 131100000 → AreStructs structs → slots ≤ 32768 → params ≤ 32768 → IsPair (with_at_most most) structs params slots pair →
+    length pair.missing.spatial ≤ 12000 → length pair.state.heap.spatial ≤ 12000 → pair_in_forms params pair ≡ Some answer → IsPair (with_at_most most) structs params slots answer
+in_forms_is_well_formed most structs params slots pair answer small are few_slots few is missing state h =
+    let loose : IsPair (wide most) structs params slots pair = record {
+      missing = heap-loosened most structs params pair.missing is.missing;
+      state = record {
+        one_each = is.state.one_each;
+        locals = All-weaker (IsExp widest params) (IsExp (wide most) params) (loosen 4294967296 (lit≤ tt) structs params) pair.state.locals is.state.locals;
+        heap = heap-loosened most structs params pair.state.heap is.state.heap;
+      };
+    } in
+    in_forms-fit most structs params slots pair answer small are few_slots few (record { missing = missing; state = state }) loose h
+
+pub abstract_pair_is_within : AbstractPairIsWithin
+abstract_pair_is_within most structs kinds slots pair answer flow mark small are few_slots few is missing state h =
+    let params : ℕ = length flow.params in
+    let has : HasRoom pair.state = (few_is_within_room most structs params slots pair.state are few_slots is.state state).variables in
+    let atoms : HasFewAtoms (five_steps params kinds mark pair) = few-fewer pair (five_steps params kinds mark pair) (steps-short params kinds mark pair) (record { missing = missing; state = state }) in
+    in_forms-fit most structs params slots (five_steps params kinds mark pair) answer small are few_slots few atoms (steps-fit most structs params kinds slots pair mark has is) h
+
+-- a heap of at most 4,000 parts has few atoms
 pub abstract_pair_is_well_formed : AbstractPairIsWellFormed
 abstract_pair_is_well_formed structs kinds slots pair answer flow mark are few_slots few is h =
-    let params : ℕ = length flow.params in
-    in_forms-fit structs params slots (five_steps params kinds mark pair) answer are few_slots few (steps-fit structs params kinds slots pair mark are few_slots is) h
+    let missing : length pair.missing.pure + length pair.missing.spatial ≤ 4000 = is.missing.parts in
+    let state : length pair.state.heap.pure + length pair.state.heap.spatial ≤ 4000 = is.state.heap.parts in
+    abstract_pair_is_within 4000 structs kinds slots pair answer flow mark (lit≤ tt) are few_slots few is (omega (arith, missing)) (omega (arith, state)) h
 
 pub abstract_pre_is_well_formed : AbstractPreIsWellFormed
 abstract_pre_is_well_formed structs missing answer params are few is h = by_pair (pair_in_forms params joined) refl h
@@ -281,18 +317,24 @@ abstract_pre_is_well_formed structs missing answer params are few is h = by_pair
     joined : Pair
     joined = join_pair params first
 
-    nothing-fits : IsState (bounded 4294967296) structs params 0 first.state
+    nothing-fits : IsState (wide 4000) structs params 0 first.state
     nothing-fits = record {
       one_each = refl;
-      locals = All-nil (IsExp (bounded 4294967296) params);
-      heap = record { parts = omega arith; facts = All-nil (IsFact (bounded 4294967296) params); atoms = All-nil (IsAtom (bounded 4294967296) structs params) };
+      locals = All-nil (IsExp (wide 4000) params);
+      heap = record { parts = omega arith; facts = All-nil (IsFact (wide 4000) params); atoms = All-nil (IsAtom (wide 4000) structs params) };
     }
 
-    joined-fit : IsPair (bounded 4294967296) structs params 0 joined
-    joined-fit = times-fits structs params (length missing.spatial) 0 first (record { missing = heap-loosened structs params missing is; state = nothing-fits })
+    joined-fit : IsPair (wide 4000) structs params 0 joined
+    joined-fit = times-fits 4000 structs params (length missing.spatial) 0 first (record { missing = heap-loosened 4000 structs params missing is; state = nothing-fits })
+
+    few-joined : HasFewAtoms joined
+    few-joined =
+        let missing_parts : length joined.missing.pure + length joined.missing.spatial ≤ 4000 = joined-fit.missing.parts in
+        let state_parts : length joined.state.heap.pure + length joined.state.heap.spatial ≤ 4000 = joined-fit.state.heap.parts in
+        record { missing = omega (arith, missing_parts); state = omega (arith, state_parts) }
 
     by_pair : (o : Option Pair) → pair_in_forms params joined ≡ o → option_map (λ pair. pair.missing) o ≡ Some answer → IsSymHeap widest structs params answer
     by_pair None e k = cc
     by_pair (Some pair) e k =
         let same : pair.missing ≡ answer = cc in
-        subst (IsSymHeap widest structs params) same (in_forms-fit structs params 0 joined pair are (omega arith) few joined-fit e).missing
+        subst (IsSymHeap widest structs params) same (in_forms-fit 4000 structs params 0 joined pair (lit≤ tt) are (omega arith) few few-joined joined-fit e).missing

@@ -121,7 +121,7 @@ canon-small params pair =
     let sorted_two : length (sorted_facts (map (on_fact number) second.heap.pure)) ≡ length (map (on_fact number) second.heap.pure) = sorted-length (map (on_fact number) second.heap.pure) in
     record { missing = omega (arith, one.parts, sorted_one); state = record { parts = omega (arith, two.parts, sorted_two); locals = two.locals } }
 
-in_forms-small : (params : ℕ) (pair answer : Pair) → pair_in_forms params pair ≡ Some answer → IsNoLarger pair answer
+pub in_forms-small : (params : ℕ) (pair answer : Pair) → pair_in_forms params pair ≡ Some answer → IsNoLarger pair answer
 in_forms-small params pair answer h = by_form (pair_form params pair) refl h
   where
     by_form : (o : Option Pair) → pair_form params pair ≡ o → option_map (canon_of params) o ≡ Some answer → IsNoLarger pair answer

@@ -14,13 +14,14 @@ use Rattle.shape_data.specs.declared.symbolic.Fact.{Fact}
 use Rattle.shape_data.specs.declared.symbolic.Fact.TheVariants.{Eq, Ne}
 use Rattle.shape_data.specs.declared.symbolic.SymState.{SymState}
 use Rattle.shape_data.specs.Heap.{struct_named}
-use Rattle.shape_data.specs.WellFormed.{IsAtom, IsExp, IsFact, IsState, IsStruct, Limits, widest}
+use Rattle.shape_data.specs.WellFormed.{AreStructs, IsAtom, IsExp, IsFact, IsState, IsStruct, Limits, widest}
 use Rattle.sym_laws.specs.Each.{EachInAtom, EachInFact, EachInState}
 use Rattle.sym_forms.specs.Sizes.{fields_of}
 use Rattle.abstraction_laws.specs.Forgetting.{first_new}
 use Rattle.abstraction_laws.specs.Occurrences.{exps_of_state}
 use Rattle.sym_forms.specs.Sizes.{fields_in}
-use Rattle.abstraction_laws.specs.Rooms.{CellsHaveFewFields, WellFormedIsWithinRoom}
+use Rattle.abstraction_laws.specs.Results.{with_at_most}
+use Rattle.abstraction_laws.specs.Rooms.{CellsHaveFewFields, IsWithinRoom, LargePairHasRoom, WellFormedIsWithinRoom}
 use Rattle.abstraction_laws.proofs.OccurrenceLaws.{IsUnder, above-under, from_state}
 
 -- ---- the variables that occur are below 2^31
@@ -39,8 +40,8 @@ module _ (params : ℕ) where
   fact-under (Eq left right) is = (exp-under left is.0, exp-under right is.1)
   fact-under (Ne left right) is = (exp-under left is.0, exp-under right is.1)
 
-  pub state-under : (structs : List StructDef) (slots : ℕ) (state : SymState) → IsState widest structs params slots state → EachInState (IsUnder 2147483648) state
-  state-under structs slots state is = record {
+  pub state-under : (parts : ℕ) (structs : List StructDef) (slots : ℕ) (state : SymState) → IsState (with_at_most parts) structs params slots state → EachInState (IsUnder 2147483648) state
+  state-under parts structs slots state is = record {
     locals = All-weaker (IsExp widest params) (IsUnder 2147483648) exp-under state.locals is.locals;
     heap = record {
       facts = All-weaker (IsFact widest params) (EachInFact (IsUnder 2147483648)) fact-under state.heap.pure is.heap.facts;
@@ -76,14 +77,29 @@ few-fields limits structs params each (atom ∷ atoms) is =
 pub cells_have_few_fields : CellsHaveFewFields
 cells_have_few_fields structs params heap are is = All-weaker (IsAtom widest structs params) (λ atom. fields_of atom ≤ 32768) (one-few widest structs params are.each) heap.spatial is.atoms
 
-pub first-under : (structs : List StructDef) (params slots : ℕ) (state : SymState) → IsState widest structs params slots state → first_new state ≤ 2147483648
-first-under structs params slots state is =
-    above-under 2147483648 65536 (exps_of_state state) (lit≤ tt) (from_state (IsUnder 2147483648) state (state-under params structs slots state is))
+pub first-under : (parts : ℕ) (structs : List StructDef) (params slots : ℕ) (state : SymState) → IsState (with_at_most parts) structs params slots state → first_new state ≤ 2147483648
+first-under parts structs params slots state is =
+    above-under 2147483648 65536 (exps_of_state state) (lit≤ tt) (from_state (IsUnder 2147483648) state (state-under params parts structs slots state is))
+
+-- a state of few atoms is within room
+pub few_is_within_room : (parts : ℕ) (structs : List StructDef) (params slots : ℕ) (state : SymState) → AreStructs structs → slots ≤ 32768 → IsState (with_at_most parts) structs params slots state →
+    length state.heap.spatial ≤ 12000 → IsWithinRoom state
+few_is_within_room parts structs params slots state are few is atoms =
+    let first : first_new state ≤ 2147483648 = first-under parts structs params slots state is in
+    let fields : fields_in state.heap.spatial ≤ length state.heap.spatial * 32768 = few-fields (with_at_most parts) structs params are.each state.heap.spatial is.heap.atoms in
+    let slots_are : length state.locals ≡ slots = is.one_each in
+    record {
+      variables = omega (arith, first, fields, atoms, slots_are, few);
+      fields = All-weaker (IsAtom widest structs params) (λ atom. fields_of atom ≤ 32768) (one-few widest structs params are.each) state.heap.spatial is.heap.atoms;
+    }
 
 pub well_formed_is_within_room : WellFormedIsWithinRoom
 well_formed_is_within_room structs params slots state are few is =
-    let first : first_new state ≤ 2147483648 = first-under structs params slots state is in
-    let fields : fields_in state.heap.spatial ≤ length state.heap.spatial * 32768 = few-fields widest structs params are.each state.heap.spatial is.heap.atoms in
     let parts : length state.heap.pure + length state.heap.spatial ≤ 4000 = is.heap.parts in
-    let slots_are : length state.locals ≡ slots = is.one_each in
-    record { variables = omega (arith, first, fields, parts, slots_are, few); fields = cells_have_few_fields structs params state.heap are is.heap }
+    few_is_within_room 4000 structs params slots state are few is (omega (arith, parts))
+
+pub large_pair_has_room : LargePairHasRoom
+large_pair_has_room parts structs params slots pair are few is atoms = (
+  few_is_within_room parts structs params slots pair.state are few is.state atoms,
+  All-weaker (IsAtom widest structs params) (λ atom. fields_of atom ≤ 32768) (one-few widest structs params are.each) pair.missing.spatial is.missing.atoms,
+)

@@ -36,7 +36,7 @@ use Rattle.abstraction_laws.specs.Losing.{is_disequality_of, is_lost_among}
 use Rattle.abstraction_laws.specs.Occurrences.{exps_of_atoms}
 use Rattle.abstraction_laws.specs.Reaching.{keep_reached}
 use Rattle.abstraction_laws.specs.Repeating.{join_inner, reduce_once, reduce_times, size_of}
-use Rattle.abstraction_laws.specs.Results.{AbstractExitIsWellFormed, AbstractHeadIsWellFormed}
+use Rattle.abstraction_laws.specs.Results.{AbstractExitIsWellFormed, AbstractHeadIsWellFormed, with_at_most}
 use Rattle.abstraction_laws.specs.Rooms.{HasRoom}
 use Rattle.abstraction_laws.proofs.KeptLaws.{all-filter, all-got, reduce-each}
 use Rattle.abstraction_laws.proofs.NormalResults.{at_exit-small, at_head-small, exit-locals, forgotten-slots, made-of, one-local}
@@ -165,9 +165,9 @@ module _ (limit : ℕ) (wide : 2147483648 ≤ limit) (structs : List StructDef) 
       times-facts turns joins locals (reduce_once joins locals heap)
       (all-filter (IsFact (bounded limit) params) (λ fact. not (is_disequality_of (is_lost_among 65536 (locals ++ exps_of_atoms (join_inner joins locals (keep_reached locals heap.spatial)))) fact)) heap.pure h)
 
-  reduced-fits : (slots : ℕ) (joins : Bool) (state small : SymState) → HasNoMoreParts small (reduced joins state) → length small.heap.pure + length small.heap.spatial ≤ 4000 → length state.locals ≡ slots → All (IsExp (bounded limit) params) state.locals →
-      All (IsFact (bounded limit) params) state.heap.pure → All (IsAtom (bounded limit) structs params) state.heap.spatial → IsState (bounded limit) structs params slots (reduced joins state)
-  reduced-fits slots joins state small less few one_each locals facts atoms = record {
+  reduced-fits : (parts slots : ℕ) (joins : Bool) (state small : SymState) → HasNoMoreParts small (reduced joins state) → length small.heap.pure + length small.heap.spatial ≤ parts → length state.locals ≡ slots → All (IsExp (bounded limit) params) state.locals →
+      All (IsFact (bounded limit) params) state.heap.pure → All (IsAtom (bounded limit) structs params) state.heap.spatial → IsState (record (bounded limit) { parts = parts }) structs params slots (reduced joins state)
+  reduced-fits parts slots joins state small less few one_each locals facts atoms = record {
     one_each = one_each;
     locals = locals;
     heap = record {
@@ -193,13 +193,18 @@ module _ (structs : List StructDef) (params : ℕ) where
         parts = omega arith;
       }) is
 
-pub head-fits : (structs kinds : List StructDef) (params slots : ℕ) (state : SymState) (mark : HeadMark) → AreStructs structs → slots ≤ 32768 → IsState widest structs params slots state → IsState (bounded 4294967296) structs params slots (at_head kinds mark state)
-head-fits structs kinds params slots state mark are few is =
-    let room : HasRoom state = (well_formed_is_within_room structs params slots state are few is).variables in
-    reduced-fits 4294967296 (lit≤ tt) structs params slots true (forget kinds mark state) state (at_head-small kinds mark state) is.heap.parts (forgotten-slots mark (first_new state) 0 state.locals ∙ is.one_each)
+-- a state that has room at the head of a loop, however many parts there are
+pub head-fits-within : (parts : ℕ) (structs kinds : List StructDef) (params slots : ℕ) (state : SymState) (mark : HeadMark) → HasRoom state → IsState (with_at_most parts) structs params slots state →
+    IsState (record (bounded 4294967296) { parts = parts }) structs params slots (at_head kinds mark state)
+head-fits-within parts structs kinds params slots state mark room is =
+    reduced-fits 4294967296 (lit≤ tt) structs params parts slots true (forget kinds mark state) state (at_head-small kinds mark state) is.heap.parts (forgotten-slots mark (first_new state) 0 state.locals ∙ is.one_each)
     (slots-fit 4294967296 (lit≤ tt) structs params mark (first_new state) 0 state.locals (omega (arith, room)) is.locals)
     (All-weaker (IsFact widest params) (IsFact (bounded 4294967296) params) (loosen-fact 4294967296 (lit≤ tt) structs params) state.heap.pure is.heap.facts)
     (atoms-fit 4294967296 (lit≤ tt) structs params kinds (first_new state + length state.locals) state.heap.spatial (omega (arith, room)) is.heap.atoms)
+
+head-fits : (structs kinds : List StructDef) (params slots : ℕ) (state : SymState) (mark : HeadMark) → AreStructs structs → slots ≤ 32768 → IsState widest structs params slots state → IsState (bounded 4294967296) structs params slots (at_head kinds mark state)
+head-fits structs kinds params slots state mark are few is =
+    head-fits-within 4000 structs kinds params slots state mark (well_formed_is_within_room structs params slots state are few is).variables is
 
 pub abstract_head_is_well_formed : AbstractHeadIsWellFormed
 abstract_head_is_well_formed structs kinds slots state answer flow mark are few is h =
@@ -216,13 +221,13 @@ as_state-fits structs params post is = record { one_each = refl; locals = All-co
 exit-fits : (structs kinds : List StructDef) (params : ℕ) (flow : Flow) (post : Post) (recursive : Bool) → AreStructs structs → IsPost widest structs params post → IsState (bounded 4294967296) structs params 1 (at_exit recursive kinds flow post)
 exit-fits structs kinds params flow post true are is =
     let room : HasRoom (as_state post) = (well_formed_is_within_room structs params 1 (as_state post) are (omega arith) (as_state-fits structs params post is)).variables in
-    reduced-fits 4294967296 (lit≤ tt) structs params 1 true (as_state (forget_at_exit kinds flow post)) (as_state post) (at_exit-small true kinds flow post) is.heap.parts refl
+    reduced-fits 4294967296 (lit≤ tt) structs params 4000 1 true (as_state (forget_at_exit kinds flow post)) (as_state post) (at_exit-small true kinds flow post) is.heap.parts refl
     (All-cons (IsExp (bounded 4294967296) params) (forget_value (first_new (as_state post)) flow.ret post.ret) []
     (or-new 4294967296 (lit≤ tt) structs params (is_int flow.ret && is_constant post.ret) (first_new (as_state post)) post.ret (omega (arith, room)) is.ret) (All-nil (IsExp (bounded 4294967296) params)))
     (All-weaker (IsFact widest params) (IsFact (bounded 4294967296) params) (loosen-fact 4294967296 (lit≤ tt) structs params) post.heap.pure is.heap.facts)
     (atoms-fit 4294967296 (lit≤ tt) structs params kinds (first_new (as_state post) + 1) post.heap.spatial (omega (arith, room)) is.heap.atoms)
 exit-fits structs kinds params flow post false are is =
-    reduced-fits 4294967296 (lit≤ tt) structs params 1 false (as_state post) (as_state post) (at_exit-small false kinds flow post) is.heap.parts refl
+    reduced-fits 4294967296 (lit≤ tt) structs params 4000 1 false (as_state post) (as_state post) (at_exit-small false kinds flow post) is.heap.parts refl
     (All-cons (IsExp (bounded 4294967296) params) post.ret [] (loosen 4294967296 (lit≤ tt) structs params post.ret is.ret) (All-nil (IsExp (bounded 4294967296) params)))
     (All-weaker (IsFact widest params) (IsFact (bounded 4294967296) params) (loosen-fact 4294967296 (lit≤ tt) structs params) post.heap.pure is.heap.facts)
     (All-weaker (IsAtom widest structs params) (IsAtom (bounded 4294967296) structs params) (loosen-atom 4294967296 (lit≤ tt) structs params) post.heap.spatial is.heap.atoms)

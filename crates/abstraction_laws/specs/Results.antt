@@ -82,6 +82,19 @@ AbstractPairIsWellFormed =
     (structs kinds : List StructDef) (slots : ℕ) (pair form : Pair) (flow : Flow) (mark : HeadMark) → AreStructs structs → slots ≤ 32768 → length flow.params ≤ 32768 →
     IsPair widest structs (length flow.params) slots pair → abstract_pair pair flow mark kinds ≡ Some form → IsPair widest structs (length flow.params) slots form
 
+-- well-formedness, with at most so many parts in each heap
+abbrev pub with_at_most : ℕ → Limits
+with_at_most count = record widest { parts = count }
+
+-- the abstraction of a well-formed pair of few atoms and at most so many parts in each heap is well formed, with at most so many. (One
+-- call in the search may add very many facts, but few atoms.)
+abbrev pub AbstractPairIsWithin : Type 0
+AbstractPairIsWithin =
+    (parts : ℕ) (structs kinds : List StructDef) (slots : ℕ) (pair form : Pair) (flow : Flow) (mark : HeadMark) → parts ≤ 131100000 →
+    AreStructs structs → slots ≤ 32768 → length flow.params ≤ 32768 → IsPair (with_at_most parts) structs (length flow.params) slots pair →
+    length pair.missing.spatial ≤ 12000 → length pair.state.heap.spatial ≤ 12000 → abstract_pair pair flow mark kinds ≡ Some form →
+    IsPair (with_at_most parts) structs (length flow.params) slots form
+
 -- the abstraction of a well-formed candidate is
 abbrev pub AbstractPreIsWellFormed : Type 0
 AbstractPreIsWellFormed =

@@ -10,6 +10,7 @@ use Rattle.sym_forms.specs.Sizes.{fields_in, fields_of}
 use Rattle.sym_canon.specs.declared.parts.Pair.{Pair}
 use Rattle.abstraction_laws.specs.Forgetting.{first_new}
 use Rattle.abstraction_laws.specs.Pairs.{join_pair, reduce_state}
+use Rattle.abstraction_laws.specs.Results.{IsPair, with_at_most}
 
 -- there are 32-bit numbers for a new variable in each slot and each field of a cell, and then for as many as there are logical
 -- ones
@@ -33,6 +34,13 @@ WellFormedIsWithinRoom =
 -- the cells of a well-formed heap have few fields
 abbrev pub CellsHaveFewFields : Type 0
 CellsHaveFewFields = (structs : List StructDef) (params : ℕ) (heap : SymHeap) → AreStructs structs → IsSymHeap widest structs params heap → HaveFewFields heap.spatial
+
+-- the state of a well-formed pair is within room however many parts there are, where its atoms are few, and the missing cells have few
+-- fields
+abbrev pub LargePairHasRoom : Type 0
+LargePairHasRoom =
+    (parts : ℕ) (structs : List StructDef) (params slots : ℕ) (pair : Pair) → AreStructs structs → slots ≤ 32768 → IsPair (with_at_most parts) structs params slots pair →
+    length pair.state.heap.spatial ≤ 12000 → IsWithinRoom pair.state × HaveFewFields pair.missing.spatial
 
 -- after the state of a pair was reduced and the pair joined, there is room for as many new variables as there are logical ones
 abbrev pub JoinedPairHasRoom : Type 0

@@ -1,7 +1,7 @@
 //! Laws of abstraction, each the contract of a function that does nothing.
 ghost use Rattle.abstraction_laws.specs.Laws.{AbstractExitWeakens, AbstractHeadWeakens, ForgetWeakens, JoinPairIsDone, ReduceIsDone, ReduceWeakens};
-ghost use Rattle.abstraction_laws.specs.Results.{AbstractExitHasNoMoreParts, AbstractExitIsNormal, AbstractExitIsWellFormed, AbstractHeadHasNoMoreParts, AbstractHeadIsNormal, AbstractHeadIsWellFormed, AbstractPairHasNoMoreParts, AbstractPairIsNormal, AbstractPairIsWellFormed, AbstractPreHasNoMoreParts, AbstractPreIsNormal, AbstractPreIsWellFormed};
-ghost use Rattle.abstraction_laws.specs.Rooms.{CellsHaveFewFields, JoinedPairHasRoom, WellFormedIsWithinRoom};
+ghost use Rattle.abstraction_laws.specs.Results.{AbstractExitHasNoMoreParts, AbstractExitIsNormal, AbstractExitIsWellFormed, AbstractHeadHasNoMoreParts, AbstractHeadIsNormal, AbstractHeadIsWellFormed, AbstractPairHasNoMoreParts, AbstractPairIsNormal, AbstractPairIsWellFormed, AbstractPairIsWithin, AbstractPreHasNoMoreParts, AbstractPreIsNormal, AbstractPreIsWellFormed};
+ghost use Rattle.abstraction_laws.specs.Rooms.{CellsHaveFewFields, JoinedPairHasRoom, LargePairHasRoom, WellFormedIsWithinRoom};
 
 /// Whatever locals and heap meet a state meet its abstraction at the head of a loop, and whatever result and heap meet a post
 /// meet its abstraction at an exit, in a recursive component or not; under the same assignment to the logical variables, and
@@ -41,18 +41,21 @@ pub fn abstraction_has_no_more_parts()
     ensures candidate { AbstractPreHasNoMoreParts }
 {}
 
-/// What is answered is well formed where what was given is.
+/// What is answered is well formed where what was given is; of pairs also where there are very many facts.
 pub fn abstraction_is_well_formed()
     ensures head { AbstractHeadIsWellFormed }
     ensures exit { AbstractExitIsWellFormed }
     ensures pair { AbstractPairIsWellFormed }
+    ensures large { AbstractPairIsWithin }
     ensures candidate { AbstractPreIsWellFormed }
 {}
 
-/// What abstraction needs of sizes holds of each well-formed state and heap; and after the first steps on a pair there is room for
+/// What abstraction needs of sizes holds of each well-formed state and heap, and of a pair of few atoms also where there are very many
+/// facts; and after the first steps on a pair there is room for
 /// as many new variables as there are logical ones.
 pub fn well_formed_has_room()
     ensures state { WellFormedIsWithinRoom }
     ensures fields { CellsHaveFewFields }
+    ensures large { LargePairHasRoom }
     ensures pair { JoinedPairHasRoom }
 {}
