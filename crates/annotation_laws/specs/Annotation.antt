@@ -1,7 +1,6 @@
 -- Annotation of a precondition: states are executed strictly, first in first out, and what comes of them is abstracted and listed. When
 -- no state waits for its turn, the posts are taken from the exits, and all that is listed is the certificate.
 use Rattle.std.specs.Prelude.{ℕ, zero, suc, if◌then◌else◌, List, [], ◌∷◌, map}
-use Rattle.std.specs.declared.option.Option.{Option}
 use Rattle.shape_data.specs.declared.answer.Budget.TheVariants as budget
 use Rattle.shape_data.specs.declared.symbolic.Post.{Post}
 use Rattle.shape_data.specs.declared.symbolic.SymHeap.{SymHeap}

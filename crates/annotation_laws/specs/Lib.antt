@@ -1,3 +1,4 @@
 pub mod Annotation
+pub mod Examples
 pub mod Laws
 pub mod Listing

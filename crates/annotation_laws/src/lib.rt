@@ -4,6 +4,7 @@
 //! it gives is inductive.
 #![tactic(auto)]
 
+pub mod examples;
 pub mod laws;
 mod parts;
 

@@ -1,29 +1,26 @@
 -- What is given to calls is well formed, and so is what they give.
-use Rattle.std.specs.Prelude.{◌≡◌, ℕ, ◌+◌, ◌<◌, ◌≤◌, List, [], ◌∷◌, length, slice_get, All, IfSome}
+use Rattle.std.specs.Prelude.{◌≡◌, ℕ, ◌+◌, ◌<◌, List, [], length, slice_get, All, IfSome}
 use Rattle.std.specs.declared.option.Option.{Option}
 use Rattle.std.specs.declared.option.Option.TheVariants.{None, Some}
-use Rattle.std.proofs.Common.{refl, sym, ap, ◌∙◌, subst, arith, rules}
+use Rattle.std.proofs.Common.{refl, sym, arith}
 use Rattle.std.proofs.lemmas.List.Elements.{All-cons, All-nil, All-same, All-weaker}
 use Rattle.shape_data.specs.declared.answer.Callee.{Callee}
-use Rattle.shape_data.specs.declared.program.Flow.{Flow}
 use Rattle.shape_data.specs.declared.program.HeadMark.{HeadMark}
 use Rattle.shape_data.specs.declared.program.Node.{Node}
-use Rattle.shape_data.specs.declared.program.StructDef.{StructDef}
 use Rattle.shape_data.specs.declared.symbolic.Cert.{Cert}
 use Rattle.shape_data.specs.declared.symbolic.Post.{Post}
 use Rattle.shape_data.specs.declared.symbolic.Spec.{Spec}
 use Rattle.shape_data.specs.declared.symbolic.SymHeap.{SymHeap}
 use Rattle.shape_data.specs.declared.symbolic.SymState.{SymState}
-use Rattle.shape_data.specs.WellFormed.{AreStates, FitsCall, IsCallee, IsExp, IsPost, IsState, IsSymHeap, Limits, widest}
+use Rattle.shape_data.specs.WellFormed.{AreStates, FitsCall, IsCallee, IsExp, IsPost, IsState, IsSymHeap, widest}
 use Rattle.shape_laws.proofs.StepsStacks.{All-at}
 use Rattle.sym_canon.specs.Canonical.{as_state}
-use Rattle.abstraction_laws.specs.Heads.{abstract_exit, abstract_head}
+use Rattle.abstraction_laws.specs.Heads.{abstract_head}
 use Rattle.abstraction_laws.specs.Rooms.{IsWithinRoom}
 use Rattle.abstraction_laws.proofs.RoomLaws.{well_formed_is_within_room}
 use Rattle.abstraction_laws.proofs.WellFormedResults.{abstract_exit_is_well_formed, abstract_head_is_well_formed}
 use Rattle.exec_laws.specs.declared.parts.Step.{Step}
 use Rattle.exec_laws.specs.declared.parts.Step.TheVariants as step
-use Rattle.exec_laws.specs.Execution.{exec}
 use Rattle.exec_laws.specs.Laws.{IsTable, callees_of}
 use Rattle.exec_laws.specs.Rooms.{with_parts}
 use Rattle.exec_laws.proofs.ExecutionRooms.{all_answers_are_well_formed}
@@ -85,7 +82,6 @@ module _ (task : Task) (good : IsTask task) where
     pub exits-wide : All (IsTaskPost task) cert.exits
     exits-wide = All-weaker (IsPost analysable task.structs params) (IsTaskPost task) post-wide cert.exits is_cert.exits
 
-
   module _ (spec : Spec) (is_spec : IsTaskSpec task spec) where
     pub posts-wide : All (IsTaskPost task) spec.posts
     posts-wide = All-weaker (IsPost analysable task.structs params) (IsTaskPost task) post-wide spec.posts is_spec.posts
@@ -132,7 +128,7 @@ module _ (task : Task) (good : IsTask task) where
           let fits = All-at (λ (one : Node). FitsCall (λ (it : Callee). it.name) (λ (it : Callee). it.params) (callees_of task.table) one.cmd) task.flow.nodes at node good.fits is_node in
           let made = all_answers_are_well_formed task.flow task.structs at node form task.table nexts exits 96 96 good.structs good.flow is_node good.table fits (omega arith) (omega arith) (omega arith) is (sym same) in
           All-weaker (λ (next : ℕ × SymState). (next.0 < length task.flow.nodes) × IsState (with_parts (96 + 96)) task.structs params slots next.1) (λ (next : ℕ × SymState). next.0 < length task.flow.nodes)
-              (λ next both. both.0) nexts made.0
+          (λ next both. both.0) nexts made.0
       by_node None none =
           let nothing : step.Next [] [] ≡ step.Next nexts exits = rw none at (sym same) in
           let no_nexts : nexts ≡ [] = cc in

@@ -1,8 +1,7 @@
 -- The analysis of a procedure of a well-formed key is well formed; and what no gap says of an answer.
-use Rattle.std.specs.Prelude.{◌≡◌, ◌↔◌, ℕ, ◌<◌, true, false, Bool, List, length, slice_get, slice_index_or, All, IsTrue}
-use Rattle.std.specs.declared.option.Option.{Option}
+use Rattle.std.specs.Prelude.{◌≡◌, ◌↔◌, ℕ, ◌<◌, true, false, List, length, slice_get, slice_index_or, All, IsTrue}
 use Rattle.std.specs.declared.option.Option.TheVariants.{None, Some}
-use Rattle.std.proofs.Common.{refl, sym, ap, ◌∙◌, subst}
+use Rattle.std.proofs.Common.{refl, sym, subst}
 use Rattle.std.proofs.lemmas.List.Elements.{All-append}
 use Rattle.std.proofs.lemmas.Option.{get_or_from_slice_get, slice_get_read, slice_get_within}
 use Rattle.shape_data.specs.declared.answer.Answer.{Answer}
@@ -21,7 +20,6 @@ use Rattle.sound_laws.proofs.ProcedureLemmas.{each_place}
 use Rattle.exec_laws.specs.declared.parts.Table.{Table}
 use Rattle.exec_laws.specs.Laws.{IsTableWithin, callees_of}
 use Rattle.certificate_laws.specs.declared.parts.Gap.{Gap}
-use Rattle.certificate_laws.specs.Coming.{Task}
 use Rattle.certificate_laws.specs.Gaps.{first_gap}
 use Rattle.certificate_laws.specs.Inductive.{Inductive, table_of, task_of}
 use Rattle.certificate_laws.specs.Limits.{analysable}
