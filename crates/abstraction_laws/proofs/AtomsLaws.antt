@@ -178,7 +178,7 @@ pub arranged-long : (params : ℕ) (state : SymState) → length (arranged param
 arranged-long params state =
     length-map (placed params state.locals state.heap.spatial) (on_atom (with_number 65536 (sight_state Existential (with_atoms_placed params state) []))) ∙ placed-length params state.locals state.heap.spatial
 
-canon-short : (params : ℕ) (pair : Pair) → HasNoMoreAtoms pair (canon_of params pair)
+pub canon-short : (params : ℕ) (pair : Pair) → HasNoMoreAtoms pair (canon_of params pair)
 canon-short params pair =
     let first : SymState = arranged params (without_locals pair.missing) in
     let second : SymState = arranged params pair.state in

@@ -280,19 +280,28 @@ module _ (most : ℕ) (structs : List StructDef) (params : ℕ) where
       let two : IsPair (wide most) structs params slots second = times-fits (length first.missing.spatial) slots first one in
       lost-fits slots (lose_equations params (make_existential params second)) (equations-fit slots (make_existential params second) (existential-fits slots second room two))
 
--- a well-formed pair of few atoms in normal and canonical form is well formed
+-- a well-formed pair, between the wide limits
+pair-loosened : (most : ℕ) (structs : List StructDef) (params slots : ℕ) (pair : Pair) → IsPair (with_at_most most) structs params slots pair → IsPair (wide most) structs params slots pair
+pair-loosened most structs params slots pair is = record {
+  missing = heap-loosened most structs params pair.missing is.missing;
+  state = record {
+    one_each = is.state.one_each;
+    locals = All-weaker (IsExp widest params) (IsExp (wide most) params) (loosen 4294967296 (lit≤ tt) structs params) pair.state.locals is.state.locals;
+    heap = heap-loosened most structs params pair.state.heap is.state.heap;
+  };
+}
+
+-- the canonical form of a well-formed pair of few atoms is well formed
+pub canon_is_well_formed : (most : ℕ) (structs : List StructDef) (params slots : ℕ) (pair : Pair) → most ≤ 131100000 → AreStructs structs → slots ≤ 32768 → params ≤ 32768 → IsPair (with_at_most most) structs params slots pair →
+    length pair.missing.spatial ≤ 12000 → length pair.state.heap.spatial ≤ 12000 → IsPair (with_at_most most) structs params slots (canon_of params pair)
+canon_is_well_formed most structs params slots pair small are few_slots few is missing state =
+    canon-fits most structs params slots pair small are few_slots few (record { missing = missing; state = state }) (pair-loosened most structs params slots pair is)
+
+-- and so is that of its normal form
 pub in_forms_is_well_formed : (most : ℕ) (structs : List StructDef) (params slots : ℕ) (pair answer : Pair) → most ≤ 131100000 → AreStructs structs → slots ≤ 32768 → params ≤ 32768 → IsPair (with_at_most most) structs params slots pair →
     length pair.missing.spatial ≤ 12000 → length pair.state.heap.spatial ≤ 12000 → pair_in_forms params pair ≡ Some answer → IsPair (with_at_most most) structs params slots answer
 in_forms_is_well_formed most structs params slots pair answer small are few_slots few is missing state h =
-    let loose : IsPair (wide most) structs params slots pair = record {
-      missing = heap-loosened most structs params pair.missing is.missing;
-      state = record {
-        one_each = is.state.one_each;
-        locals = All-weaker (IsExp widest params) (IsExp (wide most) params) (loosen 4294967296 (lit≤ tt) structs params) pair.state.locals is.state.locals;
-        heap = heap-loosened most structs params pair.state.heap is.state.heap;
-      };
-    } in
-    in_forms-fit most structs params slots pair answer small are few_slots few (record { missing = missing; state = state }) loose h
+    in_forms-fit most structs params slots pair answer small are few_slots few (record { missing = missing; state = state }) (pair-loosened most structs params slots pair is) h
 
 pub abstract_pair_is_within : AbstractPairIsWithin
 abstract_pair_is_within most structs kinds slots pair answer flow mark small are few_slots few is missing state h =

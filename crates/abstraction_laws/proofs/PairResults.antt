@@ -110,7 +110,7 @@ arranged-large params state =
     let long : length placed.heap.spatial ≡ length state.heap.spatial = placed-length params state.locals state.heap.spatial in
     larger-trans state placed (arranged params state) (record { parts = omega (arith, long); locals = refl }) (mapped-large (with_number 65536 (sight_state Existential placed [])) placed)
 
-canon-small : (params : ℕ) (pair : Pair) → IsNoLarger pair (canon_of params pair)
+pub canon-small : (params : ℕ) (pair : Pair) → IsNoLarger pair (canon_of params pair)
 canon-small params pair =
     let first : SymState = arranged params (without_locals pair.missing) in
     let second : SymState = arranged params pair.state in

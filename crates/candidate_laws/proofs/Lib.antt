@@ -1,0 +1,4 @@
+pub mod LeavingLaws
+pub mod GivenCases
+pub mod PresLaws
+pub mod SearchFormed

@@ -1,6 +1,6 @@
 -- The candidates of a procedure: pairs of a missing heap and a state are executed from the empty missing heap, first in first out; the
 -- missing heap at each exit is a candidate. A path that is dropped drops no other.
-use Rattle.std.specs.Prelude.{ℕ, zero, suc, List, [], ◌∷◌, map, slice_get}
+use Rattle.std.specs.Prelude.{ℕ, zero, suc, List, [], ◌∷◌, map}
 use Rattle.std.specs.declared.option.Option.{Option}
 use Rattle.std.specs.declared.option.Option.TheVariants.{None, Some}
 use Rattle.shape_data.specs.declared.answer.Fault.TheVariants as fault

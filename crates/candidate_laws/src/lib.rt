@@ -4,6 +4,7 @@
 //! again, without abduction.
 #![tactic(auto)]
 
+pub mod examples;
 pub mod laws;
 mod parts;
 

@@ -16,16 +16,9 @@ use Rattle.annotation_laws.specs.Annotation.{annotate}
 use Rattle.candidate_laws.specs.declared.parts.Dropped.{Dropped}
 use Rattle.candidate_laws.specs.declared.parts.Found.{Found}
 use Rattle.candidate_laws.specs.Candidates.{candidates}
-
--- a candidate stands, as a spec with its certificate, or it fell, for a reason
-pub data Trial : Type 0 where
-  Stands : (spec : Spec) (cert : Cert) → Trial
-  Fell : (why : Reason) → Trial
-
--- what was found for a procedure, and what became of each candidate, in their order
-pub record Attempt : Type 0 where
-  pub found : Found
-  pub trials : List Trial
+use Rattle.solve_laws.specs.declared.parts.Attempt.{Attempt}
+use Rattle.solve_laws.specs.declared.parts.Trial.{Trial}
+use Rattle.solve_laws.specs.declared.parts.Trial.TheVariants.{Fell, Stands}
 
 -- done gives a spec; else the candidate fell, for its fault or its budget
 abbrev pub trial_of : SymHeap → Annotated → Trial

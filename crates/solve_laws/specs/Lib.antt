@@ -1,4 +1,5 @@
 pub mod Attempts
 pub mod Laws
 pub mod Solving
+pub mod Standing
 pub mod Tables

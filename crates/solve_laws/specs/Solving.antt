@@ -16,7 +16,10 @@ use Rattle.exec_laws.specs.declared.parts.Table.{Table}
 use Rattle.certificate_laws.specs.declared.parts.SpecGap.{SpecGap}
 use Rattle.certificate_laws.specs.Coming.{Task}
 use Rattle.certificate_laws.specs.Gaps.{spec_gap}
-use Rattle.solve_laws.specs.Attempts.{Attempt, Fell, Stands, Trial, attempt, count_of, specs_of, summaries_of, try}
+use Rattle.solve_laws.specs.declared.parts.Attempt.{Attempt}
+use Rattle.solve_laws.specs.declared.parts.Trial.{Trial}
+use Rattle.solve_laws.specs.declared.parts.Trial.TheVariants.{Fell, Stands}
+use Rattle.solve_laws.specs.Attempts.{attempt, count_of, specs_of, summaries_of, try}
 use Rattle.solve_laws.specs.Tables.{same_specs, table_with, task_under}
 
 -- each procedure's candidates, annotated under a table

@@ -5,3 +5,6 @@
 #![tactic(auto)]
 
 pub mod laws;
+mod parts;
+
+pub use parts::{Attempt, Trial};
