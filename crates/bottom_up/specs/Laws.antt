@@ -21,4 +21,4 @@ abbrev pub EachIsReported : Type 0
 EachIsReported =
     (program : Program) → IsProgram program → (length (program_summaries program) ≡ length program.procs)
     × ((number : ℕ) (proc : Proc) (summary : ProcSummary) → slice_get program.procs number ≡ Some proc → slice_get (program_summaries program) number ≡ Some summary →
-        IsReported program number proc summary)
+    IsReported program number proc summary)

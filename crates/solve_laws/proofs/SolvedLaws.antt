@@ -180,7 +180,7 @@ module _ (few_found : CandidatesAreFew) (found_formed : CandidatesAreWellFormed)
     alone-among (flow ∷ flows) stand =
         let good : IsTask (alone flow) = task-with key is_key [] false flow (none-are-own key.structs key.procs) (All-head IsMember flow flows stand) in (
           all-tried (IsInductiveCert (alone flow)) (FormedPre flow) (alone flow) (λ pre holds posts cert is. done_inductive (alone flow) pre posts cert good holds is)
-          (candidates (alone flow)).pres (found_formed (alone flow) good),
+              (candidates (alone flow)).pres (found_formed (alone flow) good),
           alone-among flows (All-tail IsMember flow flows stand),
         )
 

@@ -1,7 +1,6 @@
 //! Laws of solving, each the contract of a function that does nothing but call the laws that it stands on.
 ghost use Rattle.solve_laws.specs.Laws.{SolvedHasReasons, SolvedIsFew, SolvedIsInductive, SolvedIsWellFormed, SpecsFitKeys, StandingIsWellFormed, StandingStaysWellFormed, TasksAreWellFormed};
 
-
 /// The answer of a well-formed key is inductive: each spec has a certificate that passes the check.
 pub fn solved_is_inductive()
     requires stub { ⊥ }
