@@ -1,5 +1,6 @@
 -- Searches by hand: of a procedure that reads a field, one that walks along a list, one that calls another, and one that calls itself.
-use Rattle.std.specs.Prelude.{ℕ, pos, true, false, List, [], ◌∷◌}
+use Rattle.std.specs.Prelude.{ℕ, pos, true, false, List, [], ◌∷◌, replicate}
+use Rattle.std.specs.declared.option.Option.{Option}
 use Rattle.std.specs.declared.option.Option.TheVariants.{None, Some}
 use Rattle.shape_data.specs.declared.answer.Callee.{Callee}
 use Rattle.shape_data.specs.declared.answer.Fault.{Fault}
@@ -9,15 +10,18 @@ use Rattle.shape_data.specs.declared.program.Operand.TheVariants.{Slot, Num}
 use Rattle.shape_data.specs.declared.program.TestOp.TheVariants as test
 use Rattle.shape_data.specs.declared.program.Ty.TheVariants.{Ptr, Void}
 use Rattle.shape_data.specs.declared.symbolic.Exp.TheVariants.{Var}
-use Rattle.shape_data.specs.declared.symbolic.Fact.TheVariants.{Eq}
+use Rattle.shape_data.specs.declared.symbolic.Fact.TheVariants.{Eq, Ne}
 use Rattle.shape_data.specs.declared.symbolic.Spec.{Spec}
 use Rattle.shape_data.specs.declared.symbolic.SymHeap.{SymHeap}
 use Rattle.shape_laws.specs.Examples.{node_name, node_struct, on_line}
-use Rattle.sym_matching.specs.Examples.{cell, heap, list, null}
-use Rattle.exec_laws.specs.Examples.{callee, post, spec}
+use Rattle.sym_canon.specs.declared.parts.Pair.{Pair}
+use Rattle.sym_matching.specs.Examples.{cell, heap, list, null, state}
+use Rattle.exec_laws.specs.Examples.{callee, pair, post, spec}
 use Rattle.certificate_laws.specs.Coming.{Task}
 use Rattle.certificate_laws.specs.Examples.{get_flow, get_spec, length_flow, length_spec, read_flow, whole_list}
+use Rattle.candidate_laws.specs.declared.parts.Dropped.{Dropped}
 use Rattle.candidate_laws.specs.declared.parts.Found.{Found}
+use Rattle.candidate_laws.specs.Searching.{Search}
 
 -- the analysis of a procedure whose callees are these
 abbrev pub calling : Flow → List Callee → Task
@@ -93,3 +97,31 @@ twice_flow = record {
 
 abbrev pub twice_task : Task
 twice_task = calling twice_flow (callee (100 ∷ 114 ∷ 111 ∷ 112 ∷ []) ((120 ∷ []) ∷ []) (spec whole_list (post null (heap [] []) ∷ []) ∷ []) ∷ [])
+
+-- THE LIMITS
+
+-- a drop at a line
+abbrev pub drop_at : Fault → ℕ → Option Dropped
+drop_at cause line = Some (record { fault = cause; line = line })
+
+-- a search of one node, where these are listed, these wait, and these were found
+abbrev pub searching : List Pair → List (ℕ × Pair) → List SymHeap → Option Dropped → Search
+searching listed queue pres first_drop = record { nodes = listed ∷ []; queue = queue; pres = pres; first_drop = first_drop }
+
+-- nothing is missing; the local is x, or 0
+abbrev pub x_pair : Pair
+x_pair = pair (heap [] []) (state (Var 0 ∷ []) [] [])
+
+abbrev pub null_pair : Pair
+null_pair = pair (heap [] []) (state (null ∷ []) [] [])
+
+-- so many facts are missing
+abbrev pub large_pair : ℕ → Pair
+large_pair count = pair (heap (replicate count (Ne (Var 0) null)) []) (state (Var 0 ∷ []) [] [])
+
+-- so many times the same is listed, or was found
+abbrev pub listed : ℕ → List Pair
+listed count = replicate count null_pair
+
+abbrev pub found_before : ℕ → List SymHeap
+found_before count = replicate count last_node
