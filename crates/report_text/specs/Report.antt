@@ -116,6 +116,22 @@ total_line procs specs none = line_of (codes "total " ++ decimal procs ++ codes 
 abbrev pub spec_count : List ProcSummary → ℕ
 spec_count summaries = length (flat_map (λ (summary : ProcSummary). summary.specs) summaries)
 
+-- how many of the summaries have no spec
+abbrev pub none_count : List ProcSummary → ℕ
+none_count summaries = count_by has_no_spec summaries
+
 -- the total line of summaries
 abbrev pub total_text : List ProcSummary → List ℕ
-total_text summaries = total_line (length summaries) (spec_count summaries) (count_by has_no_spec summaries)
+total_text summaries = total_line (length summaries) (spec_count summaries) (none_count summaries)
+
+-- REPORTS
+
+-- the blocks of procedures, each with its summary, in order
+abbrev pub blocks_text : List StructDef → List Proc → List ProcSummary → List ℕ
+blocks_text structs [] summaries = []
+blocks_text structs (proc ∷ procs) [] = []
+blocks_text structs (proc ∷ procs) (summary ∷ summaries) = block_text structs proc summary ++ blocks_text structs procs summaries
+
+-- a report: the blocks of all procedures, and the total line
+abbrev pub report_of : List StructDef → List Proc → List ProcSummary → List ℕ
+report_of structs procs summaries = blocks_text structs procs summaries ++ total_text summaries

@@ -1,8 +1,7 @@
 //! The block of a procedure: its name, its file and its line, and then its specs, or why it has none.
-ghost use Rattle.std.specs.Prelude.{◌≡◌, ◌++◌, length, All, IfOk, OnOk};
+ghost use Rattle.std.specs.Prelude.{◌≡◌, ◌++◌, All, IfOk, OnOk};
 ghost use Rattle.std.specs.List.{flat_map, list_any};
-ghost use Rattle.shape_data.specs.WellFormed.{IsPost, IsSpec};
-ghost use Rattle.sym_text.specs.Grammar.{written};
+ghost use Rattle.sym_text.specs.Shape.{IsShapedPost, IsShapedSpec};
 ghost use Rattle.report_text.specs.Parts.{IsPrintable};
 ghost use Rattle.report_text.specs.Report.{block_text, has_result, head_line, is_junk, leak_text, post_line, spec_lines, summary_lines};
 
@@ -12,7 +11,7 @@ use shape_data::name::Name;
 use shape_data::program::{Proc, StructDef, Ty};
 use shape_data::symbolic::{Atom, Post, Spec, SymHeap};
 use std::alloc::{AllocError, Global};
-use sym_text::{print_heap, print_post};
+use sym_text::{push_heap, push_post};
 
 /// Whether a procedure of this type has a result.
 fn has_result(ty: &Ty) -> bool
@@ -55,38 +54,35 @@ fn push_leak(text: &mut Vec<u8>, heap: &SymHeap) -> Result<(), AllocError>
 
 /// Appends the line of a post.
 #[tactic(auto, using(crate::proofs::Appending::appending))]
-fn push_post(
-    alloc: Global,
+fn push_post_line(
     text: &mut Vec<u8>,
     structs: &[StructDef],
     params: &[Name],
     ty: &Ty,
     post: &Post,
 ) -> Result<(), AllocError>
-    requires { IsPost written structs.now (length params.now) post.now }
+    requires { IsShapedPost structs.now post.now }
     ensures { OnOk result (text.new.items ≡ text.old.items ++ post_line structs.now params.now ty.now post.now) }
 {
-    let printed = print_post(alloc, post, params, structs, has_result(ty))?;
     text.extend_from_slice(b" post ")?;
-    text.extend_from_slice(printed.as_slice())?;
+    push_post(text, params, structs, post, has_result(ty))?;
     push_leak(text, &post.heap)?;
     text.extend_from_slice(b"\n")
 }
 
 /// Appends the lines of posts.
 fn push_posts(
-    alloc: Global,
     text: &mut Vec<u8>,
     structs: &[StructDef],
     params: &[Name],
     ty: &Ty,
     posts: &[Post],
 ) -> Result<(), AllocError>
-    requires { All (IsPost written structs.now (length params.now)) posts.now }
+    requires { All (IsShapedPost structs.now) posts.now }
     ensures { OnOk result (text.new.items ≡ text.old.items ++ flat_map (post_line structs.now params.now ty.now) posts.now) }
 {
     for post in posts {
-        push_post(alloc, text, structs, params, ty, post)?;
+        push_post_line(text, structs, params, ty, post)?;
     }
     Ok(())
 }
@@ -94,37 +90,34 @@ fn push_posts(
 /// Appends the lines of a spec.
 #[tactic(auto, using(crate::proofs::Appending::appending))]
 fn push_spec(
-    alloc: Global,
     text: &mut Vec<u8>,
     structs: &[StructDef],
     params: &[Name],
     ty: &Ty,
     spec: &Spec,
 ) -> Result<(), AllocError>
-    requires { IsSpec written structs.now (length params.now) spec.now }
+    requires { IsShapedSpec structs.now spec.now }
     ensures { OnOk result (text.new.items ≡ text.old.items ++ spec_lines structs.now params.now ty.now spec.now) }
 {
-    let printed = print_heap(alloc, &spec.pre, params, structs)?;
     text.extend_from_slice(b" pre ")?;
-    text.extend_from_slice(printed.as_slice())?;
+    push_heap(text, params, structs, &spec.pre)?;
     text.extend_from_slice(b"\n")?;
-    push_posts(alloc, text, structs, params, ty, spec.posts.as_slice())
+    push_posts(text, structs, params, ty, spec.posts.as_slice())
 }
 
 /// Appends the lines of specs.
 fn push_specs(
-    alloc: Global,
     text: &mut Vec<u8>,
     structs: &[StructDef],
     params: &[Name],
     ty: &Ty,
     specs: &[Spec],
 ) -> Result<(), AllocError>
-    requires { All (IsSpec written structs.now (length params.now)) specs.now }
+    requires { All (IsShapedSpec structs.now) specs.now }
     ensures { OnOk result (text.new.items ≡ text.old.items ++ flat_map (spec_lines structs.now params.now ty.now) specs.now) }
 {
     for spec in specs {
-        push_spec(alloc, text, structs, params, ty, spec)?;
+        push_spec(text, structs, params, ty, spec)?;
     }
     Ok(())
 }
@@ -144,13 +137,12 @@ fn push_head(text: &mut Vec<u8>, proc: &Proc) -> Result<(), AllocError>
 
 /// Appends the lines of a summary: of its specs, or of the reason why there is none.
 fn push_summary(
-    alloc: Global,
     text: &mut Vec<u8>,
     structs: &[StructDef],
     proc: &Proc,
     summary: &ProcSummary,
 ) -> Result<(), AllocError>
-    requires { IsPrintable structs.now (length proc.now.flow.params) summary.now }
+    requires { IsPrintable structs.now summary.now }
     ensures { OnOk result (text.new.items ≡ text.old.items ++ summary_lines structs.now proc.now summary.now.specs summary.now.reason) }
 {
     if summary.specs.is_empty() {
@@ -161,7 +153,6 @@ fn push_summary(
     } else {
         let flow = &proc.flow;
         push_specs(
-            alloc,
             text,
             structs,
             flow.params.as_slice(),
@@ -171,23 +162,40 @@ fn push_summary(
     }
 }
 
+/// Appends the block of a procedure with its summary, as [`block`] makes it.
+///
+/// # Errors
+///
+/// Only want of memory; what the text then is, is not said.
+#[tactic(auto, using(crate::proofs::Appending::appending))]
+pub fn push_block(
+    text: &mut Vec<u8>,
+    structs: &[StructDef],
+    proc: &Proc,
+    summary: &ProcSummary,
+) -> Result<(), AllocError>
+    requires { IsPrintable structs.now summary.now }
+    ensures { OnOk result (text.new.items ≡ text.old.items ++ block_text structs.now proc.now summary.now) }
+{
+    push_head(text, proc)?;
+    push_summary(text, structs, proc, summary)
+}
+
 /// The block of a procedure with its summary, over the structures of its program: `PROC FILE LINE`, then for each spec its
 /// precondition and its posts, or without a spec one line that says why.
 ///
 /// The line of a node counts from the procedure's first line, that of a report from the file's. The only error is want of
 /// memory.
-#[tactic(auto, using(crate::proofs::Appending::appending))]
 pub fn block(
     alloc: Global,
     proc: &Proc,
     summary: &ProcSummary,
     structs: &[StructDef],
 ) -> Result<Vec<u8>, AllocError>
-    requires { IsPrintable structs.now (length proc.now.flow.params) summary.now }
+    requires { IsPrintable structs.now summary.now }
     ensures { IfOk result (λ text. text.items ≡ block_text structs.now proc.now summary.now) }
 {
     let mut text = Vec::new(alloc);
-    push_head(&mut text, proc)?;
-    push_summary(alloc, &mut text, structs, proc, summary)?;
+    push_block(&mut text, structs, proc, summary)?;
     Ok(text)
 }

@@ -1,7 +1,6 @@
 //! Blocks and total lines, by hand from the table of the report.
 ghost use Rattle.std.specs.Prelude.{◌≡◌, ◌≤◌, [], length, All, IfOk, Some};
-ghost use Rattle.shape_data.specs.WellFormed.{IsPost, IsSpec, IsSymHeap};
-ghost use Rattle.sym_text.specs.Grammar.{written};
+ghost use Rattle.sym_text.specs.Shape.{IsShapedHeap, IsShapedPost, IsShapedSpec};
 ghost use Rattle.report_text.specs.Parts.{AreCountable};
 
 use crate::{block, total};
@@ -206,7 +205,7 @@ fn a_block_without_a_spec_says_why(rt: HostRuntime) -> Result<(), Fail> {
 
 /// A heap with `junk`, or with nothing.
 fn heap_of(alloc: Global, junk: bool) -> Result<SymHeap, AllocError>
-    ensures { IfOk result (IsSymHeap written [] 0) }
+    ensures { IfOk result (IsShapedHeap []) }
 {
     let mut spatial = Row::new(alloc);
     if junk {
@@ -220,7 +219,7 @@ fn heap_of(alloc: Global, junk: bool) -> Result<SymHeap, AllocError>
 
 /// A post with a result, and with `junk` or nothing.
 fn post_of(alloc: Global, ret: i32, junk: bool) -> Result<Post, AllocError>
-    ensures { IfOk result (IsPost written [] 0) }
+    ensures { IfOk result (IsShapedPost []) }
 {
     Ok(Post {
         ret: Exp::Const(ret),
@@ -230,7 +229,7 @@ fn post_of(alloc: Global, ret: i32, junk: bool) -> Result<Post, AllocError>
 
 /// A spec with such a post.
 fn spec_of(alloc: Global, ret: i32, junk: bool) -> Result<Spec, AllocError>
-    ensures { IfOk result (IsSpec written [] 0) }
+    ensures { IfOk result (IsShapedSpec []) }
 {
     let mut posts = Row::new(alloc);
     posts.push(post_of(alloc, ret, junk)?)?;
@@ -242,7 +241,7 @@ fn spec_of(alloc: Global, ret: i32, junk: bool) -> Result<Spec, AllocError>
 
 /// One such spec, or none.
 fn specs_of(alloc: Global, some: bool, ret: i32, junk: bool) -> Result<Row<Spec>, AllocError>
-    ensures specs { IfOk result (All (IsSpec written [] 0)) }
+    ensures specs { IfOk result (All (IsShapedSpec [])) }
     ensures few { IfOk result (λ specs. length specs ≤ 1) }
 {
     let mut specs = Row::new(alloc);

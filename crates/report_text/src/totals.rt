@@ -1,10 +1,10 @@
-//! The total line of a report.
-ghost use Rattle.std.specs.Prelude.{◌≡◌, ◌*◌, ◌≤◌, ◌^◌, length, All, IfOk};
-ghost use Rattle.std.specs.List.{count_by, flat_map};
+//! The total line of a report, of summaries or of answers.
+ghost use Rattle.std.specs.Prelude.{◌≡◌, ◌*◌, ◌≤◌, ◌^◌, ◌++◌, length, All, IfOk, OnOk};
+ghost use Rattle.std.specs.List.{flat_map};
 ghost use Rattle.shape_types.specs.declared.answer.Answer.{Answer};
 ghost use Rattle.shape_data.specs.WellFormed.{IsCountable};
 ghost use Rattle.report_text.specs.Parts.{AreCountable};
-ghost use Rattle.report_text.specs.Report.{has_no_spec, spec_count, total_line, total_text};
+ghost use Rattle.report_text.specs.Report.{none_count, spec_count, total_line, total_text};
 
 use itoa::Buffer;
 use shape_data::answer::{Answer, ProcSummary};
@@ -25,8 +25,8 @@ fn count_specs(summaries: &[ProcSummary]) -> u128
 }
 
 /// How many of the summaries have no spec.
-fn count_none(summaries: &[ProcSummary]) -> usize
-    ensures exact { result ≡ count_by has_no_spec summaries.now }
+pub fn count_none(summaries: &[ProcSummary]) -> usize
+    ensures exact { result ≡ none_count summaries.now }
     ensures within { result ≤ length summaries.now }
 {
     let mut count = 0;
@@ -38,20 +38,36 @@ fn count_none(summaries: &[ProcSummary]) -> usize
     count
 }
 
-/// The line of these totals.
+/// Appends the line of these totals.
 #[tactic(auto, using(crate::proofs::Appending::appending))]
-fn line_with(alloc: Global, procs: u128, specs: u128, none: u128) -> Result<Vec<u8>, AllocError>
-    ensures { IfOk result (λ text. text.items ≡ total_line procs specs none) }
+fn push_line(text: &mut Vec<u8>, procs: u128, specs: u128, none: u128) -> Result<(), AllocError>
+    ensures { OnOk result (text.new.items ≡ text.old.items ++ total_line procs specs none) }
 {
     let mut buffer = Buffer::new();
-    let mut text = Vec::from_slice(alloc, b"total ")?;
+    text.extend_from_slice(b"total ")?;
     text.extend_from_slice(buffer.format(procs).as_bytes())?;
     text.extend_from_slice(b" ")?;
     text.extend_from_slice(buffer.format(specs).as_bytes())?;
     text.extend_from_slice(b" ")?;
     text.extend_from_slice(buffer.format(none).as_bytes())?;
-    text.extend_from_slice(b"\n")?;
-    Ok(text)
+    text.extend_from_slice(b"\n")
+}
+
+/// Appends the total line of summaries: how many they are, how many specs they have, and how many of them none.
+///
+/// # Errors
+///
+/// Only want of memory; what the text then is, is not said.
+pub fn push_total(text: &mut Vec<u8>, summaries: &[ProcSummary]) -> Result<(), AllocError>
+    requires { AreCountable summaries.now }
+    ensures { OnOk result (text.new.items ≡ text.old.items ++ total_text summaries.now) }
+{
+    push_line(
+        text,
+        summaries.len() as u128,
+        count_specs(summaries),
+        count_none(summaries) as u128,
+    )
 }
 
 /// The total line of answers: how many procedures they have, how many specs these, and how many of them none. The only error
@@ -70,5 +86,7 @@ pub fn total(alloc: Global, answers: &[Arc<Answer>]) -> Result<Vec<u8>, AllocErr
         specs += count_specs(summaries);
         none += count_none(summaries) as u128;
     }
-    line_with(alloc, procs, specs, none)
+    let mut text = Vec::new(alloc);
+    push_line(&mut text, procs, specs, none)?;
+    Ok(text)
 }

@@ -16,3 +16,4 @@ pub mod CellTexts
 pub mod NameLaws
 pub mod NumberLaws
 pub mod WordLaws
+pub mod ShapeLaws

@@ -3,3 +3,4 @@ pub mod Grammar
 pub mod Led
 pub mod Reading
 pub mod Outcome
+pub mod Shape

@@ -3,9 +3,8 @@
 ghost use Rattle.std.specs.Prelude.{◌≡◌, ◌∷◌, [], ◌++◌, false, ◌<◌, ◌≤◌, length, map, codes, All, OnOk, IfOk};
 ghost use Rattle.std.specs.Fmt.{decimal, signed_decimal};
 ghost use Rattle.std.specs.List.{join_by};
-ghost use Rattle.shape_data.specs.WellFormed.{IsAtom, IsSymHeap, IsPost};
-ghost use Rattle.sym_text.specs.Grammar.{written};
 ghost use Rattle.sym_text.specs.Led.{led_texts};
+ghost use Rattle.sym_text.specs.Shape.{IsShaped, IsShapedHeap, IsShapedPost};
 ghost use Rattle.sym_text.specs.Text.{variable_text, exp_text, fact_text, field_names, field_texts, atom_text, heap_text, ret_text, post_text};
 
 use itoa::Buffer;
@@ -168,7 +167,7 @@ fn push_atom(
     structs: &[StructDef],
     atom: &Atom,
 ) -> Result<(), AllocError>
-    requires { IsAtom written structs.now (length params.now) atom.now }
+    requires { IsShaped structs.now atom.now }
     ensures { OnOk result (text.new.items ≡ text.old.items ++ atom_text structs.now params.now atom.now) }
 {
     match atom {
@@ -235,7 +234,7 @@ fn push_atoms(
     atoms: &[Atom],
     mut led: bool,
 ) -> Result<(), AllocError>
-    requires { All (IsAtom written structs.now (length params.now)) atoms.now }
+    requires { All (IsShaped structs.now) atoms.now }
     ensures { OnOk result (text.new.items ≡ text.old.items ++ led_texts (codes " * ") led (map (atom_text structs.now params.now) atoms.now)) }
 {
     for atom in atoms {
@@ -248,14 +247,22 @@ fn push_atoms(
     Ok(())
 }
 
-/// Appends a heap.
-fn push_heap(
+/// Appends the text of a heap over these parameters and structures: `emp`, or its facts and then its atoms with ` * ` between
+/// each two. Its cells have as many fields as their structures, and its segments' links are fields of theirs.
+///
+/// The parameters name the logical variables from 0 on; with k of them variable k + n - 1 is written `$n`, and variable
+/// 65,535 + n is `?n`.
+///
+/// # Errors
+///
+/// Only want of memory; what the text then is, is not said.
+pub fn push_heap(
     text: &mut Vec<u8>,
     params: &[Name],
     structs: &[StructDef],
     heap: &SymHeap,
 ) -> Result<(), AllocError>
-    requires { IsSymHeap written structs.now (length params.now) heap.now }
+    requires { IsShapedHeap structs.now heap.now }
     ensures { OnOk result (text.new.items ≡ text.old.items ++ heap_text structs.now params.now heap.now) }
 {
     if heap.pure.is_empty() && heap.spatial.is_empty() {
@@ -271,18 +278,48 @@ fn push_heap(
     )
 }
 
-/// The text of a heap over these parameters and structures: `emp`, or its facts and then its atoms with ` * ` between each
-/// two. The heap is well formed, has at most 4,000 parts, and each `$n` and `?n` in it has n at most 32,768.
+/// Appends ` ret=` and a result, if asked.
+#[tactic(auto, using(crate::proofs::Appending::appending))]
+fn push_ret(text: &mut Vec<u8>, params: &[Name], with_ret: bool, ret: Exp) -> Result<(), AllocError>
+    ensures { OnOk result (text.new.items ≡ text.old.items ++ ret_text params.now with_ret ret) }
+{
+    if with_ret {
+        text.extend_from_slice(b" ret=")?;
+        push_exp(text, params, ret)
+    } else {
+        Ok(())
+    }
+}
+
+/// Appends the text of a post over these parameters and structures: its heap, as [`push_heap`] writes it, and, if asked, ` ret=`
+/// and its result.
 ///
-/// The parameters name the logical variables from 0 on; with k of them variable k + n - 1 is written `$n`, and variable
-/// 65,535 + n is `?n`. The only error is want of memory.
+/// # Errors
+///
+/// Only want of memory; what the text then is, is not said.
+#[tactic(auto, using(crate::proofs::Appending::appending))]
+pub fn push_post(
+    text: &mut Vec<u8>,
+    params: &[Name],
+    structs: &[StructDef],
+    post: &Post,
+    with_ret: bool,
+) -> Result<(), AllocError>
+    requires { IsShapedPost structs.now post.now }
+    ensures { OnOk result (text.new.items ≡ text.old.items ++ post_text structs.now params.now with_ret post.now) }
+{
+    push_heap(text, params, structs, &post.heap)?;
+    push_ret(text, params, with_ret, post.ret)
+}
+
+/// The text of a heap over these parameters and structures, as [`push_heap`] appends it. The only error is want of memory.
 pub fn print_heap(
     alloc: Global,
     heap: &SymHeap,
     params: &[Name],
     structs: &[StructDef],
 ) -> Result<Vec<u8>, AllocError>
-    requires { IsSymHeap written structs.now (length params.now) heap.now }
+    requires { IsShapedHeap structs.now heap.now }
     ensures { IfOk result (λ text. text.items ≡ heap_text structs.now params.now heap.now) }
 {
     let mut text = Vec::new(alloc);
@@ -290,9 +327,7 @@ pub fn print_heap(
     Ok(text)
 }
 
-/// The text of a post over these parameters and structures: its heap and, if asked, ` ret=` and its result. The post is well
-/// formed within the same limits as the heap of [`print_heap`]. The only error is want of memory.
-#[tactic(auto, using(crate::proofs::Appending::appending))]
+/// The text of a post over these parameters and structures, as [`push_post`] appends it. The only error is want of memory.
 pub fn print_post(
     alloc: Global,
     post: &Post,
@@ -300,14 +335,10 @@ pub fn print_post(
     structs: &[StructDef],
     with_ret: bool,
 ) -> Result<Vec<u8>, AllocError>
-    requires { IsPost written structs.now (length params.now) post.now }
+    requires { IsShapedPost structs.now post.now }
     ensures { IfOk result (λ text. text.items ≡ post_text structs.now params.now with_ret post.now) }
 {
     let mut text = Vec::new(alloc);
-    push_heap(&mut text, params, structs, &post.heap)?;
-    if with_ret {
-        text.extend_from_slice(b" ret=")?;
-        push_exp(&mut text, params, post.ret)?;
-    }
+    push_post(&mut text, params, structs, post, with_ret)?;
     Ok(text)
 }

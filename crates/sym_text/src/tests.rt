@@ -4,6 +4,7 @@ ghost use Rattle.shape_data.specs.WellFormed.{IsTy, IsStruct, AreStructs, ArePar
 
 mod tables;
 
+use crate::laws::well_formed_is_shaped;
 use crate::{BadSpec, print_heap, print_post, read_heap, read_post};
 use shape_data::names::{have_different_names, is_c_name};
 use shape_data::program::{Field, StructDef, Ty};
@@ -114,6 +115,7 @@ fn check_heap(
     if text.len() >= 4_294_967_296 || !are_params(scope.params) || !are_structs(scope.structs) {
         return Err(Fail::from("no scope"));
     }
+    well_formed_is_shaped();
     match read_heap(alloc, text, scope.params, scope.structs) {
         Ok(heap) => {
             let printed = print_heap(alloc, &heap, scope.params, scope.structs)?;
@@ -141,6 +143,7 @@ fn check_post(
     if text.len() >= 4_294_967_296 || !are_params(scope.params) || !are_structs(scope.structs) {
         return Err(Fail::from("no scope"));
     }
+    well_formed_is_shaped();
     match read_post(alloc, text, scope.params, scope.structs) {
         Ok(post) => {
             let printed = print_post(alloc, &post, scope.params, scope.structs, true)?;
