@@ -1,0 +1,8 @@
+pub mod Listed
+pub mod Over
+pub mod Formed
+pub mod Named
+pub mod Reported
+pub mod Puts
+pub mod Summed
+pub mod Solved

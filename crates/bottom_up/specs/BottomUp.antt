@@ -1,4 +1,4 @@
--- What is known of a program when all its components are solved, callees first.
+-- What is known of a program when all its components are answered, callees first.
 use Rattle.std.specs.Prelude.{ℕ, List, [], ◌∷◌, ◌++◌, map, slice_get}
 use Rattle.std.specs.List.{filter_map, find, flat_map}
 use Rattle.std.specs.Str.{bytes_eq}
@@ -20,31 +20,47 @@ pub record Known : Type 0 where
   pub key : Key
   pub answer : Answer
 
--- a key with the answer that solving gives
-abbrev pub solved : Key → Known
-solved key = record { key = key; answer = solve key }
+-- a key with the answer that it is given
+abbrev pub answered : (Key → Answer) → Key → Known
+answered answer_of key = record { key = key; answer = answer_of key }
+
+-- the answers alone
+abbrev pub answers_in : List Known → List Answer
+answers_in known = map (λ (one : Known). one.answer) known
 
 -- the specs that a component's answer has for a procedure
-abbrev pub specs_known : Option Known → List ℕ → List Spec
+abbrev pub specs_known : Option Answer → List ℕ → List Spec
 specs_known None name = []
-specs_known (Some known) name = specs_in known.answer name
+specs_known (Some answer) name = specs_in answer name
 
--- a procedure outside as a callee, with the specs that are known of it
-abbrev pub callee_from : List Known → Outer → Callee
-callee_from before outer = record { name = outer.name; params = outer.params; specs = specs_known (slice_get before outer.component) outer.name }
+-- a procedure outside as a callee, with the specs that its component's answer has for it
+abbrev pub callee_by : Outer → Option Answer → Callee
+callee_by outer answer = record { name = outer.name; params = outer.params; specs = specs_known answer outer.name }
 
--- the key of a component, made of what is known of the components before it
-abbrev pub key_after : List StructDef → List Known → Component → Key
-key_after structs before part = key_over structs part.flows (map (callee_from before) part.outer)
+abbrev pub callee_from : List Answer → Outer → Callee
+callee_from answers outer = callee_by outer (slice_get answers outer.component)
 
--- each component is solved over those before it
-abbrev pub known_from : List StructDef → List Component → List Known → List Known
-known_from structs [] before = before
-known_from structs (part ∷ parts) before = known_from structs parts (before ++ solved (key_after structs before part) ∷ [])
+-- the key of a component, made of the answers of the components before it
+abbrev pub key_after : List StructDef → List Answer → Component → Key
+key_after structs answers part = key_over structs part.flows (map (callee_from answers) part.outer)
 
--- BOTTOM UP: what is known of the components of a program, callees first
-unfoldable pub bottom_up : Program → List Known
-bottom_up program = known_from program.structs (program_components program) []
+-- a component is known, and then those after it
+abbrev pub known_then : (List Answer → List Known) → List Answer → Known → List Known
+known_then others answers one = one ∷ others (answers ++ one.answer ∷ [])
+
+-- each component is answered over those before it
+abbrev pub known_over : (Key → Answer) → List StructDef → List Component → List Answer → List Known
+known_over answer_of structs [] answers = []
+known_over answer_of structs (part ∷ parts) answers =
+    known_then (known_over answer_of structs parts) answers (answered answer_of (key_after structs answers part))
+
+-- what is known of the components of a program, callees first, where each key has such an answer
+unfoldable pub known_by : (Key → Answer) → Program → List Known
+known_by answer_of program = known_over answer_of program.structs (program_components program) []
+
+-- BOTTOM UP, from nothing: each key is solved
+abbrev pub bottom_up : Program → List Known
+bottom_up program = known_by solve program
 
 -- THE SUMMARIES
 

@@ -1,2 +1,3 @@
 pub mod BottomUp
 pub mod Laws
+pub mod Placed

@@ -3,3 +3,10 @@
 #![tactic(auto)]
 
 pub mod laws;
+pub mod places;
+pub mod solving;
+pub mod summing;
+#[cfg(test)]
+mod tests;
+
+pub use summing::summaries;

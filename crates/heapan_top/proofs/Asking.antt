@@ -1,37 +1,27 @@
 -- A stream asks for one thing, and a long one for nothing.
-use Rattle.std.proofs.Common.{◌≡◌, ℕ, ◌<◌, ◌≤◌, Bool, true, false, List, ◌∷◌, ◌++◌, length, length-append, refl, sym, ap, ◌∙◌, subst, arith, inl, inr, ◌⊎◌}
+use Rattle.std.proofs.Common.{◌≡◌, ℕ, ◌<◌, ◌≤◌, List, ◌∷◌, ◌++◌, length, length-append, refl, ap, ◌∙◌, subst, arith, inl, inr, ◌⊎◌}
 use Rattle.std.specs.Fmt.{decimal}
 use Rattle.std.proofs.lemmas.Fmt.{length-decimal-le}
 use Rattle.shape_data.specs.declared.program.Program.{Program}
 use Rattle.heapan_top.specs.declared.programs.Refused.{Refused}
 use Rattle.heapan_top.specs.Parts.{IsEnding}
 use Rattle.heapan_top.specs.Programs.{IsRefusedFile, IsProgramOf}
-use Rattle.heapan_top.specs.Replies.{Asked, Asks, Nothing, NoProgram, NotYet, Report, all_return}
+use Rattle.heapan_top.specs.Replies.{Asked, Asks, Nothing, NoProgram, Report}
 use Rattle.heapan_top.specs.Request.{IsRequest}
+use Rattle.heapan_top.proofs.Deciding.{request_decided}
 use Rattle.heapan_top.proofs.OneProgram.{one_refused, one_program, program_or_refused, refused_or_program}
 use Rattle.heapan_top.proofs.RequestLemmas.{request-IsPut, request_once}
 
 -- what a report on a text of this name is
 data Means (name text : List ℕ) : Asked → Type 0 where
   no_program : (refused : Refused) → IsRefusedFile name text refused → Means name text (NoProgram name refused)
-  not_yet : (program : Program) → IsProgramOf name text program → all_return program ≡ false → Means name text (NotYet name)
-  report : (program : Program) → IsProgramOf name text program → all_return program ≡ true → Means name text (Report program)
-
--- a program is analysed or not
-analysed_or_not : (name text : List ℕ) (one other : Program) → IsProgramOf name text one → IsProgramOf name text other → all_return one ≡ true → all_return other ≡ false → ⊥
-analysed_or_not name text one other p q returns not =
-    let same : true ≡ false = sym returns ∙ ap all_return (one_program name text one other p q) ∙ not in cc
+  report : (program : Program) → IsProgramOf name text program → Means name text (Report program)
 
 means_one : (name text : List ℕ) (one other : Asked) → Means name text one → Means name text other → one ≡ other
 means_one name text _ _ (no_program refused r) (no_program refused' r') = ap (NoProgram name) (one_refused name text refused refused' r r')
-means_one name text _ _ (no_program refused r) (not_yet program p later) = absurd (program_or_refused name text program refused p r)
-means_one name text _ _ (no_program refused r) (report program p all) = absurd (program_or_refused name text program refused p r)
-means_one name text _ _ (not_yet program p later) (no_program refused r) = absurd (program_or_refused name text program refused p r)
-means_one name text _ _ (not_yet program p later) (not_yet program' p' later') = refl
-means_one name text _ _ (not_yet program p later) (report program' p' all) = absurd (analysed_or_not name text program' program p' p all later)
-means_one name text _ _ (report program p all) (no_program refused r) = absurd (program_or_refused name text program refused p r)
-means_one name text _ _ (report program p all) (not_yet program' p' later) = absurd (analysed_or_not name text program program' p p' all later)
-means_one name text _ _ (report program p all) (report program' p' all') = ap Report (one_program name text program program' p p')
+means_one name text _ _ (no_program refused r) (report program p) = absurd (program_or_refused name text program refused p r)
+means_one name text _ _ (report program p) (no_program refused r) = absurd (program_or_refused name text program refused p r)
+means_one name text _ _ (report program p) (report program' p') = ap Report (one_program name text program program' p p')
 
 module _ (stream : List ℕ) where
   asks_of : (name text : List ℕ) (asked : Asked) → IsRequest stream name text → Asks stream asked → Means name text asked
@@ -40,14 +30,10 @@ module _ (stream : List ℕ) where
     where
       of_one : (name' ≡ name) × (text' ≡ text) → Means name text (NoProgram name' refused)
       of_one (n, t) = subst (λ n. Means n text (NoProgram name' refused)) n (subst (λ t. Means name' t (NoProgram name' refused)) t (no_program refused r))
-  asks_of name text _ is (Asks.not_yet name' text' program is' p later) = of_one (request_once stream name' text' name text is' is)
-    where
-      of_one : (name' ≡ name) × (text' ≡ text) → Means name text (NotYet name')
-      of_one (n, t) = subst (λ n. Means n text (NotYet name')) n (subst (λ t. Means name' t (NotYet name')) t (not_yet program p later))
-  asks_of name text _ is (Asks.report name' text' program is' p all) = of_one (request_once stream name' text' name text is' is)
+  asks_of name text _ is (Asks.report name' text' program is' p) = of_one (request_once stream name' text' name text is' is)
     where
       of_one : (name' ≡ name) × (text' ≡ text) → Means name text (Report program)
-      of_one (n, t) = subst (λ n. Means n text (Report program)) n (subst (λ t. Means name' t (Report program)) t (report program p all))
+      of_one (n, t) = subst (λ n. Means n text (Report program)) n (subst (λ t. Means name' t (Report program)) t (report program p))
 
   -- two things that one request asks for
   asked_by_one : (name text : List ℕ) (one other : Asked) → IsRequest stream name text → Asks stream one → Asks stream other → one ≡ other
@@ -56,27 +42,25 @@ module _ (stream : List ℕ) where
   pub asked_once : (one other : Asked) → Asks stream one → Asks stream other → one ≡ other
   asked_once _ _ (Asks.nothing never) (Asks.nothing never') = refl
   asked_once _ _ (Asks.nothing never) (Asks.no_program name text refused is r) = absurd (never name text is)
-  asked_once _ _ (Asks.nothing never) (Asks.not_yet name text program is p later) = absurd (never name text is)
-  asked_once _ _ (Asks.nothing never) (Asks.report name text program is p all) = absurd (never name text is)
+  asked_once _ _ (Asks.nothing never) (Asks.report name text program is p) = absurd (never name text is)
   asked_once one other (Asks.no_program name text refused is r) b = asked_by_one name text _ other is (Asks.no_program name text refused is r) b
-  asked_once one other (Asks.not_yet name text program is p later) b = asked_by_one name text _ other is (Asks.not_yet name text program is p later) b
-  asked_once one other (Asks.report name text program is p all) b = asked_by_one name text _ other is (Asks.report name text program is p all) b
+  asked_once one other (Asks.report name text program is p) b = asked_by_one name text _ other is (Asks.report name text program is p) b
 
   -- a request asks for something
   request_asks : (name text : List ℕ) → IsRequest stream name text → (asked : Asked) × Asks stream asked
   request_asks name text is = by_text (refused_or_program name text)
     where
-      by_program : (program : Program) → IsProgramOf name text program → (b : Bool) → all_return program ≡ b → (asked : Asked) × Asks stream asked
-      by_program program p true e = (Report program, Asks.report name text program is p e)
-      by_program program p false e = (NotYet name, Asks.not_yet name text program is p e)
-
       by_text : ((refused : Refused) × IsRefusedFile name text refused) ⊎ ((program : Program) × IsProgramOf name text program) → (asked : Asked) × Asks stream asked
       by_text (inl (refused, r)) = (NoProgram name refused, Asks.no_program name text refused is r)
-      by_text (inr (program, p)) = by_program program p (all_return program) refl
+      by_text (inr (program, p)) = (Report program, Asks.report name text program is p)
 
-  -- it cannot be that a stream asks for nothing at all
-  pub asked_some : ((asked : Asked) → Asks stream asked → ⊥) → ⊥
-  asked_some never = never Nothing (Asks.nothing (λ name text is. let (asked, asks) = request_asks name text is in never asked asks))
+  -- each stream asks for something
+  pub asked_some : (asked : Asked) × Asks stream asked
+  asked_some = by (request_decided stream)
+    where
+      by : ((name : List ℕ) × (file : List ℕ) × IsRequest stream name file) ⊎ ((name file : List ℕ) → IsRequest stream name file → ⊥) → (asked : Asked) × Asks stream asked
+      by (inl (name, text, is)) = request_asks name text is
+      by (inr never) = (Nothing, Asks.nothing never)
 
 -- a request has fewer bytes than are read at most
 request_short : (stream name file : List ℕ) → IsRequest stream name file → length stream < 1048800

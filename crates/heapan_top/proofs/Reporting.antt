@@ -1,5 +1,5 @@
 -- From what the front end answers to the program that a file is, and from a report to the reply to the stream.
-use Rattle.std.proofs.Common.{◌≡◌, ℕ, Bool, true, false, List, [], ◌∷◌, Option, Some, None, inl, inr, refl, sym, ap, ◌∙◌}
+use Rattle.std.proofs.Common.{◌≡◌, ℕ, List, [], ◌∷◌, Option, Some, None, inl, inr, refl, sym, ap, ◌∙◌}
 use Rattle.std.specs.Prelude.{slice_get}
 use Rattle.std.specs.Option.{option_map, option_or}
 use Rattle.shape_data.specs.declared.program.Program.{Program}
@@ -14,10 +14,11 @@ use Rattle.c_lower.specs.declared.fault.LowerFault.{LowerFault}
 use Rattle.c_lower.specs.declared.fault.LowerFault.TheVariants as lower
 use Rattle.c_lower.specs.Lowering.{IsLowerFault}
 use Rattle.heapan_top.specs.declared.programs.Refused.{Refused}
-use Rattle.heapan_top.specs.declared.status.Status.TheVariants as status
-use Rattle.heapan_top.specs.Parts.{IsProgramFault, IsReply, IsReportOn, asked_by, reply_on, of_front, of_lowering}
+use Rattle.heapan_top.specs.declared.status.Status.{Status}
+use Rattle.heapan_top.specs.Parts.{IsProgramFault, IsReplyTo, IsReportOn, of_front, of_lowering}
 use Rattle.heapan_top.specs.Programs.{IsRefusedFile, IsProgramOf, of_refusal, of_place, of_proc, program_in, refused_in, MOST_PROCEDURES}
-use Rattle.heapan_top.specs.Replies.{Asks, NoProgram, NotYet, Report, all_return, reply_to}
+use Rattle.heapan_top.specs.Replies.{Asked, Asks}
+use Rattle.heapan_top.specs.Request.{IsRequest}
 
 -- PROGRAMS
 
@@ -66,17 +67,5 @@ module _ (name text : List ℕ) where
 
   -- REPORTS
 
-  pub refusal-IsReportOn : (bytes : List ℕ) (refused : Refused) → IsRefusedFile name text refused → bytes ≡ reply_to (NoProgram name refused) → IsReportOn name text bytes
-  refusal-IsReportOn bytes refused r same stream is = record {
-    asked = NoProgram name refused;
-    asks = Asks.no_program name text refused is r;
-    is_text = same;
-    is_end = refl;
-  }
-
-  pub program-IsReportOn : (bytes : List ℕ) (program : Program) → IsProgramOf name text program → bytes ≡ reply_on name program → IsReportOn name text bytes
-  program-IsReportOn bytes program p same stream is = by (all_return program) refl same
-    where
-      by : (b : Bool) → all_return program ≡ b → bytes ≡ reply_to (asked_by name program b) → IsReply stream bytes status.Done
-      by true all same = record { asked = Report program; asks = Asks.report name text program is p all; is_text = same; is_end = refl }
-      by false later same = record { asked = NotYet name; asks = Asks.not_yet name text program is p later; is_text = same; is_end = refl }
+  pub answered : (asked : Asked) → ((stream : List ℕ) → IsRequest stream name text → Asks stream asked) → (bytes : List ℕ) (ended : Status) → IsReplyTo asked bytes ended → IsReportOn name text bytes ended
+  answered asked asks bytes ended same stream is = record { asked = asked; asks = asks stream is; is_text = same.0; is_end = same.1 }

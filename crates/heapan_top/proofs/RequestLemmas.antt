@@ -7,8 +7,9 @@ use Rattle.std.proofs.lemmas.Fmt.{decimal_is_IsNumeral, decimal_injective}
 use Rattle.std.proofs.lemmas.Str.Parse.{digit_at}
 use Rattle.std.proofs.lemmas.List.{take_at, drop_at}
 use Rattle.std.proofs.lemmas.List.Elements.{All-head, All-tail, All-nil, All-cons, All-from_get_or}
+use Rattle.session_lines.specs.Lines.{IsFileName, is_file_byte}
 use Rattle.heapan_top.specs.Parts.{IsAbsent, IsEnding, IsPut}
-use Rattle.heapan_top.specs.Request.{IsFileName, IsRequest, is_file_byte, request}
+use Rattle.heapan_top.specs.Request.{IsRequest, request}
 
 -- the first such byte parts the bytes in one way
 pub part_once : (byte : ℕ) (xs us ys vs : List ℕ) → IsAbsent byte xs → IsAbsent byte us → xs ++ byte ∷ ys ≡ us ++ byte ∷ vs → (xs ≡ us) × (ys ≡ vs)

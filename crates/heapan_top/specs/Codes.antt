@@ -3,9 +3,10 @@ use Rattle.std.specs.Prelude.{ℕ}
 use Rattle.heapan_top.specs.declared.status.Status.{Status}
 use Rattle.heapan_top.specs.declared.status.Status.TheVariants as status
 
--- the number of a status; 1, 5 and 7 are kept for statuses that no call ends with yet
+-- the number of a status; 5 and 7 are kept for statuses that no call ends with yet
 abbrev pub code_of : Status → ℕ
 code_of status.Done = 0
+code_of status.Unproven = 1
 code_of (status.Refused command offset) = 2
 code_of status.ReadFault = 3
 code_of status.WriteFault = 4

@@ -4,5 +4,4 @@ pub mod Parts
 pub mod Programs
 pub mod Replies
 pub mod Request
-pub mod Text
 pub mod Typing

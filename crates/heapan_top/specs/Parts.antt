@@ -1,7 +1,6 @@
 -- What the parts of the program promise one another. No contract of a call that other crates see cites it.
-use Rattle.std.specs.Prelude.{◌≡◌, ◌≢◌, ℕ, Bool, true, false, List, ◌∷◌, ◌++◌, ◌⊎◌, All, codes}
+use Rattle.std.specs.Prelude.{◌≡◌, ◌≢◌, ℕ, List, ◌∷◌, ◌++◌, ◌⊎◌, All, codes}
 use Rattle.std.specs.declared.option.Option.{Option}
-use Rattle.shape_data.specs.declared.program.Program.{Program}
 use Rattle.heapan_top.specs.declared.front_fault.FrontFault.{FrontFault}
 use Rattle.heapan_top.specs.declared.front_fault.FrontFault.TheVariants as front
 use Rattle.c_lower.specs.declared.fault.LowerFault.{LowerFault}
@@ -12,7 +11,7 @@ use Rattle.heapan_top.specs.declared.status.Status.{Status}
 use Rattle.heapan_top.specs.declared.status.Status.TheVariants as status
 use Rattle.heapan_top.specs.Headline.{Appends, AppendsSome}
 use Rattle.heapan_top.specs.Programs.{IsRefusedFile, of_refusal, of_place}
-use Rattle.heapan_top.specs.Replies.{Asked, Asks, Nothing, NotYet, Report, all_return, reply_to}
+use Rattle.heapan_top.specs.Replies.{Asked, Asks, reply_to, status_of}
 use Rattle.heapan_top.specs.Request.{IsRequest}
 
 -- the byte stands nowhere in the bytes
@@ -44,30 +43,20 @@ abbrev pub of_lowering : LowerFault → ProgramFault
 of_lowering (lower.Refused at) = fault.Refused (of_place at)
 of_lowering lower.OutOfMemory = fault.OutOfMemory
 
--- what is asked for by a request whose file is this program, where each of its procedures begins by returning, and where not
-abbrev pub asked_by : List ℕ → Program → Bool → Asked
-asked_by name program true = Report program
-asked_by name program false = NotYet name
-
--- the reply to a request for a report on a program
-abbrev pub reply_on : List ℕ → Program → List ℕ
-reply_on name program = reply_to (asked_by name program (all_return program))
-
--- how a call ends that answers this
-abbrev pub status_after : Asked → Status
-status_after Nothing = status.Refused 1 0
-status_after _ = status.Done
+-- the bytes and the status answer what is asked for
+abbrev pub IsReplyTo : Asked → List ℕ → Status → Type 0
+IsReplyTo asked text ended = (text ≡ reply_to asked) × (ended ≡ status_of asked)
 
 -- the bytes are the reply to the stream, and the call ends so
 pub record IsReply (stream text : List ℕ) (ended : Status) : Type 0 where
   pub asked : Asked
   pub asks : Asks stream asked
   pub is_text : text ≡ reply_to asked
-  pub is_end : ended ≡ status_after asked
+  pub is_end : ended ≡ status_of asked
 
--- the bytes are the reply to each stream that is a request for a report on this text of this name
-abbrev pub IsReportOn : List ℕ → List ℕ → List ℕ → Type 0
-IsReportOn name text bytes = (stream : List ℕ) → IsRequest stream name text → IsReply stream bytes status.Done
+-- the bytes are the reply to each stream that is a request for a report on this text of this name, and the call ends so
+abbrev pub IsReportOn : List ℕ → List ℕ → List ℕ → Status → Type 0
+IsReportOn name text bytes ended = (stream : List ℕ) → IsRequest stream name text → IsReply stream bytes ended
 
 -- the bytes were written and the call ends as it was to end, or a front of them and it ends in a fault
 abbrev pub Ends : Option (List ℕ) → Option (List ℕ) → List ℕ → Status → Status → Type 0

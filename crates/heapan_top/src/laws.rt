@@ -6,6 +6,7 @@ ghost use Rattle.heapan_top.specs.Headline.{PrintsValid};
 ghost use Rattle.heapan_top.specs.Programs.{IsProgramOf};
 ghost use Rattle.heapan_top.specs.Replies.{Asked, Asks};
 
+use bottom_up::laws::each_is_reported;
 use c_lower_rules::laws::{parsed_files_are_texts, programs_are_well_formed};
 use c_types_rules::laws::first_refusal;
 
@@ -14,12 +15,12 @@ pub fn asked_is_one()
     ensures { (stream : List ℕ) (one other : Asked) → Asks stream one → Asks stream other → one ≡ other }
 {}
 
-/// A stream asks for one thing at least: that none fits cannot be.
+/// Each stream asks for something: what, is decided.
 pub fn asked_is_some()
-    ensures { (stream : List ℕ) → ((asked : Asked) → Asks stream asked → ⊥) → ⊥ }
+    ensures { (stream : List ℕ) → (asked : Asked) × Asks stream asked }
 {}
 
-/// A file in which nothing is refused is a well formed program, whether it is analysed yet or not.
+/// A file in which nothing is refused is a well formed program.
 pub fn accepted_is_well_formed()
     ensures { (name text : List ℕ) (program : Program) → length text ≤ 1048576 → IsProgramOf name text program → IsProgram program }
 {
@@ -33,4 +34,5 @@ pub fn printed_is_valid()
     ensures { (stream : List ℕ) → PrintsValid stream }
 {
     accepted_is_well_formed();
+    each_is_reported();
 }

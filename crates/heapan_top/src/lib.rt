@@ -10,7 +10,6 @@ mod session;
 mod status;
 #[cfg(test)]
 mod tests;
-mod texts;
 mod typing;
 
 pub use session::run;

@@ -1,9 +1,9 @@
 //! The program that one C file is, by the whole front end: reading, types, lowering, and the number of procedures. It stands on
 //! the contracts of these, and finds the first refusal of all.
 ghost use Rattle.std.specs.Prelude.{◌≡◌, ◌≤◌, length, option_map, slice_get, IfOk, IfErr};
+ghost use Rattle.session_lines.specs.Lines.{IsFileName};
 ghost use Rattle.heapan_top.specs.Parts.{IsProgramFault};
 ghost use Rattle.heapan_top.specs.Programs.{IsProgramOf, MOST_PROCEDURES as most, of_proc};
-ghost use Rattle.heapan_top.specs.Request.{IsFileName};
 
 use crate::front_fault::FrontFault;
 use crate::typing::typed_file;

@@ -2,11 +2,11 @@
 //! line feed, so the first of each part the stream, and a stream is at most one request.
 ghost use Rattle.std.specs.Prelude.{◌≡◌, ◌≢◌, ◌≤◌, ◌<◌, ◌^◌, ◌↔◌, ℕ, List, ◌∷◌, ◌++◌, IsTrue, IfSome, IfNone, Some};
 ghost use Rattle.std.specs.Fmt.{decimal};
-ghost use Rattle.std.specs.List.{list_all};
 ghost use Rattle.heapan_top.specs.Parts.{IsAbsent, IsEnding, IsPut};
-ghost use Rattle.heapan_top.specs.Request.{IsFileName, IsRequest, is_file_byte};
+ghost use Rattle.heapan_top.specs.Request.{IsRequest};
 
 use itoa::Buffer;
+use session_lines::names::is_file_name;
 
 /// A file that is put, by its name and its bytes.
 #[derive(Clone, Copy, Debug)]
@@ -15,32 +15,8 @@ pub struct Request<'a> {
     pub file: &'a [u8],
 }
 
-/// The most bytes of a file's name.
-const MOST_NAME_BYTES: usize = 64;
-
 /// The most bytes of a file.
 const MOST_FILE_BYTES: usize = 1_048_576;
-
-/// Whether the byte may stand in a file's name.
-fn is_file_byte(byte: u8) -> bool
-    ensures { result ≡ is_file_byte byte }
-{
-    byte.is_ascii_alphanumeric() || matches!(byte, b'.' | b'_' | b'-' | b'/')
-}
-
-/// Whether each byte may stand in a file's name.
-fn are_file_bytes(bytes: &[u8]) -> bool
-    ensures { result ≡ list_all is_file_byte bytes.now }
-{
-    bytes.iter().all(|byte| is_file_byte(*byte))
-}
-
-/// Whether the bytes are a file's name.
-fn is_file_name(bytes: &[u8]) -> bool
-    ensures { IsTrue result ↔ IsFileName bytes.now }
-{
-    !bytes.is_empty() && bytes.len() <= MOST_NAME_BYTES && are_file_bytes(bytes)
-}
 
 /// What stands before and behind the first such byte.
 fn split_at_first(bytes: &[u8], byte: u8) -> Option<(&[u8], &[u8])>

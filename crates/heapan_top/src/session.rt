@@ -3,7 +3,7 @@
 ghost use Rattle.std.specs.Prelude.{◌≡◌, ◌≢◌, ◌↔◌, ℕ, IsTrue, IfSome};
 ghost use Rattle.io_ports.specs.Bytes.{IsNothingLeft};
 ghost use Rattle.io_ports.specs.Counts.{Rose};
-ghost use Rattle.heapan_top.specs.Headline.{Answers, AnswersOtherWords, AreRightWords, Completes, HasRead, PrintsValid, word_bytes};
+ghost use Rattle.heapan_top.specs.Headline.{Answers, AnswersOtherWords, AreRightWords, Completes, HasRead, HasReported, PrintsValid, word_bytes};
 ghost use Rattle.heapan_top.specs.Parts.{Ends};
 
 use crate::laws::printed_is_valid;
@@ -62,7 +62,7 @@ fn answer_bytes<K: Sink>(alloc: Global, sink: &mut K, bytes: &[u8]) -> Status
 fn answer_stream<S: Source, K: Sink>(alloc: Global, source: &mut S, sink: &mut K) -> Status
     ensures answers { IfSome (S.left source.old) (λ stream. Answers stream (K.held sink.old) (K.held sink.new) result) }
     ensures reads { HasRead (S.left source.old) (S.left source.new) result }
-    ensures to_the_end { result ≡ Status.Done → IsNothingLeft (S.left source.new) }
+    ensures to_the_end { HasReported result → IsNothingLeft (S.left source.new) }
     ensures silent { result ≡ Status.ReadFault → sink.new ≡ sink.old }
     ensures usage { result ≢ Status.Usage }
     ensures refused { (command offset : ℕ) → result ≡ Status.Refused command offset → (command ≡ 1) × (offset ≡ 0) }
@@ -94,8 +94,8 @@ pub fn run<S: Source, K: Sink>(
     ensures untouched { (AreRightWords (word_bytes words.now) → ⊥) → source.new ≡ source.old }
 
     // Which status comes when. Want of memory may come at any time.
-    ensures done { result.status ≡ Status.Done → AreRightWords (word_bytes words.now) }
-    ensures to_the_end { result.status ≡ Status.Done → IsNothingLeft (S.left source.new) }
+    ensures reported { HasReported result.status → AreRightWords (word_bytes words.now) }
+    ensures to_the_end { HasReported result.status → IsNothingLeft (S.left source.new) }
     ensures refused { (command offset : ℕ) → result.status ≡ Status.Refused command offset
         → AreRightWords (word_bytes words.now) × (command ≡ 1) × (offset ≡ 0) }
     ensures usage { result.status ≡ Status.Usage → AreRightWords (word_bytes words.now) → ⊥ }

@@ -3,8 +3,10 @@
 /// How it ended, with the number that the process ends with.
 #[derive(Clone, Copy, PartialEq, Eq, Debug)]
 pub enum Status {
-    /// All was read and answered.
+    /// All was read and answered, and no procedure that was reported on is without a spec.
     Done,
+    /// All was read and answered, and some procedure that was reported on is without a spec.
+    Unproven,
     /// A command is malformed: its number, from 1, and the offset of its first byte in the stream.
     Refused { command: u32, offset: u64 },
     /// The words are not those that the program takes.
@@ -27,6 +29,7 @@ impl Status {
     {
         match self {
             Status::Done => 0,
+            Status::Unproven => 1,
             Status::Refused { .. } => 2,
             Status::ReadFault => 3,
             Status::WriteFault => 4,

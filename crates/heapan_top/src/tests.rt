@@ -1,17 +1,21 @@
 //! The program over memory. The bytes that are wanted are those of the README, or worked by hand from the definitions.
 
 mod flows;
+mod stack;
 mod tables;
 mod types;
+mod worked;
 
 use crate::{Outcome, Status, run};
 use io_ports::{
     InPieces, MemorySink, MemorySource, ReadEnd, Sink, Source, SteadySink, SteadySource, read_up_to,
 };
+use stack::STACK;
 use std::alloc::{AllocError, Global};
 use std::process::Abort;
 use std::test::Fail;
-use tables::{REFUSED, REFUSED_BELOW, REPORTED, REPORTED_TOGETHER};
+use tables::{ANALYSED, REFUSED, REFUSED_BELOW, REPORTED, REPORTED_TOGETHER};
+use worked::{STACK_REPLY, WORKED};
 
 /// The first example: what is read, and what is written.
 const IDENTITY: &[u8] = b"put a.c 24\nint id(int a){return a;}report\n";
@@ -64,13 +68,18 @@ fn answers(
     Ok(())
 }
 
-/// The stream that puts a file as `a.c` and asks for a report.
-fn put(alloc: Global, file: &[u8]) -> Result<Vec<u8>, AllocError> {
-    let mut stream = Vec::from_slice(alloc, b"put a.c ")?;
-    stream.extend_from_slice(format!(in alloc; "{}\n", file.len())?.as_bytes())?;
+/// The stream that puts a file under a name and asks for a report.
+fn put_as(alloc: Global, name: &str, file: &[u8]) -> Result<Vec<u8>, AllocError> {
+    let line = format!(in alloc; "put {name} {}\n", file.len())?;
+    let mut stream = Vec::from_slice(alloc, line.as_bytes())?;
     stream.extend_from_slice(file)?;
     stream.extend_from_slice(b"report\n")?;
     Ok(stream)
+}
+
+/// The stream that puts a file as `a.c` and asks for a report.
+fn put(alloc: Global, file: &[u8]) -> Result<Vec<u8>, AllocError> {
+    put_as(alloc, "a.c", file)
 }
 
 #[test]
@@ -111,6 +120,34 @@ fn a_procedure_is_reported_by_what_it_returns(rt: HostRuntime) -> Result<(), Fai
 #[test]
 fn all_procedures_are_reported_in_order(rt: HostRuntime) -> Result<(), Fail> {
     all_answer(&rt, rt.alloc(), &REPORTED_TOGETHER)
+}
+
+#[test]
+fn a_few_commands_are_executed(rt: HostRuntime) -> Result<(), Fail> {
+    all_answer(&rt, rt.alloc(), &ANALYSED)
+}
+
+#[test]
+fn worked_files_are_reported(rt: HostRuntime) -> Result<(), Fail> {
+    let alloc = rt.alloc();
+    for (file, want, status) in WORKED {
+        let stream = put(alloc, file.as_bytes())?;
+        answers(&rt, alloc, stream.as_slice(), want.as_bytes(), status)?;
+    }
+    Ok(())
+}
+
+#[test]
+fn the_stack_module_is_reported(rt: HostRuntime) -> Result<(), Fail> {
+    let alloc = rt.alloc();
+    let stream = put_as(alloc, "stack.c", STACK)?;
+    answers(
+        &rt,
+        alloc,
+        stream.as_slice(),
+        STACK_REPLY.as_bytes(),
+        Status::Done,
+    )
 }
 
 #[test]
@@ -159,17 +196,25 @@ fn what_is_too_long_is_refused(rt: HostRuntime) -> Result<(), Fail> {
     refuses(&rt, alloc, body.as_slice(), 1, 131)
 }
 
-/// A text with so many pieces passes as far as the last refusal, and with one more it has this code.
+/// What a procedure `f` that takes nothing of the heap and leaves nothing is answered, in a file of it alone.
+const NOTHING: &[u8] = b"ok\nf a.c 1\n pre emp\n post emp\ntotal 1 1 0\n";
+
+/// The same where its result is any number.
+const ANY_NUMBER: &[u8] = b"ok\nf a.c 1\n pre emp\n post emp ret=?1\ntotal 1 1 0\n";
+
+/// A text with so many pieces is answered with these bytes, and with one more it is refused with this code.
 fn passes_up_to(
     rt: &impl Abort,
     alloc: Global,
     parts: [&[u8]; 3],
     most: usize,
+    want: &[u8],
     code: u16,
 ) -> Result<(), Fail> {
     let [before, piece, behind] = parts;
     let few = repeated(alloc, before, piece, most, behind)?;
-    refuses(rt, alloc, few.as_slice(), 1, 190)?;
+    let stream = put(alloc, few.as_slice())?;
+    answers(rt, alloc, stream.as_slice(), want, Status::Done)?;
     let many = repeated(alloc, before, piece, most.saturating_add(1), behind)?;
     refuses(rt, alloc, many.as_slice(), 1, code)
 }
@@ -183,6 +228,7 @@ fn limits_are_reached(rt: HostRuntime) -> Result<(), Fail> {
         alloc,
         [b"void f(int a) { ", b"a = 1; ", b"}"],
         511,
+        NOTHING,
         131,
     )?;
     // Each addition takes a temporary.
@@ -191,6 +237,7 @@ fn limits_are_reached(rt: HostRuntime) -> Result<(), Fail> {
         alloc,
         [b"int f(int a) { return a", b" + a", b"; }"],
         16,
+        ANY_NUMBER,
         132,
     )
 }
@@ -219,7 +266,8 @@ fn what_has_too_many_parts_is_refused(rt: HostRuntime) -> Result<(), Fail> {
     let locals = with_ints(alloc, b"void f(void) { ", letters, b"}")?;
     refuses(&rt, alloc, locals.as_slice(), 1, 132)?;
     let fewer = with_ints(alloc, b"void f(void) { ", &letters[1..], b"}")?;
-    refuses(&rt, alloc, fewer.as_slice(), 1, 190)?;
+    let stream = put(alloc, fewer.as_slice())?;
+    answers(&rt, alloc, stream.as_slice(), NOTHING, Status::Done)?;
     let fields = with_ints(alloc, b"struct s { ", b"abcdefghijklmnopq", b"};")?;
     refuses(&rt, alloc, fields.as_slice(), 1, 134)?;
     let few = with_ints(alloc, b"struct s { ", b"abcdefghijklmnop", b"};")?;
@@ -407,6 +455,7 @@ fn want_of_memory_is_told_and_leaves_a_front(rt: HostRuntime) -> Result<(), Fail
 fn a_status_has_its_number(rt: HostRuntime) {
     let rows = [
         (Status::Done, 0),
+        (Status::Unproven, 1),
         (FIRST_REFUSED, 2),
         (Status::ReadFault, 3),
         (Status::WriteFault, 4),

@@ -24,7 +24,7 @@ is_true : (b : Bool) → Decided (IsTrue b)
 is_true true = inl refl
 is_true false = inr (λ e. cc)
 
-at_most : (few many : ℕ) → Decided (few ≤ many)
+pub at_most : (few many : ℕ) → Decided (few ≤ many)
 at_most few many = by (cases_lt many few)
   where
     by : (many < few) ⊎ (few ≤ many) → Decided (few ≤ many)
@@ -52,8 +52,18 @@ same_bytes (x ∷ xs) (y ∷ ys) = by (same_number x y) (same_bytes xs ys)
     by (inl first) (inr other) = inr (λ e. let others : xs ≡ ys = cc in other others)
     by (inr other) others = inr (λ e. let first : x ≡ y = cc in other first)
 
+-- one of two
+pub either : (P Q : Type 0) → Decided P → Decided Q → Decided (P ⊎ Q)
+either P Q (inl p) other = inl (inl p)
+either P Q (inr never) (inl q) = inl (inr q)
+either P Q (inr never) (inr none) = inr (λ one. at one)
+  where
+    at : P ⊎ Q → ⊥
+    at (inl p) = never p
+    at (inr q) = none q
+
 -- both of two
-both : (P Q : Type 0) → Decided P → Decided Q → Decided (P × Q)
+pub both : (P Q : Type 0) → Decided P → Decided Q → Decided (P × Q)
 both P Q (inl p) (inl q) = inl (p, q)
 both P Q (inl p) (inr never) = inr (λ pair. never pair.1)
 both P Q (inr never) other = inr (λ pair. never pair.0)
@@ -73,7 +83,7 @@ below P decide (suc bound) = by (decide bound) (below P decide bound)
         at n under p (inr most) = let same : n ≡ bound = omega (arith, under, most) in never (subst P same p)
 
 -- a name of a file
-file_name : (name : List ℕ) → Decided (IsFileName name)
+pub file_name : (name : List ℕ) → Decided (IsFileName name)
 file_name name = by (both (1 ≤ length name) ((length name ≤ 64) × IsTrue (list_all is_file_byte name)) (at_most 1 (length name))
     (both (length name ≤ 64) (IsTrue (list_all is_file_byte name)) (at_most (length name) 64) (is_true (list_all is_file_byte name))))
   where
@@ -145,7 +155,7 @@ gen_decided bound argument = by (below (λ n. (1 ≤ n) × (argument ≡ decimal
 abbrev IsBehindWord : List ℕ → List ℕ → (List ℕ → Type 0) → Type 0
 IsBehindWord word text P = (argument : List ℕ) × (text ≡ word ++ argument) × P argument
 
-dropped : (word argument : List ℕ) → drop (length word) (word ++ argument) ≡ argument
+pub dropped : (word argument : List ℕ) → drop (length word) (word ++ argument) ≡ argument
 dropped [] argument = refl
 dropped (x ∷ word) argument = dropped word argument
 

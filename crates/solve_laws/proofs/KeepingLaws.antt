@@ -1,9 +1,9 @@
 -- What every annotation gives holds of all that stands, through rounds, strict annotation and passes.
-use Rattle.std.specs.Prelude.{◌≡◌, ℕ, zero, suc, ◌≤◌, Bool, true, false, cond, ◌==◌, List, [], ◌∷◌, filter_map, length, map, All, IfSome}
+use Rattle.std.specs.Prelude.{◌≡◌, ℕ, zero, suc, ◌≤◌, Bool, true, false, cond, ◌==◌, List, [], ◌∷◌, length, map, All, IfSome}
 use Rattle.std.specs.List.{AllZip}
 use Rattle.std.specs.declared.option.Option.{Option}
 use Rattle.std.specs.declared.option.Option.TheVariants.{None, Some}
-use Rattle.std.proofs.Common.{refl, ◌∙◌, arith}
+use Rattle.std.proofs.Common.{refl}
 use Rattle.std.proofs.lemmas.List.{length-map}
 use Rattle.std.proofs.lemmas.List.Elements.{All-head, All-map, All-tail, All-weaker, recursion_from_All}
 use Rattle.shape_data.specs.declared.answer.Key.{Key}
@@ -28,7 +28,7 @@ use Rattle.solve_laws.specs.declared.parts.Attempt.{Attempt}
 use Rattle.solve_laws.specs.declared.parts.Trial.{Trial}
 use Rattle.solve_laws.specs.declared.parts.Trial.TheVariants.{Fell, Stands}
 use Rattle.solve_laws.specs.Attempts.{attempt, count_of, specs_of, summaries_of, summary_of, trial_of, try}
-use Rattle.solve_laws.specs.Solving.{after_rounds, again_with, all_again, all_passes, annotated_again, attempt_again, attempts_again, attempts_under, checked_again, no_specs, pass, passes, round, rounds, strictly, summaries_by, unless_gap, without_specs, MOST_ROUNDS}
+use Rattle.solve_laws.specs.Solving.{after_rounds, again_with, all_passes, annotated_again, attempts_again, attempts_under, checked_again, no_specs, pass, passes, round, rounds, strictly, summaries_by, unless_gap, without_specs, MOST_ROUNDS}
 use Rattle.solve_laws.specs.Tables.{same_specs, table_with, task_under}
 use Rattle.solve_laws.specs.Standing.{AllStanding, IsTried, OfStanding}
 

@@ -1,6 +1,6 @@
 -- A pass that drops nothing shows that all that stands is inductive under the table of it; and among as many passes as there are specs
 -- there is such a one, or nothing stands.
-use Rattle.std.specs.Prelude.{◌≡◌, ℕ, zero, suc, ◌+◌, ◌≤◌, Bool, true, false, cond, ◌==◌, List, [], ◌∷◌, ◌++◌, filter_map, flat_map, length, map}
+use Rattle.std.specs.Prelude.{◌≡◌, ℕ, zero, suc, ◌+◌, ◌≤◌, Bool, true, false, cond, ◌==◌, List, [], ◌∷◌, filter_map, flat_map, length, map}
 use Rattle.std.specs.List.{AllZip}
 use Rattle.std.specs.declared.option.Option.{Option}
 use Rattle.std.specs.declared.option.Option.TheVariants.{None, Some}
@@ -9,8 +9,6 @@ use Rattle.std.proofs.lemmas.Bool.{eqb-false, eqb-true}
 use Rattle.std.proofs.lemmas.List.{length-append}
 use Rattle.shape_data.specs.declared.answer.Key.{Key}
 use Rattle.shape_data.specs.declared.program.Flow.{Flow}
-use Rattle.shape_data.specs.declared.symbolic.Cert.{Cert}
-use Rattle.shape_data.specs.declared.symbolic.Spec.{Spec}
 use Rattle.exec_laws.specs.declared.parts.Table.{Table}
 use Rattle.certificate_laws.specs.declared.parts.SpecGap.{SpecGap}
 use Rattle.certificate_laws.specs.Coming.{Task}

@@ -1,30 +1,24 @@
 -- The laws of solving.
-use Rattle.std.specs.Prelude.{◌≡◌, ℕ, ◌≤◌, Bool, true, false, List, [], ◌∷◌, filter_map, length, map, All, Contains, IfSome, IsSome}
+use Rattle.std.specs.Prelude.{◌≡◌, ◌≤◌, Bool, true, false, List, [], ◌∷◌, filter_map, length, map, All, Contains, IfSome, IsSome}
 use Rattle.std.specs.List.{AllZip}
 use Rattle.std.specs.declared.option.Option.{Option}
 use Rattle.std.specs.declared.option.Option.TheVariants.{None, Some}
-use Rattle.std.proofs.Common.{refl, sym, ap, ◌∙◌, subst, arith}
-use Rattle.std.proofs.lemmas.List.Elements.{All-contains_itself, All-cons, All-from_recursion, All-head, All-nil, All-same, All-tail, recursion_from_All}
-use Rattle.shape_data.specs.declared.answer.Answer.{Answer}
-use Rattle.shape_data.specs.declared.answer.Callee.{Callee}
+use Rattle.std.proofs.Common.{refl, sym, ap, subst, arith}
+use Rattle.std.proofs.lemmas.List.Elements.{All-contains_itself, All-head, All-nil, All-tail}
 use Rattle.shape_data.specs.declared.answer.Key.{Key}
 use Rattle.shape_data.specs.declared.answer.ProcSummary.{ProcSummary}
-use Rattle.shape_data.specs.declared.answer.Reason.{Reason}
 use Rattle.shape_data.specs.declared.program.Flow.{Flow}
 use Rattle.shape_data.specs.declared.symbolic.Cert.{Cert}
-use Rattle.shape_data.specs.declared.symbolic.Post.{Post}
 use Rattle.shape_data.specs.declared.symbolic.Spec.{Spec}
 use Rattle.shape_data.specs.declared.symbolic.SymHeap.{SymHeap}
 use Rattle.shape_data.specs.WellFormed.{HasReason, IsAnswer, IsCert, IsKey, IsSpec, IsSummary, IsSymHeap, widest}
-use Rattle.sound_laws.specs.Answers.{StandAt, own_callees}
+use Rattle.sound_laws.specs.Answers.{own_callees}
 use Rattle.exec_laws.specs.declared.parts.Table.{Table}
 use Rattle.certificate_laws.specs.Coming.{Task}
 use Rattle.certificate_laws.specs.Conditions.{IsTask}
-use Rattle.certificate_laws.specs.Inductive.{Inductive, IsInductiveCert, IsInductiveSummary, table_of, task_of}
+use Rattle.certificate_laws.specs.Inductive.{Inductive, IsInductiveCert, IsInductiveSummary, task_of}
 use Rattle.certificate_laws.specs.Limits.{analysable}
 use Rattle.certificate_laws.proofs.LimitLaws as limits
-use Rattle.annotation_laws.specs.declared.parts.Annotated.TheVariants.{Done}
-use Rattle.annotation_laws.specs.Annotation.{annotate}
 use Rattle.annotation_laws.specs.Laws.{DoneIsInductive, DoneIsSmall, DoneIsWellFormed, IsSmallCert, spec_of}
 use Rattle.candidate_laws.specs.declared.parts.Found.{Found}
 use Rattle.candidate_laws.specs.Candidates.{candidates}
@@ -33,13 +27,13 @@ use Rattle.candidate_laws.specs.Searching.{MOST_CANDIDATES}
 use Rattle.solve_laws.specs.declared.parts.Attempt.{Attempt}
 use Rattle.solve_laws.specs.declared.parts.Trial.{Trial}
 use Rattle.solve_laws.specs.declared.parts.Trial.TheVariants.{Fell, Stands}
-use Rattle.solve_laws.specs.Attempts.{attempt, cert_of, specs_in, specs_of, summaries_of, summary_of, try, why_none}
+use Rattle.solve_laws.specs.Attempts.{attempt, specs_in, specs_of, summaries_of, summary_of, why_none}
 use Rattle.solve_laws.specs.Attempts as attempts
 use Rattle.solve_laws.specs.Laws.{FitKey, IsSmallSummary, SolvedHasReasons, SolvedIsFew, SolvedIsInductive, SolvedIsWellFormed, SpecsFitKeys, StandingIsWellFormed, StandingStaysWellFormed, TasksAreWellFormed}
 use Rattle.solve_laws.specs.Solving.{after_rounds, all_passes, attempts_under, no_specs, rounds, solve, strictly, summaries_by, without_specs, MOST_ROUNDS}
-use Rattle.solve_laws.specs.Standing.{AllStanding, AreFormed, AreOwnSpecs, AreSpecs, IsFormed, IsTried}
+use Rattle.solve_laws.specs.Standing.{AllStanding, AreOwnSpecs, AreSpecs, IsFormed, IsTried}
 use Rattle.solve_laws.specs.Tables.{own_with, table_with, task_under}
-use Rattle.solve_laws.proofs.KeepingLaws.{AreTried, Keeps, all-tried, pass-tried, rounds-tried, strictly-tried, summaries-are, tried-under, all_passes-tried}
+use Rattle.solve_laws.proofs.KeepingLaws.{AreTried, Keeps, all-tried, pass-tried, rounds-tried, strictly-tried, summaries-are, tried-under}
 use Rattle.solve_laws.proofs.MovingLaws.{moves, own-apart, own-none}
 use Rattle.solve_laws.proofs.PassLaws.{InductiveTogether, all-settle}
 use Rattle.solve_laws.proofs.TaskLaws.{empty-are-own, none-are-own, task-with, tasks-with}

@@ -5,11 +5,9 @@ use Rattle.std.proofs.lemmas.List.Elements.{All-append, All-cons, All-contains, 
 use Rattle.shape_data.specs.declared.answer.Callee.{Callee}
 use Rattle.shape_data.specs.declared.answer.Key.{Key}
 use Rattle.shape_data.specs.declared.program.Flow.{Flow}
-use Rattle.shape_data.specs.declared.program.Node.{Node}
 use Rattle.shape_data.specs.declared.program.StructDef.{StructDef}
 use Rattle.shape_data.specs.declared.symbolic.Spec.{Spec}
-use Rattle.shape_data.specs.WellFormed.{FitCalls, FitsCall, IsCallee, IsFlow, IsKey, IsSpec}
-use Rattle.exec_laws.specs.Laws.{IsTableWithin, callees_of}
+use Rattle.shape_data.specs.WellFormed.{FitCalls, IsCallee, IsFlow, IsKey, IsSpec}
 use Rattle.certificate_laws.specs.Conditions.{IsTask}
 use Rattle.certificate_laws.specs.Limits.{analysable}
 use Rattle.certificate_laws.proofs.SoundnessLaws.{fits-both}

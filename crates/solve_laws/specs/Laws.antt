@@ -1,8 +1,7 @@
 -- What holds of every answer that solving gives, and of what stands on the way to it.
-use Rattle.std.specs.Prelude.{ℕ, ◌≤◌, Bool, List, [], length, All, IfSome}
+use Rattle.std.specs.Prelude.{◌≤◌, Bool, List, [], length, All}
 use Rattle.shape_data.specs.declared.answer.Key.{Key}
 use Rattle.shape_data.specs.declared.answer.ProcSummary.{ProcSummary}
-use Rattle.shape_data.specs.declared.symbolic.Cert.{Cert}
 use Rattle.shape_data.specs.declared.symbolic.Spec.{Spec}
 use Rattle.shape_data.specs.WellFormed.{HasReason, IsAnswer, IsKey}
 use Rattle.certificate_laws.specs.Inductive.{Inductive}

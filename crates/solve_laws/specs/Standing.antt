@@ -1,5 +1,5 @@
 -- What holds of the specs and certificates that stand, and of the tables while a component is solved.
-use Rattle.std.specs.Prelude.{ℕ, ◌≤◌, List, [], ◌∷◌, length, All}
+use Rattle.std.specs.Prelude.{◌≤◌, List, [], ◌∷◌, length, All}
 use Rattle.std.specs.List.{AllByRecursion, AllZip}
 use Rattle.shape_data.specs.declared.answer.Key.{Key}
 use Rattle.shape_data.specs.declared.program.Flow.{Flow}

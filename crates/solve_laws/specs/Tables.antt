@@ -1,5 +1,5 @@
 -- The specs that calls may use while a component is solved: some for its own procedures, and those of the key's callees.
-use Rattle.std.specs.Prelude.{Bool, true, false, ◌==◌, ◌&&◌, List, [], ◌∷◌}
+use Rattle.std.specs.Prelude.{Bool, ◌&&◌, List, [], ◌∷◌}
 use Rattle.std.specs.Cmp.Lexicographic.{pointwise}
 use Rattle.shape_data.specs.declared.answer.Callee.{Callee}
 use Rattle.shape_data.specs.declared.answer.Key.{Key}

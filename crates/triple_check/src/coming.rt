@@ -122,7 +122,7 @@ fn start_state(alloc: Global, flow: &Flow, pre: &SymHeap) -> Result<SymState, Al
 }
 
 /// That state in normal and canonical form. The only error is want of memory.
-fn start_form(alloc: Global, flow: &Flow, pre: &SymHeap) -> Result<Option<SymState>, AllocError>
+pub fn start_form(alloc: Global, flow: &Flow, pre: &SymHeap) -> Result<Option<SymState>, AllocError>
     requires { length flow.now.params ≤ 32768 }
     ensures { IfOk result (λ form. form ≡ start_form_of flow.now pre.now) }
 {

@@ -1,14 +1,13 @@
 //! The flow form of small procedures, each written as lines and compared with lines that were worked by hand.
 
 mod rows;
-mod stack;
 
 use crate::programs::program_of;
+use crate::tests::stack::{STACK, STACK_PROCS};
 use itoa::Buffer;
 use rows::{BEFORE, FLOWS};
 use shape_data::name::Name;
 use shape_data::program::{ArithOp, Cmd, Flow, HeadMark, Node, Operand, Program, TestOp, Ty};
-use stack::{STACK, STACK_PROCS};
 use std::alloc::{AllocError, Global};
 use std::rt::HostRuntime;
 use std::test::Fail;

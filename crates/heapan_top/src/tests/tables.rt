@@ -86,8 +86,48 @@ pub const REPORTED_TOGETHER: [(&str, &str); 5] = [
     ),
 ];
 
-/// Files on one line that are refused, or not analysed yet, and the code.
-pub const REFUSED: [(&str, u16); 28] = [
+/// Files of a few commands, and the report.
+pub const ANALYSED: [(&str, &str); 9] = [
+    (
+        "int f(int a) { return a + 1; }",
+        "ok\nf a.c 1\n pre emp\n post emp ret=?1\ntotal 1 1 0\n",
+    ),
+    (
+        "\n\nint f(int a) { return -a; }",
+        "ok\nf a.c 3\n pre emp\n post emp ret=?1\ntotal 1 1 0\n",
+    ),
+    (
+        "int f(int a) { return -1; }",
+        "ok\nf a.c 1\n pre emp\n post emp ret=-1\ntotal 1 1 0\n",
+    ),
+    (
+        "int f(int a) { return !a; }",
+        "ok\nf a.c 1\n pre emp\n post a!=0 ret=0\n post a=0 ret=1\ntotal 1 1 0\n",
+    ),
+    (
+        "int f(int a) { if (a) return 1; return 0; }",
+        "ok\nf a.c 1\n pre emp\n post a!=0 ret=1\n post a=0 ret=0\ntotal 1 1 0\n",
+    ),
+    (
+        "int f(void) { }",
+        "ok\nf a.c 1\n pre emp\n post emp ret=?1\ntotal 1 1 0\n",
+    ),
+    (
+        "int f(void) { int b; return b; }",
+        "ok\nf a.c 1\n pre emp\n post emp ret=?1\ntotal 1 1 0\n",
+    ),
+    (
+        "struct s { int v; }; int g(struct s *p) { return p->v; }",
+        "ok\ng a.c 1\n pre p|->s(v:$1)\n post p|->s(v:$1) ret=$1\ntotal 1 1 0\n",
+    ),
+    (
+        "int f(int a) { return a; } int g(int a) { return f(a); }",
+        "ok\nf a.c 1\n pre emp\n post emp ret=a\ng a.c 1\n pre emp\n post emp ret=a\ntotal 2 2 0\n",
+    ),
+];
+
+/// Files on one line that are refused, and the code.
+pub const REFUSED: [(&str, u16); 20] = [
     ("int f(void) { return 'a'; }", 101),
     ("/* x", 102),
     ("int f(void) { return 2147483648; }", 103),
@@ -121,25 +161,10 @@ pub const REFUSED: [(&str, u16); 28] = [
         "int f(int a) { return -a; } int g(int a,int b,int c,int d,int e,int h,int i,int j,int k){return a;}",
         133,
     ),
-    // Some procedure does not begin by returning.
-    ("int f(int a) { return a + 1; }", 190),
-    ("int f(int a) { return -1; }", 190),
-    ("int f(int a) { return !a; }", 190),
-    ("int f(void) { }", 190),
-    ("int f(void) { int b; return b; }", 190),
-    ("int f(int a) { if (a) return 1; return 0; }", 190),
-    (
-        "struct s { int v; }; int g(struct s *p) { return p->v; }",
-        190,
-    ),
-    (
-        "int f(int a) { return a; } int g(int a) { return f(a); }",
-        190,
-    ),
 ];
 
 /// Files that are refused, the line, and the code.
-pub const REFUSED_BELOW: [(&str, u32, u16); 12] = [
+pub const REFUSED_BELOW: [(&str, u32, u16); 11] = [
     ("int f(void) {\n  return 'a';\n}\n", 2, 101),
     ("\n\n/* x\n\n", 3, 102),
     ("int f(int a) {\n  return a\n}\n", 3, 111),
@@ -171,6 +196,4 @@ pub const REFUSED_BELOW: [(&str, u32, u16); 12] = [
         2,
         134,
     ),
-    // What is not analysed yet stands on line 1.
-    ("\n\nint f(int a) { return -a; }", 1, 190),
 ];

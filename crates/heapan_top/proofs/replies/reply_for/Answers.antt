@@ -1,10 +1,11 @@
 -- The report on a request is the reply to the stream.
 use Rattle.std.proofs.Common.{refl}
+use Rattle.std.proofs.lemmas.Result.{IfOk-weaker}
 use Rattle.heapan_top.specs.Replies.{Asks, Nothing}
 use Rattle.heapan_top.proofs.replies.reply_for.Goals as goal
 
-pub returns-in_ok-reply_to_request-in-Some : goal.returns-in_ok-reply_to_request-in-Some
-returns-in_ok-reply_to_request-in-Some c = c.in_ok-reply_to_request-in-Some.ensures c.args.stream.now c.in-Some.ensures.some
+pub returns-in-Some : goal.returns-in-Some
+returns-in-Some c = IfOk-weaker c.reply_to_request.result _ _ (λ reply reports. reports c.args.stream.now c.in-Some.ensures.some) c.reply_to_request.ensures
 
 pub returns-in_ok-from_slice-in-None : goal.returns-in_ok-from_slice-in-None
 returns-in_ok-from_slice-in-None c = record {

@@ -1,0 +1,3 @@
+pub mod FormedLaws
+pub mod LoopLaws
+pub mod Turns

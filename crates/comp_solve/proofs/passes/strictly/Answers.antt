@@ -1,0 +1,12 @@
+use Rattle.std.proofs.Common.{◌≡◌, List, sym, subst}
+use Rattle.std.proofs.lemmas.Result.{IfOk-weaker}
+use Rattle.solve_laws.specs.declared.parts.Attempt.{Attempt}
+use Rattle.solve_laws.specs.Solving.{strictly}
+use Rattle.solve_laws.specs.Standing.{AreFormed}
+use Rattle.comp_solve.proofs.passes.strictly.Goals as goal
+
+pub returns-clause-formed : goal.returns-clause-formed
+returns-clause-formed c =
+    IfOk-weaker c.all_again.result (λ (made : List Attempt). made ≡ strictly c.args.key.now c.args.attempts.now) (AreFormed c.args.key.now)
+    (λ (made : List Attempt) is. subst (AreFormed c.args.key.now) (sym is) (c.standing_is_well_formed.ensures.kept c.args.key.now c.args.attempts.now c.requires.key c.requires.formed).0)
+    c.all_again.ensures

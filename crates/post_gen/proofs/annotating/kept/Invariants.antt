@@ -1,0 +1,6 @@
+use Rattle.std.proofs.Common.{◌≡◌, drop}
+use Rattle.annotation_laws.specs.Annotation.{kept}
+use Rattle.post_gen.proofs.annotating.kept.Given as goal
+
+abbrev pub invariant-loop-place : goal.invariant-loop-place
+invariant-loop-place l = l.posts ≡ kept (drop l.place l.exits)

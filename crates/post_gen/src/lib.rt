@@ -1,0 +1,14 @@
+//! Annotation of a precondition as code: states are executed, and what comes of them is listed, until nothing new comes; the posts are
+//! taken from the exits, and all that is listed is the certificate. It answers the value of the definition in `annotation_laws`, whose
+//! laws say that what it gives is inductive, and stands on the code of `triple_check` for what comes to a node and for coverings.
+#![tactic(auto)]
+
+mod annotating;
+mod listing;
+#[cfg(test)]
+mod tests;
+mod turns;
+
+pub use annotating::annotate;
+pub use annotation_laws::Annotated;
+pub use triple_check::Task;

@@ -1,0 +1,16 @@
+use Rattle.std.specs.Prelude.{◌≡◌}
+use Rattle.std.specs.declared.option.Option.{Option}
+use Rattle.std.specs.declared.option.Option.TheVariants.{Some}
+use Rattle.std.proofs.Common.{rules, subst, sym}
+use Rattle.shape_data.specs.declared.symbolic.SymState.{SymState}
+use Rattle.shape_laws.specs.Symbolic.{emp}
+use Rattle.certificate_laws.specs.Coming.{start_form}
+use Rattle.triple_check.specs.InTask.{task_in}
+use Rattle.candidate_laws.specs.Conditions.{IsPairWithinRoom}
+use Rattle.candidate_laws.proofs.GivenCases.{start-comes}
+use Rattle.pre_gen.proofs.coming.start_pair_at_node.Goals as goal
+
+pub pair_at_node-requires-clause-pair : goal.pair_at_node-requires-clause-pair
+pair_at_node-requires-clause-pair c =
+    let is : ◌≡◌ {A = Option SymState} (Some c.in-Some.start) (start_form c.args.task.now.flow.now emp) = search rules in
+    subst IsPairWithinRoom (sym c.in_ok-pair-in-Some.ensures) (start-comes (task_in c.args.task.now) c.requires c.in-Some.start (sym is)).room
