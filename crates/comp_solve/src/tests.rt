@@ -141,7 +141,15 @@ fn g_flow(alloc: Global) -> Result<Flow, Fail> {
     })
 }
 
-/// The answer for procedures without callees outside; none where the key is not well formed.
+/// The answer for a key; none where the key is not well formed.
+fn answer_to(alloc: Global, key: &Key) -> Result<Option<Answer>, Fail> {
+    if !well_formed_key(key) {
+        return Ok(None);
+    }
+    Ok(Some(solve(alloc, key)?))
+}
+
+/// The answer for procedures without callees outside.
 fn solved(alloc: Global, recursive: bool, procs: Vec<Flow>) -> Result<Option<Answer>, Fail> {
     let key = Key {
         recursive,
@@ -149,10 +157,7 @@ fn solved(alloc: Global, recursive: bool, procs: Vec<Flow>) -> Result<Option<Ans
         structs: Row::from_vec(vec![in alloc; node_struct(alloc)?]?),
         callees: Row::new(alloc),
     };
-    if !well_formed_key(&key) {
-        return Ok(None);
-    }
-    Ok(Some(solve(alloc, &key)?))
+    answer_to(alloc, &key)
 }
 
 /// How many specs the procedure at a place has, and why there is none.
