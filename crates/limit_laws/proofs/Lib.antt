@@ -1,0 +1,10 @@
+pub mod Numbered
+pub mod Abstracted
+pub mod Counted
+pub mod Rows
+pub mod Calls
+pub mod Executed
+pub mod Annotated
+pub mod Searched
+pub mod Solved
+pub mod Composed
