@@ -1,16 +1,19 @@
 -- What stands first in a stream, and why nothing does.
-use Rattle.std.proofs.Common.{◌≡◌, ◌≢◌, ℕ, ◌+◌, ◌-◌, ◌<◌, ◌≤◌, Option, Some, None, Result, List, [], ◌∷◌, ◌++◌, ◌⊎◌, inl, inr, suc, length, take, drop, refl, sym, ap, ◌∙◌, subst, arith, append_assoc, length-append}
-use Rattle.std.specs.Prelude.{IfSome}
+use Rattle.std.proofs.Common.{◌≡◌, ◌≢◌, ℕ, ◌+◌, ◌-◌, ◌<◌, ◌≤◌, Bool, true, false, Option, Some, None, Result, List, [], ◌∷◌, ◌++◌, ◌⊎◌, inl, inr, suc, length, take, drop, refl, sym, ap, ◌∙◌, subst, arith, append_assoc, length-append}
+use Rattle.std.specs.Prelude.{IfSome, if◌then◌else◌, nat_le}
+use Rattle.std.proofs.lemmas.Bool.Decides.{nat_tests}
 use Rattle.std.proofs.lemmas.List.{append-nil, length-drop, take-append-le}
 use Rattle.std.proofs.Math.Seq.{take-append-add}
 use Rattle.io_ports.specs.Bytes.{before_left, IsNothingLeft}
 use Rattle.session_lines.specs.declared.command.Command.{Command}
+use Rattle.session_lines.specs.declared.command.Command.TheVariants as command
 use Rattle.session_lines.specs.declared.command.Line.{Line}
+use Rattle.session_lines.specs.declared.command.Line.TheVariants as line
 use Rattle.session_lines.specs.declared.command.Taken.{Taken}
 use Rattle.session_lines.specs.declared.command.Taken.TheVariants as taken
-use Rattle.session_lines.specs.Lines.{IsEnded, IsFirst, IsFirstLine, IsLast, IsLine, body_size, line_text}
-use Rattle.session_lines.specs.Parts.{IsAbsent, IsFirstAt, IsLineIn, TakesLine}
-use Rattle.session_lines.specs.Reading.{Reading, Takes}
+use Rattle.session_lines.specs.Lines.{IsCommand, IsEnded, IsFirst, IsFirstLine, IsLast, IsLine, MOST_FILE_BYTES, body_size, command_of, line_text}
+use Rattle.session_lines.specs.Parts.{IsAbsent, IsFirstAt, IsLineIn, IsNoCommand, TakesLine}
+use Rattle.session_lines.specs.Reading.{IsCounted, Reading, Takes}
 use Rattle.session_lines.specs.Sessions.{BeginsWithNone, MOST_COMMANDS}
 use Rattle.session_lines.proofs.LineLemmas.{line_once, line_short, not_absent, on_one_line, part_once}
 use Rattle.session_lines.proofs.Streams.{absent_front}
@@ -121,6 +124,41 @@ line_takes (Some one) size old mid new before after (taken.Malformed number offs
 line_takes (Some one) size old mid new before after taken.ReadFault stream text behind same_taken same_offset few is_line cut absent told whole some is = tt
 line_takes (Some one) size old mid new before after taken.End stream text behind same_taken same_offset few is_line cut absent told whole some is = absurd is
 line_takes (Some one) size old mid new before after taken.Full stream text behind same_taken same_offset few is_line cut absent told whole some is = absurd is
+
+-- a line that is allowed, with the bytes that belong to it, is a command that says what it may
+command_fits : (one : Line) (body : List ℕ) → IsLine one → length body ≡ body_size one → IsCommand (command_of one body)
+command_fits line.Blank body allowed whole = tt
+command_fits (line.Put name size) body (named, short) whole = by_test (nat_le size MOST_FILE_BYTES) refl
+  where
+    by_test : (b : Bool) → nat_le size MOST_FILE_BYTES ≡ b → IsCommand (if b then command.Put name body else command.PutTooLong name size)
+    by_test true is = let few : size ≤ 1048576 = grind (arith, nat_tests) in (named, omega arith)
+    by_test false is = let many : 1048576 < size = grind (arith, nat_tests) in (named, many, short)
+command_fits (line.DropFile name) body allowed whole = allowed
+command_fits line.Start body allowed whole = tt
+command_fits (line.Show proc) body allowed whole = allowed
+command_fits line.Report body allowed whole = tt
+command_fits line.Save body allowed whole = tt
+command_fits (line.Gen n) body allowed whole = allowed
+command_fits line.Quit body allowed whole = tt
+
+-- where no command was taken, none is counted
+pub none_counted : (old new : Reading) (answer : Taken) → IsNoCommand answer → IsCounted old new answer
+none_counted old new (taken.Command command) none = absurd none
+none_counted old new taken.End none = tt
+none_counted old new (taken.Malformed number offset) none = tt
+none_counted old new taken.Full none = tt
+none_counted old new taken.ReadFault none = tt
+
+-- a command that was taken is counted
+pub line_counted : (found : Option Line) (size : ℕ) (old mid new : Reading) (before after : Option (List ℕ)) (answer : Taken) (text : List ℕ)
+    → mid.taken ≡ old.taken → old.taken < MOST_COMMANDS → IsLineIn text found → TakesLine found size mid new before after answer → IsCounted old new answer
+line_counted None size old mid new before after answer text same few none is = subst (IsCounted old new) (sym is) tt
+line_counted (Some one) size old mid new before after (taken.Command command) text same few (allowed, is_text) ((bytes, moved, all, means), one_more) =
+    (few, one_more.taken ∙ ap (λ n. n + 1) same, subst IsCommand (sym means) (command_fits one bytes allowed all))
+line_counted (Some one) size old mid new before after (taken.Malformed number offset) text same few is_line is = tt
+line_counted (Some one) size old mid new before after taken.ReadFault text same few is_line is = tt
+line_counted (Some one) size old mid new before after taken.End text same few is_line is = tt
+line_counted (Some one) size old mid new before after taken.Full text same few is_line is = tt
 
 -- the first line of a stream ends where a line feed stands ahead
 pub record IsCutAt (stream ahead : List ℕ) (place : ℕ) (left : Option (List ℕ)) : Type 0 where

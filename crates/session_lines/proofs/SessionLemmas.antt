@@ -29,7 +29,7 @@ one_first stream rest rest' one other first first' =
     (first.means ∙ ap₂ command_of lines bodies ∙ sym first'.means, rests)
 
 -- nothing stands first where nothing is
-none_first : (rest : List ℕ) (one : Command) → IsFirst [] one rest → ⊥
+pub none_first : (rest : List ℕ) (one : Command) → IsFirst [] one rest → ⊥
 none_first rest one first = by first.text
   where
     by : IsFirstLine [] (line_text first.line) (first.body ++ rest) → ⊥
@@ -40,7 +40,7 @@ none_first rest one first = by first.text
     by (inr ((whole, some), none)) = some refl
 
 -- a command has a byte at least
-rest_shorter : (stream rest : List ℕ) (one : Command) → IsFirst stream one rest → length rest < length stream
+pub rest_shorter : (stream rest : List ℕ) (one : Command) → IsFirst stream one rest → length rest < length stream
 rest_shorter [] rest one first = absurd (none_first rest one first)
 rest_shorter (x ∷ xs) rest one first = by first.text
   where

@@ -1,5 +1,5 @@
 -- The lines of the command stream, and the commands that lines are with the bytes behind them.
-use Rattle.std.specs.Prelude.{◌≡◌, ◌≢◌, ℕ, ◌≤◌, nat_le, Bool, true, false, ◌||◌, ◌==◌, if◌then◌else◌, List, [], ◌∷◌, ◌++◌, ◌⊎◌, length, codes, IsTrue}
+use Rattle.std.specs.Prelude.{◌≡◌, ◌≢◌, ℕ, ◌<◌, ◌≤◌, nat_le, Bool, true, false, ◌||◌, ◌==◌, if◌then◌else◌, List, [], ◌∷◌, ◌++◌, ◌⊎◌, length, codes, IsTrue}
 use Rattle.std.specs.List.{list_all}
 use Rattle.std.specs.Char.{is_ascii_alphanumeric}
 use Rattle.std.specs.Fmt.{decimal}
@@ -68,6 +68,19 @@ command_of line.Report body = command.Report
 command_of line.Save body = command.Save
 command_of (line.Gen n) body = command.Gen n
 command_of line.Quit body = command.Quit
+
+-- what a command may say
+abbrev pub IsCommand : Command → Type 0
+IsCommand (command.Put name bytes) = IsFileName name × (length bytes ≤ MOST_FILE_BYTES)
+IsCommand (command.PutTooLong name size) = IsFileName name × (MOST_FILE_BYTES < size) × (size ≤ 9999999)
+IsCommand (command.DropFile name) = IsFileName name
+IsCommand (command.Show proc) = IsProcName proc
+IsCommand (command.Gen n) = (1 ≤ n) × (n ≤ 1000)
+IsCommand command.Blank = Unit {0}
+IsCommand command.Start = Unit {0}
+IsCommand command.Report = Unit {0}
+IsCommand command.Save = Unit {0}
+IsCommand command.Quit = Unit {0}
 
 -- the bytes begin with a line of this text and a line feed, and what stands behind is `behind`
 abbrev pub IsEnded : List ℕ → List ℕ → List ℕ → Type 0

@@ -61,6 +61,11 @@ IsEndOrFull stream taken.ReadFault = Unit {0}
 IsEndOrFull stream (taken.Command command) = ⊥
 IsEndOrFull stream (taken.Malformed number offset) = ⊥
 
+-- no command was taken
+abbrev pub IsNoCommand : Taken → Type 0
+IsNoCommand (taken.Command command) = ⊥
+IsNoCommand _ = Unit {0}
+
 -- the line is this command with the bytes behind it, which were taken; or the stream has not as many
 abbrev pub IsBehind : Line → Option (List ℕ) → Option (List ℕ) → Behind → Type 0
 IsBehind line old new (behind.Command command) =

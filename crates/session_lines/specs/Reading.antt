@@ -4,7 +4,7 @@ use Rattle.io_ports.specs.Bytes.{before_left}
 use Rattle.session_lines.specs.declared.command.Command.{Command}
 use Rattle.session_lines.specs.declared.command.Taken.{Taken}
 use Rattle.session_lines.specs.declared.command.Taken.TheVariants as taken
-use Rattle.session_lines.specs.Lines.{IsFirst}
+use Rattle.session_lines.specs.Lines.{IsCommand, IsFirst}
 use Rattle.session_lines.specs.Sessions.{BeginsWithNone, MOST_COMMANDS}
 
 -- the bytes that were read and not taken yet, and how many commands of how many bytes were taken
@@ -45,3 +45,8 @@ Takes old new stream left taken.End = stream ≡ []
 Takes old new stream left (taken.Malformed number offset) = IsMalformed old stream number offset
 Takes old new stream left taken.Full = (stream ≢ []) × (MOST_COMMANDS ≤ old.taken)
 Takes old new stream left taken.ReadFault = Unit {0}
+
+-- a command that is taken is counted, is none too many, and says what it may
+abbrev pub IsCounted : Reading → Reading → Taken → Type 0
+IsCounted old new (taken.Command command) = (old.taken < MOST_COMMANDS) × (new.taken ≡ old.taken + 1) × IsCommand command
+IsCounted old new _ = Unit {0}

@@ -5,8 +5,8 @@ ghost use Rattle.std.specs.Option.{ForSome};
 ghost use Rattle.io_ports.specs.Bytes.{before_left};
 ghost use Rattle.io_ports.specs.Counts.{Rose};
 ghost use Rattle.session_lines.specs.Lines.{IsEnded, IsLine, body_size, line_text};
-ghost use Rattle.session_lines.specs.Parts.{IsEndOrFull, TakesLine};
-ghost use Rattle.session_lines.specs.Reading.{Takes, stream_left};
+ghost use Rattle.session_lines.specs.Parts.{IsEndOrFull, IsNoCommand, TakesLine};
+ghost use Rattle.session_lines.specs.Reading.{IsCounted, Takes, stream_left};
 
 use crate::ahead::{Ahead, Filled};
 use crate::command::{Command, Line, Taken};
@@ -58,6 +58,21 @@ impl Commands {
     {
         self.ahead.bytes()
     }
+
+    /// How many commands were taken.
+    pub fn taken(&self) -> u32
+        ensures value { result ≡ self.now.taken }
+        ensures few { result ≤ 65536 }
+    {
+        self.taken
+    }
+
+    /// How many bytes they have: where the next command begins in the stream.
+    pub fn offset(&self) -> u64
+        ensures { result ≡ self.now.offset }
+    {
+        self.offset
+    }
 }
 
 /// Takes the next command from the stream. The bytes of a file that is too long are passed over and not kept.
@@ -68,6 +83,7 @@ pub fn next_command<S: Source>(
 ) -> Result<Taken, AllocError>
     ensures takes { IfSome (stream_left commands.old (S.left source.old)) (λ stream. IfOk result
         (Takes commands.old commands.new stream (stream_left commands.new (S.left source.new)))) }
+    ensures counted { IfOk result (IsCounted commands.old commands.new) }
     ensures kept { (bytes : List ℕ) × (stream_left commands.old (S.left source.old)
         ≡ before_left bytes (stream_left commands.new (S.left source.new))) }
     ensures read_fault { IfOk result (λ taken. taken ≡ Taken.ReadFault → Rose (S.faults source.old) (S.faults source.new)) }
@@ -99,6 +115,7 @@ pub fn next_command<S: Source>(
 /// What follows the last command that may be taken: the end, or a byte too many.
 fn end_or_full<S: Source>(ahead: &mut Ahead, source: &mut S) -> Result<Taken, AllocError>
     ensures ends { IfSome (before_left ahead.old (S.left source.old)) (λ stream. IfOk result (IsEndOrFull stream)) }
+    ensures no_command { IfOk result IsNoCommand }
     ensures stream { before_left ahead.old (S.left source.old) ≡ before_left ahead.new (S.left source.new) }
     ensures read_fault { IfOk result (λ taken. taken ≡ Taken.ReadFault → Rose (S.faults source.old) (S.faults source.new)) }
     ensures never_falls { S.faults source.old ≤ S.faults source.new }

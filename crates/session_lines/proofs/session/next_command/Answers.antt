@@ -4,9 +4,9 @@ use Rattle.std.proofs.lemmas.Result.{IfOk-weaker}
 use Rattle.std.specs.Prelude.{IfSome}
 use Rattle.io_ports.specs.Bytes.{before_left}
 use Rattle.session_lines.specs.Lines.{line_text}
-use Rattle.session_lines.specs.Parts.{IsLineIn, TakesLine}
-use Rattle.session_lines.specs.Reading.{Reading, Takes, stream_left}
-use Rattle.session_lines.proofs.FirstLemmas.{cut_at, ended_size, if_told, last_cut, line_takes, long_ahead, nothing_behind}
+use Rattle.session_lines.specs.Parts.{IsLineIn, IsNoCommand, TakesLine}
+use Rattle.session_lines.specs.Reading.{IsCounted, Reading, Takes, stream_left}
+use Rattle.session_lines.proofs.FirstLemmas.{cut_at, ended_size, if_told, last_cut, line_counted, line_takes, none_counted, long_ahead, nothing_behind}
 use Rattle.session_lines.proofs.LineLemmas.{not_absent}
 use Rattle.session_lines.proofs.Streams.{not_empty}
 use Rattle.session_lines.proofs.session.next_command.Goals as goal
@@ -109,3 +109,52 @@ pub returns-in-Failed-clause-unread : goal.returns-in-Failed-clause-unread
 returns-in-Failed-clause-unread g c = λ line body rest allowed whole ended.
     let same : c.commands.inside.ahead ≡ c.args.commands.now.ahead = ap (λ (r : Reading). r.ahead) c.commands.view_is in
     (c.first_line.ensures.unread (λ absent. not_absent 10 (line_text line) (body ++ rest) c.commands.inside.ahead (same ∙ ended) absent)).1
+
+pub returns-in_ok-line-in-Ended-clause-counted : goal.returns-in_ok-line-in-Ended-clause-counted
+returns-in_ok-line-in-Ended-clause-counted g c =
+    let ahead = c.first_line.new.ahead in
+    let place = c.in-Ended.place in
+    let found = c.in_ok-line-in-Ended.line in
+    let taken = ap (λ (r : Reading). r.taken) c.commands.view_is in
+    let few : c.args.commands.now.taken < 65536 = omega (arith, c.commands.invariant) in
+    let is_found : IsLineIn (take place ahead) found = subst (λ (xs : List ℕ). IsLineIn (take place xs) found) c.bytes.ensures.value c.in_ok-line-in-Ended.ensures in
+    IfOk-weaker c.take_line.result (TakesLine found (place + 1) _ c.take_line.new.commands _ _) (IsCounted c.args.commands.now c.take_line.new.commands)
+    (λ answer takes. line_counted found (place + 1) c.args.commands.now _ c.take_line.new.commands _ _ answer (take place ahead) taken few is_found takes)
+    c.take_line.ensures.takes
+
+pub returns-in_ok-line-in-Last-clause-counted : goal.returns-in_ok-line-in-Last-clause-counted
+returns-in_ok-line-in-Last-clause-counted g c =
+    let ahead = c.first_line.new.ahead in
+    let size = length c.bytes-size.result.now in
+    let found = c.in_ok-line-in-Last.line in
+    let taken = ap (λ (r : Reading). r.taken) c.commands.view_is in
+    let few : c.args.commands.now.taken < 65536 = omega (arith, c.commands.invariant) in
+    let is_found : IsLineIn ahead found = subst (λ (xs : List ℕ). IsLineIn xs found) c.bytes-in-Last.ensures.value c.in_ok-line-in-Last.ensures in
+    IfOk-weaker c.take_line-in-Last.result (TakesLine found size _ c.take_line-in-Last.new.commands _ _) (IsCounted c.args.commands.now c.take_line-in-Last.new.commands)
+    (λ answer takes. line_counted found size c.args.commands.now _ c.take_line-in-Last.new.commands _ _ answer ahead taken few is_found takes)
+    c.take_line-in-Last.ensures.takes
+
+pub returns-in_err-place-clause-unread : goal.returns-in_err-place-clause-unread
+returns-in_err-place-clause-unread g c = λ line body rest allowed whole ended.
+    let same : c.commands.inside.ahead ≡ c.args.commands.now.ahead = ap (λ (r : Reading). r.ahead) c.commands.view_is in
+    (c.first_line.ensures.unread (λ absent. not_absent 10 (line_text line) (body ++ rest) c.commands.inside.ahead (same ∙ ended) absent)).1
+
+pub returns-in_err-line-in-Ended-clause-unread : goal.returns-in_err-line-in-Ended-clause-unread
+returns-in_err-line-in-Ended-clause-unread g c = λ line body rest allowed whole ended.
+    let same : c.commands.inside.ahead ≡ c.args.commands.now.ahead = ap (λ (r : Reading). r.ahead) c.commands.view_is in
+    (c.first_line.ensures.unread (λ absent. not_absent 10 (line_text line) (body ++ rest) c.commands.inside.ahead (same ∙ ended) absent)).1
+
+pub returns-then-size-eq0-clause-unread : goal.returns-then-size-eq0-clause-unread
+returns-then-size-eq0-clause-unread g c = λ line body rest allowed whole ended.
+    let same : c.commands.inside.ahead ≡ c.args.commands.now.ahead = ap (λ (r : Reading). r.ahead) c.commands.view_is in
+    (c.first_line.ensures.unread (λ absent. not_absent 10 (line_text line) (body ++ rest) c.commands.inside.ahead (same ∙ ended) absent)).1
+
+pub returns-in_err-line-in-Last-clause-unread : goal.returns-in_err-line-in-Last-clause-unread
+returns-in_err-line-in-Last-clause-unread g c = λ line body rest allowed whole ended.
+    let same : c.commands.inside.ahead ≡ c.args.commands.now.ahead = ap (λ (r : Reading). r.ahead) c.commands.view_is in
+    (c.first_line.ensures.unread (λ absent. not_absent 10 (line_text line) (body ++ rest) c.commands.inside.ahead (same ∙ ended) absent)).1
+
+pub returns-then-commands-eq-MOST_COMMANDS-clause-counted : goal.returns-then-commands-eq-MOST_COMMANDS-clause-counted
+returns-then-commands-eq-MOST_COMMANDS-clause-counted g c =
+    let new : Reading = record { ahead = c.end_or_full.new.ahead; taken = c.commands.inside.taken; offset = c.commands.inside.offset } in
+    IfOk-weaker c.end_or_full.result IsNoCommand (IsCounted c.args.commands.now new) (none_counted c.args.commands.now new) c.end_or_full.ensures.no_command
