@@ -3,12 +3,12 @@ use crate::fault::Fault;
 use crate::rows::{number, part, text};
 use crate::scope::{Scope, variables};
 use crate::told::is_told;
-use abduction::biabduce_avoiding;
+use abduction::{biabduce, biabduce_avoiding};
 use matching_steps::sizes::{are_small_variables, is_small_binding, is_within_sizes};
 use shape_data::Row;
 use shape_data::symbolic::{Exp, SymHeap};
 use std::alloc::Global;
-use subtraction::subtract_avoiding;
+use subtraction::{subtract, subtract_avoiding};
 use sym_matching::{Abd, Sub};
 
 /// The flexible variables: `?11`, `?12` and `?13`.
@@ -48,6 +48,9 @@ fn subtracted(alloc: Global, asked: &Asked, avoid: &[u32]) -> Result<Sub, Fault>
     {
         return Err(Fault::Row);
     }
+    if avoid.is_empty() {
+        return Ok(subtract(alloc, &asked.a, &asked.b, bound, &flexible)?);
+    }
     Ok(subtract_avoiding(alloc, &asked.a, &asked.b, bound, &flexible, avoid)?)
 }
 
@@ -63,6 +66,9 @@ fn abduced(alloc: Global, asked: &Asked, fresh: u32, avoid: &[u32]) -> Result<Ab
         || fresh > 65_536
     {
         return Err(Fault::Row);
+    }
+    if avoid.is_empty() {
+        return Ok(biabduce(alloc, &asked.a, &asked.b, bound, &flexible, fresh)?);
     }
     Ok(biabduce_avoiding(alloc, &asked.a, &asked.b, bound, &flexible, fresh, avoid)?)
 }
