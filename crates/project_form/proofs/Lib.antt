@@ -1,0 +1,6 @@
+pub mod Counting
+pub mod Firsts
+pub mod Putting
+pub mod Readings
+pub mod Units
+pub mod Wholes

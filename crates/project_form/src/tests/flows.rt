@@ -1,0 +1,362 @@
+//! The flow form of small procedures, each written as lines and compared with lines that were worked by hand.
+
+mod rows;
+
+use crate::Project;
+use crate::tests::stack::{STACK, STACK_PROCS};
+use itoa::Buffer;
+use rows::{BEFORE, FLOWS};
+use shape_data::Name;
+use shape_data::program::{ArithOp, Cmd, Flow, HeadMark, Node, Operand, Program, TestOp, Ty};
+use std::alloc::{AllocError, Global};
+use std::rt::HostRuntime;
+use std::sync::Arc;
+use std::test::Fail;
+
+/// A text, and a number behind it.
+#[derive(Clone, Copy)]
+struct Part<'a> {
+    text: &'a [u8],
+    number: Option<i64>,
+}
+
+fn word(text: &[u8]) -> Part<'_> {
+    Part { text, number: None }
+}
+
+fn slot(slot: u32) -> Part<'static> {
+    Part {
+        text: b" ",
+        number: Some(i64::from(slot)),
+    }
+}
+
+fn next(place: u32) -> Part<'static> {
+    Part {
+        text: b" >",
+        number: Some(i64::from(place)),
+    }
+}
+
+fn field(place: u32) -> Part<'static> {
+    Part {
+        text: b".",
+        number: Some(i64::from(place)),
+    }
+}
+
+/// An operand: a slot as its number, a number behind `#`.
+fn value(operand: Operand) -> Part<'static> {
+    match operand {
+        Operand::Slot(place) => slot(place),
+        Operand::Num(number) => Part {
+            text: b" #",
+            number: Some(i64::from(number)),
+        },
+    }
+}
+
+/// The slot that a call's result goes to, or `-`.
+fn target(to: Option<u32>) -> Part<'static> {
+    match to {
+        Some(place) => slot(place),
+        None => word(b" -"),
+    }
+}
+
+fn arith_text(op: ArithOp) -> &'static [u8] {
+    match op {
+        ArithOp::Add => b" add",
+        ArithOp::Sub => b" sub",
+        ArithOp::Mul => b" mul",
+    }
+}
+
+fn test_text(op: TestOp) -> &'static [u8] {
+    match op {
+        TestOp::Eq => b" branch eq",
+        TestOp::Ne => b" branch ne",
+        TestOp::Lt => b" branch lt",
+        TestOp::Le => b" branch le",
+        TestOp::Gt => b" branch gt",
+        TestOp::Ge => b" branch ge",
+    }
+}
+
+/// `p` for a comparison of pointers, `i` for one of ints.
+fn pointers_text(pointers: bool) -> &'static [u8] {
+    if pointers { b" p" } else { b" i" }
+}
+
+/// A type: `int`, `*TAG` or `void`.
+fn kind(ty: &Ty) -> [Part<'_>; 2] {
+    match ty {
+        Ty::Int => [word(b" "), word(b"int")],
+        Ty::Ptr(tag) => [word(b" *"), word(tag.as_bytes())],
+        Ty::Void => [word(b" "), word(b"void")],
+    }
+}
+
+/// Appends parts.
+fn put(lines: &mut Vec<u8>, parts: &[Part<'_>]) -> Result<(), AllocError> {
+    for part in parts {
+        lines.extend_from_slice(part.text)?;
+        if let Some(number) = part.number {
+            lines.extend_from_slice(Buffer::new().format(number).as_bytes())?;
+        }
+    }
+    Ok(())
+}
+
+fn put_values(lines: &mut Vec<u8>, values: &[Operand]) -> Result<(), AllocError> {
+    for operand in values {
+        put(lines, &[value(*operand)])?;
+    }
+    Ok(())
+}
+
+fn put_slots(lines: &mut Vec<u8>, slots: &[u32]) -> Result<(), AllocError> {
+    for place in slots {
+        put(lines, &[slot(*place)])?;
+    }
+    Ok(())
+}
+
+/// Appends a command: its word, what it assigns, what it reads, and where a run goes on.
+fn put_command(lines: &mut Vec<u8>, command: &Cmd) -> Result<(), AllocError> {
+    match command {
+        Cmd::Copy { to, from, next: on } => {
+            put(lines, &[word(b" copy"), slot(*to), value(*from), next(*on)])
+        }
+        Cmd::Arith {
+            to,
+            op,
+            left,
+            right,
+            next: on,
+        } => put(
+            lines,
+            &[
+                word(arith_text(*op)),
+                slot(*to),
+                value(*left),
+                value(*right),
+                next(*on),
+            ],
+        ),
+        Cmd::Any { to, ty, next: on } => {
+            let [mark, tag] = kind(ty);
+            put(lines, &[word(b" any"), slot(*to), mark, tag, next(*on)])
+        }
+        Cmd::Load {
+            to,
+            base,
+            kind: tag,
+            field: place,
+            next: on,
+        } => put(
+            lines,
+            &[
+                word(b" load"),
+                slot(*to),
+                slot(*base),
+                word(b" "),
+                word(tag.as_bytes()),
+                field(*place),
+                next(*on),
+            ],
+        ),
+        Cmd::Store {
+            base,
+            kind: tag,
+            field: place,
+            from,
+            next: on,
+        } => put(
+            lines,
+            &[
+                word(b" store"),
+                slot(*base),
+                word(b" "),
+                word(tag.as_bytes()),
+                field(*place),
+                value(*from),
+                next(*on),
+            ],
+        ),
+        Cmd::New {
+            to,
+            kind: tag,
+            next: on,
+        } => put(
+            lines,
+            &[
+                word(b" new"),
+                slot(*to),
+                word(b" "),
+                word(tag.as_bytes()),
+                next(*on),
+            ],
+        ),
+        Cmd::Free {
+            base,
+            kind: tag,
+            next: on,
+        } => put(
+            lines,
+            &[
+                word(b" free"),
+                slot(*base),
+                word(b" "),
+                word(tag.as_bytes()),
+                next(*on),
+            ],
+        ),
+        Cmd::Call {
+            to,
+            callee,
+            args,
+            next: on,
+        } => {
+            put(
+                lines,
+                &[
+                    word(b" call"),
+                    target(*to),
+                    word(b" "),
+                    word(callee.as_bytes()),
+                ],
+            )?;
+            put_values(lines, args.as_slice())?;
+            put(lines, &[next(*on)])
+        }
+        Cmd::Branch {
+            op,
+            pointers,
+            left,
+            right,
+            yes,
+            no,
+        } => put(
+            lines,
+            &[
+                word(test_text(*op)),
+                word(pointers_text(*pointers)),
+                value(*left),
+                value(*right),
+                next(*yes),
+                next(*no),
+            ],
+        ),
+        Cmd::Return { value: given } => put(lines, &[word(b" ret"), value(*given)]),
+    }
+}
+
+/// Appends the mark of a head.
+fn put_head(lines: &mut Vec<u8>, head: &Option<HeadMark>) -> Result<(), AllocError> {
+    let Some(mark) = head else {
+        return Ok(());
+    };
+    put(lines, &[word(b" head ints")])?;
+    put_slots(lines, mark.ints.as_slice())?;
+    put(lines, &[word(b" dead")])?;
+    put_slots(lines, mark.dead.as_slice())
+}
+
+/// Appends a line a node: its place, its line, its command, and its mark.
+fn put_nodes(lines: &mut Vec<u8>, nodes: &[Node]) -> Result<(), AllocError> {
+    let mut place = 0u32;
+    for node in nodes {
+        let line = Part {
+            text: b" @",
+            number: Some(i64::from(node.line)),
+        };
+        let number = Part {
+            text: b"",
+            number: Some(i64::from(place)),
+        };
+        put(lines, &[number, line])?;
+        put_command(lines, &node.cmd)?;
+        put_head(lines, &node.head)?;
+        lines.push(b'\n')?;
+        place = place.saturating_add(1);
+    }
+    Ok(())
+}
+
+fn put_names(lines: &mut Vec<u8>, names: &[Name]) -> Result<(), AllocError> {
+    for name in names {
+        put(lines, &[word(b" "), word(name.as_bytes())])?;
+    }
+    Ok(())
+}
+
+fn put_types(lines: &mut Vec<u8>, types: &[Ty]) -> Result<(), AllocError> {
+    for ty in types {
+        put(lines, &kind(ty))?;
+    }
+    Ok(())
+}
+
+/// Appends a procedure: its name, its parameters, the types of its slots and of its result, and a line a node.
+fn put_flow(lines: &mut Vec<u8>, flow: &Flow) -> Result<(), AllocError> {
+    put(lines, &[word(flow.name.as_bytes())])?;
+    put_names(lines, flow.params.as_slice())?;
+    put(lines, &[word(b" |")])?;
+    put_types(lines, flow.slots.as_slice())?;
+    put(lines, &[word(b" ->")])?;
+    put(lines, &kind(&flow.ret))?;
+    put(lines, &[word(b"\n")])?;
+    put_nodes(lines, flow.nodes.as_slice())
+}
+
+/// The program that a text is.
+fn program(alloc: Global, text: &[u8]) -> Result<Arc<Program>, Fail> {
+    let mut project = Project::new(alloc);
+    let name = Name::of(alloc, b"a.c")?;
+    if project
+        .put(alloc, &name, Vec::from_slice(alloc, text)?)
+        .is_err()
+    {
+        return Err("not put")?;
+    }
+    match project.program(alloc) {
+        Ok(program) => Ok(program),
+        Err(_) => Err("refused")?,
+    }
+}
+
+/// The lines of the procedures of a row.
+fn lines_of(alloc: Global, row: &str) -> Result<Vec<u8>, Fail> {
+    let mut text = Vec::from_slice(alloc, BEFORE)?;
+    text.extend_from_slice(row.as_bytes())?;
+    let program = program(alloc, text.as_slice())?;
+    let mut lines = Vec::new(alloc);
+    for proc in program.procs.as_slice() {
+        put_flow(&mut lines, &proc.flow)?;
+    }
+    Ok(lines)
+}
+
+#[test]
+fn each_construct_becomes_its_nodes(rt: HostRuntime) -> Result<(), Fail> {
+    let alloc = rt.alloc();
+    for (row, wanted) in FLOWS {
+        let lines = lines_of(alloc, row)?;
+        let found = str::from_utf8(lines.as_slice()).unwrap_or("");
+        assert!(rt; found == wanted, "{row} gives\n{found}");
+    }
+    Ok(())
+}
+
+#[test]
+fn the_stack_module_has_so_many_nodes(rt: HostRuntime) -> Result<(), Fail> {
+    let alloc = rt.alloc();
+    let program = program(alloc, STACK)?;
+    assert_eq!(rt; program.procs.len(), STACK_PROCS.len());
+    for (proc, wanted) in program.procs.iter().zip(STACK_PROCS) {
+        let found = (proc.line, proc.flow.nodes.len());
+        assert!(rt; found == wanted, "{found:?} is not {wanted:?}");
+    }
+    Ok(())
+}

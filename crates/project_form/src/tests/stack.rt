@@ -1,0 +1,83 @@
+//! The stack module, with the line and the number of nodes of each procedure.
+
+/// The stack module.
+pub const STACK: &[u8] = b"#include <stdlib.h>
+
+typedef struct node {
+  int data;
+  struct node *next;
+} node;
+
+typedef struct stack {
+  node *head;
+  int size;
+} stack;
+
+stack *make(void) {
+  stack *q = malloc(sizeof(stack));
+  if (q == NULL) return NULL;
+  q->head = NULL;
+  q->size = 0;
+  return q;
+}
+
+int empty(stack *q) {
+  return q->size == 0;
+}
+
+int push(stack *q, int v) {
+  node *n = malloc(sizeof(node));
+  if (!n) return 0;
+  n->data = v;
+  n->next = q->head;
+  q->head = n;
+  q->size++;
+  return 1;
+}
+
+int pop(stack *q) {
+  node *n = q->head;
+  if (n == NULL) return 0;
+  int v = n->data;
+  q->head = n->next;
+  q->size--;
+  free(n);
+  return v;
+}
+
+void clear(stack *q) {
+  while (q->head != NULL) {
+    node *n = q->head;
+    q->head = n->next;
+    free(n);
+  }
+  q->size = 0;
+}
+
+int length(node *n) {
+  if (n == NULL) return 0;
+  int rest = length(n->next);
+  return rest + 1;
+}
+
+int count(stack *q) {
+  return length(q->head);
+}
+
+void destroy(stack *q) {
+  clear(q);
+  free(q);
+}
+";
+
+/// The line and the number of nodes of each procedure of the stack module.
+pub const STACK_PROCS: [(u32, usize); 8] = [
+    (13, 8),
+    (21, 7),
+    (25, 13),
+    (35, 13),
+    (45, 8),
+    (54, 8),
+    (60, 5),
+    (64, 3),
+];
