@@ -1,11 +1,6 @@
 pub mod Appending
-pub mod Asking
-pub mod Counting
-pub mod Deciding
-pub mod OneProgram
+pub mod Completing
+pub mod CourseLaws
 pub mod Printing
-pub mod Reporting
-pub mod RequestLemmas
-pub mod Results
-pub mod SessionLemmas
+pub mod ReplyLaws
 pub mod Words

@@ -3,7 +3,7 @@ use Rattle.std.specs.Prelude.{ℕ}
 use Rattle.heapan_top.specs.declared.status.Status.{Status}
 use Rattle.heapan_top.specs.declared.status.Status.TheVariants as status
 
--- the number of a status; 5 and 7 are kept for statuses that no call ends with yet
+-- the number of a status; 5 is kept for a status that no call ends with yet
 abbrev pub code_of : Status → ℕ
 code_of status.Done = 0
 code_of status.Unproven = 1
@@ -11,4 +11,5 @@ code_of (status.Refused command offset) = 2
 code_of status.ReadFault = 3
 code_of status.WriteFault = 4
 code_of status.Usage = 6
+code_of status.Full = 7
 code_of status.NoMemory = 8

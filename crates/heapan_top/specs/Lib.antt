@@ -1,7 +1,5 @@
 pub mod Codes
 pub mod Headline
+pub mod Laws
 pub mod Parts
-pub mod Programs
 pub mod Replies
-pub mod Request
-pub mod Typing

@@ -1,65 +1,61 @@
 -- What the parts of the program promise one another. No contract of a call that other crates see cites it.
-use Rattle.std.specs.Prelude.{◌≡◌, ◌≢◌, ℕ, List, ◌∷◌, ◌++◌, ◌⊎◌, All, codes}
-use Rattle.std.specs.declared.option.Option.{Option}
-use Rattle.heapan_top.specs.declared.front_fault.FrontFault.{FrontFault}
-use Rattle.heapan_top.specs.declared.front_fault.FrontFault.TheVariants as front
-use Rattle.c_lower.specs.declared.fault.LowerFault.{LowerFault}
-use Rattle.c_lower.specs.declared.fault.LowerFault.TheVariants as lower
-use Rattle.heapan_top.specs.declared.programs.ProgramFault.{ProgramFault}
-use Rattle.heapan_top.specs.declared.programs.ProgramFault.TheVariants as fault
+use Rattle.std.specs.Prelude.{◌≡◌, ℕ, ◌+◌, ◌<◌, Option, Some, None, IfSome, List, [], ◌++◌, ◌⊎◌}
+use Rattle.session_lines.specs.declared.command.Command.{Command}
+use Rattle.session_lines.specs.Reading.{Reading}
+use Rattle.session_replies.specs.Answers.{Answers as AnswersCommand, Present}
 use Rattle.heapan_top.specs.declared.status.Status.{Status}
 use Rattle.heapan_top.specs.declared.status.Status.TheVariants as status
-use Rattle.heapan_top.specs.Headline.{Appends, AppendsSome}
-use Rattle.heapan_top.specs.Programs.{IsRefusedFile, of_refusal, of_place}
-use Rattle.heapan_top.specs.Replies.{Asked, Asks, reply_to, status_of}
-use Rattle.heapan_top.specs.Request.{IsRequest}
+use Rattle.heapan_top.specs.Headline.{Answers, Appends, AppendsSome}
+use Rattle.heapan_top.specs.Replies.{Course, Replies, beginning}
 
--- the byte stands nowhere in the bytes
-abbrev pub IsAbsent : ℕ → List ℕ → Type 0
-IsAbsent byte bytes = All (λ b. b ≢ byte) bytes
+-- how far a session came, by its reader and by what is present
+abbrev pub course_of : Reading → Present → Course
+course_of reading present = record { taken = reading.taken; offset = reading.offset; present = present }
 
--- `put `, a name with no space in it, a space, bytes without a line feed for the length, a line feed, and a body
-pub record IsPut (stream name digits body : List ℕ) : Type 0 where
-  pub text : stream ≡ codes "put " ++ (name ++ 32 ∷ (digits ++ 10 ∷ body))
-  pub no_space : IsAbsent 32 name
-  pub no_line_feed : IsAbsent 10 digits
+-- the course came to what is present, and the next command has this number, from 1, and this offset, and is none too many
+pub record IsAt (course : Course) (present : Present) (number offset : ℕ) : Type 0 where
+  pub present_is : course.present ≡ present
+  pub number_is : number ≡ course.taken + 1
+  pub offset_is : offset ≡ course.offset
+  pub few : course.taken < 65536
 
--- what stands behind the file
-abbrev pub IsEnding : List ℕ → Type 0
-IsEnding ending = (ending ≡ codes "report") ⊎ (ending ≡ codes "report\n")
-
--- why a file is no program; want of memory says nothing
-abbrev pub IsProgramFault : List ℕ → List ℕ → ProgramFault → Type 0
-IsProgramFault name text (fault.Refused refused) = IsRefusedFile name text refused
-IsProgramFault name text fault.OutOfMemory = Unit {0}
-
--- a fault of the parser or of the type checker, as one of the program's
-abbrev pub of_front : FrontFault → ProgramFault
-of_front (front.Refused refusal) = fault.Refused (of_refusal refusal)
-of_front front.OutOfMemory = fault.OutOfMemory
-
--- a fault of lowering, as one of the program's
-abbrev pub of_lowering : LowerFault → ProgramFault
-of_lowering (lower.Refused at) = fault.Refused (of_place at)
-of_lowering lower.OutOfMemory = fault.OutOfMemory
-
--- the bytes and the status answer what is asked for
-abbrev pub IsReplyTo : Asked → List ℕ → Status → Type 0
-IsReplyTo asked text ended = (text ≡ reply_to asked) × (ended ≡ status_of asked)
-
--- the bytes are the reply to the stream, and the call ends so
-pub record IsReply (stream text : List ℕ) (ended : Status) : Type 0 where
-  pub asked : Asked
-  pub asks : Asks stream asked
-  pub is_text : text ≡ reply_to asked
-  pub is_end : ended ≡ status_of asked
-
--- the bytes are the reply to each stream that is a request for a report on this text of this name, and the call ends so
-abbrev pub IsReportOn : List ℕ → List ℕ → List ℕ → Status → Type 0
-IsReportOn name text bytes ended = (stream : List ℕ) → IsRequest stream name text → IsReply stream bytes ended
+-- a fault of writing, or want of memory
+abbrev pub IsCutShort : Status → Type 0
+IsCutShort ended = (ended ≡ status.WriteFault) ⊎ (ended ≡ status.NoMemory)
 
 -- the bytes were written and the call ends as it was to end, or a front of them and it ends in a fault
 abbrev pub Ends : Option (List ℕ) → Option (List ℕ) → List ℕ → Status → Status → Type 0
-Ends old new text planned ended =
-    ((ended ≡ planned) × Appends old new text)
-    ⊎ (((ended ≡ status.WriteFault) ⊎ (ended ≡ status.NoMemory)) × AppendsSome old new text)
+Ends old new text planned ended = ((ended ≡ planned) × Appends old new text) ⊎ (IsCutShort ended × AppendsSome old new text)
+
+-- nothing was written, or a front of an answer to the command
+abbrev pub IsCutAnswer : Present → Command → Option (List ℕ) → Option (List ℕ) → Type 0
+IsCutAnswer present asked old new = (new ≡ old) ⊎ ((text : List ℕ) × (after : Present) × AnswersCommand present asked text after × AppendsSome old new text)
+
+-- a command was answered, or its answer was cut short
+abbrev pub IsReply : Present → Command → Option (List ℕ) → Present → Option (List ℕ) → Option Status → Type 0
+IsReply present asked old after new None = (text : List ℕ) × AnswersCommand present asked text after × Appends old new text
+IsReply present asked old after new (Some ended) = IsCutShort ended × IsCutAnswer present asked old new
+
+-- from one course over a stream a session came, with these bytes written, to another course over what is left
+pub record Leads (course : Course) (stream text : List ℕ) (after : Course) (rest : List ℕ) : Type 0 where
+  pub leads : (others : List ℕ) (ended : Status) → Replies after rest others ended → Replies course stream (text ++ others) ended
+
+-- one command led to another course over what is left, or the session is answered
+pub record Goes (course : Course) (stream : List ℕ) (old : Option (List ℕ)) (after : Course) (left new : Option (List ℕ)) : Type 0 where
+  pub text : List ℕ
+  pub rest : List ℕ
+  pub is_left : left ≡ Some rest
+  pub leads : Leads course stream text after rest
+  pub appends : Appends old new text
+
+abbrev pub IsTurn : Course → List ℕ → Option (List ℕ) → Course → Option (List ℕ) → Option (List ℕ) → Option Status → Type 0
+IsTurn course stream old after left new None = Goes course stream old after left new
+IsTurn course stream old after left new (Some ended) = Answers course stream old new ended
+
+-- the session is under way from its beginning
+abbrev pub IsUnderWay : Option (List ℕ) → Option (List ℕ) → Course → Option (List ℕ) → Option (List ℕ) → Type 0
+IsUnderWay told old course left new = IfSome told (λ stream. Goes beginning stream old course left new)
+
+-- one more command was taken
+abbrev pub IsOneMore : ℕ → ℕ → Type 0
+IsOneMore old new = (old < 65536) × (new ≡ old + 1)

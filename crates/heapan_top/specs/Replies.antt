@@ -1,59 +1,62 @@
--- What is written in reply to a stream of commands, and how a call then ends.
-use Rattle.std.specs.Prelude.{ℕ, ◌==◌, if◌then◌else◌, List, ◌++◌, codes}
+-- What is written in reply to a stream of commands, and how a call then ends: one command after another, over the files present at each.
+use Rattle.std.specs.Prelude.{◌≢◌, ℕ, ◌+◌, ◌-◌, ◌<◌, ◌≤◌, ◌==◌, if◌then◌else◌, List, [], ◌++◌, length, codes}
 use Rattle.std.specs.Fmt.{decimal}
-use Rattle.shape_data.specs.declared.program.Program.{Program}
-use Rattle.report_text.specs.Report.{line_of, none_count, report_of}
-use Rattle.bottom_up.specs.BottomUp.{program_summaries}
-use Rattle.heapan_top.specs.declared.programs.Refused.{Refused}
+use Rattle.report_text.specs.Report.{line_of}
+use Rattle.session_lines.specs.declared.command.Command.{Command}
+use Rattle.session_lines.specs.declared.command.Command.TheVariants as command
+use Rattle.session_lines.specs.Lines.{IsFirst}
+use Rattle.session_lines.specs.Sessions.{BeginsWithNone, MOST_COMMANDS}
+use Rattle.session_replies.specs.Answers.{Answers, Present, nothing_present}
 use Rattle.heapan_top.specs.declared.status.Status.{Status}
 use Rattle.heapan_top.specs.declared.status.Status.TheVariants as status
-use Rattle.heapan_top.specs.Programs.{IsRefusedFile, IsProgramOf}
-use Rattle.heapan_top.specs.Request.{IsRequest}
 
--- WHAT A STREAM ASKS FOR
+-- how far a session came: how many commands of how many bytes were taken, and what is present
+pub record Course : Type 0 where
+  pub taken : ℕ
+  pub offset : ℕ
+  pub present : Present
 
--- what there is to ask for
-pub data Asked : Type 0 where
-  -- nothing: it is no request
-  Nothing : Asked
-  -- a report on a file of this name that is no program: it is refused there
-  NoProgram : List ℕ → Refused → Asked
-  -- a report on this program
-  Report : Program → Asked
+-- nothing was taken
+abbrev pub beginning : Course
+beginning = record { taken = 0; offset = 0; present = nothing_present }
 
--- the stream asks for this
-pub data Asks (stream : List ℕ) : Asked → Type 0 where
-  -- it is no request
-  nothing : ((name text : List ℕ) → ¬ IsRequest stream name text) → Asks stream Nothing
-  -- the file that it puts is refused
-  no_program : (name text : List ℕ) (refused : Refused) → IsRequest stream name text → IsRefusedFile name text refused → Asks stream (NoProgram name refused)
-  -- the file is a program
-  report : (name text : List ℕ) (program : Program) → IsRequest stream name text → IsProgramOf name text program → Asks stream (Report program)
+-- one command of so many bytes was taken, and this is present then
+abbrev pub one_behind : Course → ℕ → Present → Course
+one_behind course size present = record { taken = course.taken + 1; offset = course.offset + size; present = present }
 
--- THE BYTES OF THE REPLY
-
--- the line that refuses a file, on this line and with this code
-abbrev pub refused_line : List ℕ → ℕ → ℕ → List ℕ
-refused_line name line code = line_of (codes "refused " ++ name ++ codes " " ++ decimal line ++ codes " " ++ decimal code)
-
--- the report on a program: what is known of each of its procedures, in the order of the file, and the total line
-abbrev pub program_report : Program → List ℕ
-program_report program = report_of program.structs program.procs (program_summaries program)
-
--- the bytes that answer what a stream asks for
-abbrev pub reply_to : Asked → List ℕ
-reply_to Nothing = line_of (codes "malformed 1 0")
-reply_to (NoProgram name refused) = line_of (codes "ok") ++ refused_line name refused.line refused.code
-reply_to (Report program) = line_of (codes "ok") ++ program_report program
-
--- THE STATUS
-
--- how a call ends that reported on a program, by the third number of the total line: how many procedures are without a spec
+-- how a call ends that has read all: by how many procedures without a spec the last report told of
 abbrev pub status_with : ℕ → Status
-status_with none = if none == 0 then status.Done else status.Unproven
+status_with missing = if missing == 0 then status.Done else status.Unproven
 
--- how a call ends that answers what a stream asks for
-abbrev pub status_of : Asked → Status
-status_of Nothing = status.Refused 1 0
-status_of (NoProgram name refused) = status.Done
-status_of (Report program) = status_with (none_count (program_summaries program))
+-- `malformed COMMAND OFFSET`: the number of the command, from 1, and the offset of its first byte in the stream
+abbrev pub malformed_line : ℕ → ℕ → List ℕ
+malformed_line number offset = line_of (codes "malformed " ++ decimal number ++ codes " " ++ decimal offset)
+
+-- on this course the stream is answered with these bytes, and the call ends so
+pub data Replies : Course → List ℕ → List ℕ → Status → Type 0 where
+  -- nothing is left
+  end : (course : Course) → Replies course [] [] (status_with course.present.missing)
+  -- the command to end; what stands behind it is not looked at
+  quit : (course : Course) (stream rest : List ℕ) → course.taken < MOST_COMMANDS → IsFirst stream command.Quit rest →
+      Replies course stream [] (status_with course.present.missing)
+  -- a byte more than as many commands as there may be
+  full : (course : Course) (stream : List ℕ) → stream ≢ [] → MOST_COMMANDS ≤ course.taken → Replies course stream [] status.Full
+  -- no command stands first
+  malformed : (course : Course) (stream : List ℕ) → stream ≢ [] → course.taken < MOST_COMMANDS → BeginsWithNone stream →
+      Replies course stream (malformed_line (course.taken + 1) course.offset) (status.Refused (course.taken + 1) course.offset)
+  -- a command that is not taken: there is no store to save to
+  untaken : (course : Course) (stream rest : List ℕ) → course.taken < MOST_COMMANDS → IsFirst stream command.Save rest →
+      Replies course stream (malformed_line (course.taken + 1) course.offset) (status.Refused (course.taken + 1) course.offset)
+  -- a command is answered, and then what stands behind it
+  more : (course : Course) (stream rest : List ℕ) (asked : Command) (text others : List ℕ) (after : Present) (ended : Status) →
+      course.taken < MOST_COMMANDS → IsFirst stream asked rest → Answers course.present asked text after →
+      Replies (one_behind course (length stream - length rest) after) rest others ended →
+      Replies course stream (text ++ others) ended
+
+-- on this course over the stream, the session comes to the other course
+pub data Passes : Course → List ℕ → Course → Type 0 where
+  here : (course : Course) (stream : List ℕ) → Passes course stream course
+  behind : (course later : Course) (stream rest : List ℕ) (asked : Command) (text : List ℕ) (after : Present) →
+      course.taken < MOST_COMMANDS → IsFirst stream asked rest → Answers course.present asked text after →
+      Passes (one_behind course (length stream - length rest) after) rest later →
+      Passes course stream later

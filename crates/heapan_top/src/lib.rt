@@ -1,16 +1,12 @@
-//! The one call that does everything: it reads commands, analyses what they put, and writes the replies.
+//! The one call that does everything: it reads commands, analyses the files that they put, and writes the replies.
 #![tactic(auto)]
 
-mod front_fault;
 pub mod laws;
-mod programs;
-mod replies;
-mod requests;
 mod session;
 mod status;
 #[cfg(test)]
 mod tests;
-mod typing;
+mod turns;
 
 pub use session::run;
 pub use status::{Outcome, Status};

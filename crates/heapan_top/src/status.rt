@@ -11,6 +11,8 @@ pub enum Status {
     Refused { command: u32, offset: u64 },
     /// The words are not those that the program takes.
     Usage,
+    /// As many commands were taken as there may be, 65,536, none of them to end, and a byte follows.
+    Full,
     /// A read failed.
     ReadFault,
     /// A write failed.
@@ -34,6 +36,7 @@ impl Status {
             Status::ReadFault => 3,
             Status::WriteFault => 4,
             Status::Usage => 6,
+            Status::Full => 7,
             Status::NoMemory => 8,
         }
     }

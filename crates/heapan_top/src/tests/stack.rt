@@ -1,4 +1,4 @@
-//! The stack module, with the line and the number of nodes of each procedure.
+//! The stack module.
 
 /// The stack module.
 pub const STACK: &[u8] = b"#include <stdlib.h>
@@ -69,15 +69,3 @@ void destroy(stack *q) {
   free(q);
 }
 ";
-
-/// The line and the number of nodes of each procedure of the stack module.
-pub const STACK_PROCS: [(u32, usize); 8] = [
-    (13, 8),
-    (21, 7),
-    (25, 13),
-    (35, 13),
-    (45, 8),
-    (54, 8),
-    (60, 5),
-    (64, 3),
-];

@@ -1,25 +1,33 @@
--- The bytes read are the whole stream, or a front of one that is too long.
-use Rattle.std.proofs.Common.{inl, inr}
-use Rattle.heapan_top.proofs.SessionLemmas.{answers_whole, answers_long, refused_at, reported_is_short}
+-- Each command leads on, or answers the session.
+use Rattle.std.proofs.Common.{◌≤◌, arith}
+use Rattle.session_lines.specs.Reading.{stream_left}
+use Rattle.heapan_top.specs.Parts.{course_of}
+use Rattle.heapan_top.proofs.CourseLaws.{all_answered, reads_source, reads_through, under_way}
 use Rattle.heapan_top.proofs.session.answer_stream.Goals as goal
 
-pub returns-in-End-clause-answers : goal.returns-in-End-clause-answers
-returns-in-End-clause-answers g c =
-    let answers = rw c.as_slice.ensures.value at c.answer_bytes.ensures.answers in
-    elim c.in-End.is [
-      | inl ended ↦ answers_whole (g.K.Sink.held c.args.sink.now) (g.K.Sink.held c.answer_bytes.new.sink) (g.S.Source.left c.args.source.now) c.read_up_to-read.result.bytes.items c.answer_bytes.result (c.read_up_to-read.ensures.whole ended) answers
-      | inr full ↦ answers_long (g.K.Sink.held c.args.sink.now) (g.K.Sink.held c.answer_bytes.new.sink) (g.S.Source.left c.args.source.now) (g.S.Source.left c.read_up_to-read.new.source) c.read_up_to-read.result.bytes.items c.answer_bytes.result c.read_up_to-read.ensures.kept (c.read_up_to-read.ensures.limit.0 full) answers
-    ]
+pub returns-in-Some-clause-answers : goal.returns-in-Some-clause-answers
+returns-in-Some-clause-answers g c =
+    all_answered c.one_reply.ensures c.some_reply.ensures (g.S.Source.left c.args.source.now) (stream_left c.loop-status.commands (g.S.Source.left c.loop-status.source))
+    (stream_left c.turn.new.commands (g.S.Source.left c.turn.new.source)) (g.K.Sink.held c.args.sink.now) (g.K.Sink.held c.loop-status.sink) (g.K.Sink.held c.turn.new.sink)
+    (course_of c.loop-status.commands c.loop-status.session) (course_of c.turn.new.commands c.turn.new.session) c.turn.result c.in-Some.status c.in-Some.is c.loop-status.invariant.under_way c.turn.ensures.turn
 
-pub returns-in-End-clause-to_the_end : goal.returns-in-End-clause-to_the_end
-returns-in-End-clause-to_the_end g c reported =
-    let answers = rw c.as_slice.ensures.value at c.answer_bytes.ensures.answers in
-    elim c.in-End.is [
-      | inl ended ↦ c.read_up_to-read.ensures.end ended
-      | inr full ↦ absurd (reported_is_short (g.K.Sink.held c.args.sink.now) (g.K.Sink.held c.answer_bytes.new.sink) c.read_up_to-read.result.bytes.items c.answer_bytes.result answers reported (c.read_up_to-read.ensures.limit.0 full))
-    ]
+pub returns-in-Some-clause-reads : goal.returns-in-Some-clause-reads
+returns-in-Some-clause-reads g c =
+    let told = g.S.Source.left c.args.source.now in
+    let left = g.S.Source.left c.turn.new.source in
+    reads_source told left c.turn.new.commands.ahead
+    (reads_through told (stream_left c.loop-status.commands (g.S.Source.left c.loop-status.source)) (stream_left c.turn.new.commands left) c.loop-status.invariant.reads c.turn.ensures.reads)
 
-pub returns-in-End-clause-refused : goal.returns-in-End-clause-refused
-returns-in-End-clause-refused g c command offset is =
-    let answers = rw c.as_slice.ensures.value at c.answer_bytes.ensures.answers in
-    refused_at (g.K.Sink.held c.args.sink.now) (g.K.Sink.held c.answer_bytes.new.sink) c.read_up_to-read.result.bytes.items c.answer_bytes.result answers command offset is
+pub loop-status-preserved : goal.loop-status-preserved
+loop-status-preserved g c =
+    let told = g.S.Source.left c.args.source.now in
+    let before = stream_left c.loop-status.commands (g.S.Source.left c.loop-status.source) in
+    let after = stream_left c.turn.new.commands (g.S.Source.left c.turn.new.source) in
+    record {
+      under_way =
+          under_way c.one_reply.ensures c.some_reply.ensures told before after (g.K.Sink.held c.args.sink.now) (g.K.Sink.held c.loop-status.sink) (g.K.Sink.held c.turn.new.sink)
+          (course_of c.loop-status.commands c.loop-status.session) (course_of c.turn.new.commands c.turn.new.session) c.turn.result c.in_default.is c.loop-status.invariant.under_way c.turn.ensures.turn;
+      reads = reads_through told before after c.loop-status.invariant.reads c.turn.ensures.reads;
+      reads_never_fall = let one = c.loop-status.invariant.reads_never_fall in let two = c.turn.ensures.reads_never_fall in omega arith;
+      writes_never_fall = let one = c.loop-status.invariant.writes_never_fall in let two = c.turn.ensures.writes_never_fall in omega arith;
+    }

@@ -1,0 +1,153 @@
+//! One command after another: each is taken from the stream and answered, or ends the session.
+ghost use Rattle.std.specs.Prelude.{◌≡◌, ◌≢◌, ◌-◌, ◌≤◌, ℕ, List, Some, IfOk, IfSome, IfNone, length};
+ghost use Rattle.io_ports.specs.Counts.{Rose};
+ghost use Rattle.session_lines.specs.Lines.{IsCommand, IsFirst};
+ghost use Rattle.session_lines.specs.Reading.{stream_left};
+ghost use Rattle.session_replies.specs.Answers.{IsAnswered};
+ghost use Rattle.heapan_top.specs.Headline.{ReadsFront};
+ghost use Rattle.heapan_top.specs.Parts.{Ends, IsAt, IsOneMore, IsReply, IsTurn, course_of};
+ghost use Rattle.heapan_top.specs.Replies.{Course, malformed_line, one_behind, status_with};
+
+use crate::laws::{one_reply, some_reply};
+use crate::status::Status;
+use io_ports::{Sink, SinkFault, Source, write_all};
+use report_text::reasons::push_decimal;
+use session_lines::{Command, Commands, Taken, next_command};
+use session_replies::Session;
+use std::alloc::{AllocError, Global};
+
+/// How a call ends that has read all, where the last report told of so many procedures without a spec.
+fn status_with(missing: usize) -> Status
+    ensures { result ≡ status_with missing }
+{
+    if missing == 0 {
+        Status::Done
+    } else {
+        Status::Unproven
+    }
+}
+
+/// Writes bytes, and says how the call ends: as it was to end where all were written.
+pub fn written<K: Sink>(alloc: Global, sink: &mut K, bytes: &[u8], planned: Status) -> Status
+    ensures ends { Ends (K.held sink.old) (K.held sink.new) bytes.now planned result }
+    ensures write_fault { result ≡ Status.WriteFault → planned ≢ Status.WriteFault → Rose (K.faults sink.old) (K.faults sink.new) }
+    ensures never_falls { K.faults sink.old ≤ K.faults sink.new }
+{
+    match write_all(alloc, sink, bytes) {
+        Ok(()) => planned,
+        Err(SinkFault::Failed) => Status::WriteFault,
+        Err(SinkFault::OutOfMemory) => Status::NoMemory,
+    }
+}
+
+/// The line that what stands first in the stream is no command that is taken.
+#[tactic(auto, using(crate::proofs::Appending::appending))]
+fn malformed_text(alloc: Global, number: u32, offset: u64) -> Result<Vec<u8>, AllocError>
+    ensures { IfOk result (λ text. text.items ≡ malformed_line number offset) }
+{
+    let mut text = Vec::from_slice(alloc, b"malformed ")?;
+    push_decimal(&mut text, u64::from(number))?;
+    text.extend_from_slice(b" ")?;
+    push_decimal(&mut text, offset)?;
+    text.extend_from_slice(b"\n")?;
+    Ok(text)
+}
+
+/// Refuses what stands first in the stream.
+fn refuse<K: Sink>(alloc: Global, sink: &mut K, command: u32, offset: u64) -> Status
+    ensures ends { Ends (K.held sink.old) (K.held sink.new) (malformed_line command offset) (Status.Refused command offset) result }
+    ensures write_fault { result ≡ Status.WriteFault → Rose (K.faults sink.old) (K.faults sink.new) }
+    ensures never_falls { K.faults sink.old ≤ K.faults sink.new }
+{
+    match malformed_text(alloc, command, offset) {
+        Ok(text) => written(
+            alloc,
+            sink,
+            text.as_slice(),
+            Status::Refused { command, offset },
+        ),
+        Err(_) => Status::NoMemory,
+    }
+}
+
+/// Answers a command, or says how the session ends for a fault.
+fn reply<K: Sink>(
+    alloc: Global,
+    session: &mut Session,
+    sink: &mut K,
+    asked: Command,
+) -> Option<Status>
+    requires answered { IsAnswered asked }
+    requires allowed { IsCommand asked }
+    ensures reply { IsReply session.old asked (K.held sink.old) session.new (K.held sink.new) result }
+    ensures write_fault { result ≡ Some Status.WriteFault → Rose (K.faults sink.old) (K.faults sink.new) }
+    ensures never_falls { K.faults sink.old ≤ K.faults sink.new }
+{
+    let Ok(text) = session.reply(alloc, asked) else {
+        return Some(Status::NoMemory);
+    };
+    match write_all(alloc, sink, text.as_slice()) {
+        Ok(()) => None,
+        Err(SinkFault::Failed) => Some(Status::WriteFault),
+        Err(SinkFault::OutOfMemory) => Some(Status::NoMemory),
+    }
+}
+
+/// What a command that was taken leads to: it is answered, or ends the session. Its number, from 1, and the offset of its first byte in
+/// the stream are shown where it is none that the program takes.
+fn follow<K: Sink>(
+    alloc: Global,
+    session: &mut Session,
+    sink: &mut K,
+    asked: Command,
+    number: u32,
+    offset: u64,
+) -> Option<Status>
+    requires { IsCommand asked }
+    ensures turn { (course : Course) (stream rest : List ℕ) → IsAt course session.old number offset → IsFirst stream asked rest
+        → IsTurn course stream (K.held sink.old) (one_behind course (length stream - length rest) session.new) (Some rest) (K.held sink.new) result }
+    ensures not_read_fault { result ≢ Some Status.ReadFault }
+    ensures not_usage { result ≢ Some Status.Usage }
+    ensures write_fault { result ≡ Some Status.WriteFault → Rose (K.faults sink.old) (K.faults sink.new) }
+    ensures never_falls { K.faults sink.old ≤ K.faults sink.new }
+{
+    one_reply();
+    some_reply();
+    match &asked {
+        Command::Quit => Some(status_with(session.missing())),
+        Command::Save => Some(refuse(alloc, sink, number, offset)),
+        _ => reply(alloc, session, sink, asked),
+    }
+}
+
+/// Takes the next command from the stream and answers it, or says how the session ends.
+pub fn turn<S: Source, K: Sink>(
+    alloc: Global,
+    session: &mut Session,
+    commands: &mut Commands,
+    source: &mut S,
+    sink: &mut K,
+) -> Option<Status>
+    ensures turn { IfSome (stream_left commands.old (S.left source.old)) (λ stream.
+        IsTurn (course_of commands.old session.old) stream (K.held sink.old) (course_of commands.new session.new)
+        (stream_left commands.new (S.left source.new)) (K.held sink.new) result) }
+    ensures counted { IfNone result (IsOneMore commands.old.taken commands.new.taken) }
+    ensures reads { ReadsFront (stream_left commands.old (S.left source.old)) (stream_left commands.new (S.left source.new)) }
+    ensures not_usage { result ≢ Some Status.Usage }
+    ensures read_fault { result ≡ Some Status.ReadFault → Rose (S.faults source.old) (S.faults source.new) }
+    ensures write_fault { result ≡ Some Status.WriteFault → Rose (K.faults sink.old) (K.faults sink.new) }
+    ensures reads_never_fall { S.faults source.old ≤ S.faults source.new }
+    ensures writes_never_fall { K.faults sink.old ≤ K.faults sink.new }
+{
+    one_reply();
+    let number = commands.taken() + 1;
+    let offset = commands.offset();
+    match next_command(alloc, commands, source) {
+        Ok(Taken::Command(asked)) => follow(alloc, session, sink, asked, number, offset),
+        Ok(Taken::Malformed { command, offset }) => Some(refuse(alloc, sink, command, offset)),
+        Ok(Taken::End) => Some(status_with(session.missing())),
+        Ok(Taken::Full) => Some(Status::Full),
+        Ok(Taken::ReadFault) => Some(Status::ReadFault),
+        Err(_) => Some(Status::NoMemory),
+    }
+}

@@ -1,0 +1,4 @@
+pub mod AnswerLaws
+pub mod Appending
+pub mod Replying
+pub mod Reporting

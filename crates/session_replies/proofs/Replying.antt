@@ -1,0 +1,80 @@
+-- The answers to a command from what its parts were answered.
+use Rattle.std.proofs.Common.{◌≡◌, ℕ, Bool, List, [], Option, Some, None, Result, sym, ap, ap₂, ◌∙◌, subst}
+use Rattle.shape_data.specs.declared.program.Program.{Program}
+use Rattle.session_generator.specs.Generated.{generated}
+use Rattle.session_lines.specs.declared.command.Command.TheVariants as command
+use Rattle.project_form.specs.declared.fault.Refused.{Refused}
+use Rattle.project_form.specs.Files.{SourceFile, has_file, put_refusal, with_file, without_file}
+use Rattle.project_form.specs.Reads.{Reads}
+use Rattle.session_replies.specs.declared.found.Found.{Found}
+use Rattle.session_replies.specs.Answers.{Answers, GENERATED, Present, missing_by, text_of, unless_refused, with_drop, with_put}
+use Rattle.session_replies.specs.Parts.{answer_in}
+use Rattle.session_replies.specs.Texts.{block_named, drop_line, error_line, ok_line, program_report, program_total, put_line}
+
+-- a file was put, or refused
+pub put_answers : (present after : Present) (name bytes text : List ℕ) (refusal : Option ℕ) → refusal ≡ put_refusal name bytes present.files → after ≡ with_put name bytes present →
+    text ≡ put_line refusal → Answers present (command.Put name bytes) text after
+put_answers present after name bytes text refusal is now says =
+    subst (λ (later : Present). Answers present (command.Put name bytes) text later) (sym now)
+    (subst (λ (whole : List ℕ). Answers present (command.Put name bytes) whole (with_put name bytes present)) (sym (says ∙ ap put_line is)) (Answers.put name bytes))
+
+-- a file was dropped, or there was none
+pub drop_answers : (present : Present) (files later : List SourceFile) (missing : ℕ) (name text : List ℕ) (there : Bool) → record { files = files; missing = missing } ≡ present →
+    there ≡ has_file name files → later ≡ without_file name files → text ≡ drop_line there → Answers present (command.DropFile name) text (record { files = later; missing = missing })
+drop_answers present files later missing name text there before is now says =
+    let old : Present = record { files = files; missing = missing } in
+    subst (λ (p : Present). Answers p (command.DropFile name) text (record { files = later; missing = missing })) before
+    (subst (λ (rest : List SourceFile). Answers old (command.DropFile name) text (record { files = rest; missing = missing })) (sym now)
+    (subst (λ (whole : List ℕ). Answers old (command.DropFile name) whole (with_drop name old)) (sym (says ∙ ap drop_line is)) (Answers.drop_file name)))
+
+-- the generated file was refused
+pub gen_refused_answers : (present after : Present) (n code : ℕ) (name bytes text : List ℕ) → name ≡ GENERATED → bytes ≡ generated n → Some code ≡ put_refusal name bytes present.files →
+    after ≡ with_put name bytes present → text ≡ error_line code → Answers present (command.Gen n) text after
+gen_refused_answers present after n code name bytes text named made refused now says =
+    let same : with_put name bytes present ≡ present =
+    ap (λ (refusal : Option ℕ). record { files = unless_refused refusal (with_file name bytes present.files) present.files; missing = present.missing }) (sym refused) in
+    let is : put_refusal GENERATED (generated n) present.files ≡ Some code = sym (refused ∙ ap (λ xs. put_refusal xs bytes present.files) named ∙ ap (λ xs. put_refusal GENERATED xs present.files) made) in
+    subst (λ (later : Present). Answers present (command.Gen n) text later) (sym (now ∙ same))
+    (subst (λ (whole : List ℕ). Answers present (command.Gen n) whole present) (sym says) (Answers.gen_refused n code is))
+
+-- what files are was asked for
+module _ (present : Present) (found : Found) (answer : Result Program Refused) (reads : Reads present.files (answer_in found)) (is : answer_in found ≡ answer) where
+  so_read : Reads present.files answer
+  so_read = subst (Reads present.files) is reads
+
+  pub start_answers : (after : Present) (text : List ℕ) → after ≡ present → text ≡ text_of (λ program. ok_line) answer → Answers present command.Start text after
+  start_answers after text now says =
+      subst (λ (later : Present). Answers present command.Start text later) (sym now)
+      (subst (λ (whole : List ℕ). Answers present command.Start whole present) (sym says) (Answers.start answer so_read))
+
+  pub show_answers : (after : Present) (name text : List ℕ) → after ≡ present → text ≡ text_of (block_named name) answer → Answers present (command.Show name) text after
+  show_answers after name text now says =
+      subst (λ (later : Present). Answers present (command.Show name) text later) (sym now)
+      (subst (λ (whole : List ℕ). Answers present (command.Show name) whole present) (sym says) (Answers.show name answer so_read))
+
+  pub report_answers : (after : Present) (text : List ℕ) → after ≡ record present { missing = missing_by present.missing answer } → text ≡ text_of program_report answer → Answers present command.Report text after
+  report_answers after text now says =
+      subst (λ (later : Present). Answers present command.Report text later) (sym now)
+      (subst (λ (whole : List ℕ). Answers present command.Report whole (record present { missing = missing_by present.missing answer })) (sym says) (Answers.report answer so_read))
+
+-- the same files with another number
+pub with_missing : (present : Present) (files : List SourceFile) (before missing missing' : ℕ) → record { files = files; missing = before } ≡ present → missing ≡ missing' →
+    record { files = files; missing = missing } ≡ record present { missing = missing' }
+with_missing present files before missing missing' same is =
+    let alike : files ≡ present.files = ap (λ (p : Present). p.files) same in
+    ap₂ (λ (some : List SourceFile) (n : ℕ). record { files = some; missing = n }) alike is
+
+-- the generated file was put
+pub gen_answers : (present mid after : Present) (n : ℕ) (name bytes text : List ℕ) (answer : Result Program Refused) → name ≡ GENERATED → bytes ≡ generated n → None ≡ put_refusal name bytes present.files →
+    mid ≡ with_put name bytes present → after ≡ mid → Reads mid.files answer → text ≡ text_of program_total answer → Answers present (command.Gen n) text after
+gen_answers present mid after n name bytes text answer named made may put now reads says =
+    let put_all : Present = record present { files = with_file GENERATED (generated n) present.files } in
+    let one : with_put name bytes present ≡ record present { files = with_file name bytes present.files } =
+    ap (λ (refusal : Option ℕ). record { files = unless_refused refusal (with_file name bytes present.files) present.files; missing = present.missing }) (sym may) in
+    let two : record present { files = with_file name bytes present.files } ≡ put_all =
+    ap₂ (λ (xs ys : List ℕ). record { files = with_file xs ys present.files; missing = present.missing }) named made in
+    let same : mid ≡ put_all = put ∙ one ∙ two in
+    let is : put_refusal GENERATED (generated n) present.files ≡ None = sym (may ∙ ap₂ (λ (xs ys : List ℕ). put_refusal xs ys present.files) named made) in
+    let read_so : Reads put_all.files answer = subst (λ (p : Present). Reads p.files answer) same reads in
+    subst (λ (later : Present). Answers present (command.Gen n) text later) (sym (now ∙ same))
+    (subst (λ (whole : List ℕ). Answers present (command.Gen n) whole put_all) (sym says) (Answers.gen n answer is read_so))

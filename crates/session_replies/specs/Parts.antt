@@ -1,0 +1,17 @@
+-- What the parts of a session promise one another. No contract of a call that other crates make cites it.
+use Rattle.std.specs.Prelude.{Result, Ok, Err}
+use Rattle.shape_data.specs.declared.program.Program.{Program}
+use Rattle.shape_data.specs.WellFormed.{IsProgram}
+use Rattle.project_form.specs.declared.fault.Refused.{Refused}
+use Rattle.session_replies.specs.declared.found.Found.{Found}
+use Rattle.session_replies.specs.declared.found.Found.TheVariants as found
+
+-- what files are, by value
+abbrev pub answer_in : Found → Result Program Refused
+answer_in (found.Whole program) = Ok program.value
+answer_in (found.NoProgram refused) = Err refused
+
+-- a program is well formed
+abbrev pub IsFormed : Found → Type 0
+IsFormed (found.Whole program) = IsProgram program.value
+IsFormed (found.NoProgram refused) = Unit {0}

@@ -1,0 +1,146 @@
+//! The lines of replies.
+ghost use Rattle.std.specs.Prelude.{◌≡◌, IfOk};
+ghost use Rattle.std.specs.List.{position};
+ghost use Rattle.bottom_up.specs.BottomUp.{program_summaries};
+ghost use Rattle.report_text.specs.Parts.{AreReportable};
+ghost use Rattle.shape_data.specs.WellFormed.{IsProgram};
+ghost use Rattle.session_replies.specs.Texts.{block_named, drop_line, error_line, is_named, ok_line, program_missing, program_report, program_total, refused_line};
+
+use bottom_up::laws::each_is_reported;
+use bottom_up::summaries;
+use project_form::Refused;
+use report_text::laws::formed_is_printable;
+use report_text::reasons::push_decimal;
+use report_text::totals::push_total;
+use report_text::{block, count_none, push_report};
+use shape_data::answer::ProcSummary;
+use shape_data::program::Program;
+use shape_data::{Name, Row};
+use std::alloc::{AllocError, Global};
+
+/// The code of a name under which no file is present.
+const NO_FILE: u16 = 145;
+
+/// The code of a name that no procedure has.
+const NO_PROC: u16 = 146;
+
+/// The line that all is well.
+pub fn ok_text(alloc: Global) -> Result<Vec<u8>, AllocError>
+    ensures { IfOk result (λ text. text.items ≡ ok_line) }
+{
+    Vec::from_slice(alloc, b"ok\n")
+}
+
+/// The line of an error.
+#[tactic(auto, using(crate::proofs::Appending::appending))]
+pub fn error_text(alloc: Global, code: u16) -> Result<Vec<u8>, AllocError>
+    ensures { IfOk result (λ text. text.items ≡ error_line code) }
+{
+    let mut text = Vec::from_slice(alloc, b"error ")?;
+    push_decimal(&mut text, u64::from(code))?;
+    text.extend_from_slice(b"\n")?;
+    Ok(text)
+}
+
+/// The reply to a file that was to be dropped, and was there or not.
+pub fn drop_text(alloc: Global, there: bool) -> Result<Vec<u8>, AllocError>
+    ensures { IfOk result (λ text. text.items ≡ drop_line there) }
+{
+    if there {
+        ok_text(alloc)
+    } else {
+        error_text(alloc, NO_FILE)
+    }
+}
+
+/// The line that refuses files.
+#[tactic(auto, using(crate::proofs::Appending::appending))]
+pub fn refused_text(alloc: Global, refused: &Refused) -> Result<Vec<u8>, AllocError>
+    ensures { IfOk result (λ text. text.items ≡ refused_line refused.now) }
+{
+    let mut text = Vec::from_slice(alloc, b"refused ")?;
+    text.extend_from_slice(refused.file.as_bytes())?;
+    text.extend_from_slice(b" ")?;
+    push_decimal(&mut text, u64::from(refused.line))?;
+    text.extend_from_slice(b" ")?;
+    push_decimal(&mut text, u64::from(refused.code))?;
+    text.extend_from_slice(b"\n")?;
+    Ok(text)
+}
+
+/// What is known of the procedures of a program.
+fn known_of(alloc: Global, program: &Program) -> Result<Row<ProcSummary>, AllocError>
+    requires { IsProgram program.now }
+    ensures value { IfOk result (λ known. known ≡ program_summaries program.now) }
+    ensures reportable { IfOk result (λ known. AreReportable program.now.structs program.now.procs known) }
+{
+    each_is_reported();
+    formed_is_printable();
+    summaries(alloc, program)
+}
+
+/// The place of the procedure of a name.
+fn place_of(program: &Program, name: &Name) -> Option<usize>
+    ensures { result ≡ position (is_named name.now) program.now.procs }
+{
+    program
+        .procs
+        .as_slice()
+        .iter()
+        .position(|proc| proc.flow.name == *name)
+}
+
+/// The block of the procedure of a name, or the error that the program defines none.
+pub fn block_text(alloc: Global, program: &Program, name: &Name) -> Result<Vec<u8>, AllocError>
+    requires { IsProgram program.now }
+    ensures { IfOk result (λ text. text.items ≡ block_named name.now program.now) }
+{
+    let Some(place) = place_of(program, name) else {
+        return error_text(alloc, NO_PROC);
+    };
+    let known = known_of(alloc, program)?;
+    block(
+        alloc,
+        &program.procs[place],
+        &known[place],
+        program.structs.as_slice(),
+    )
+}
+
+/// The total line of a program.
+pub fn total_text(alloc: Global, program: &Program) -> Result<Vec<u8>, AllocError>
+    requires { IsProgram program.now }
+    ensures { IfOk result (λ text. text.items ≡ program_total program.now) }
+{
+    let known = known_of(alloc, program)?;
+    let mut text = Vec::new(alloc);
+    push_total(&mut text, known.as_slice())?;
+    Ok(text)
+}
+
+/// A report on a program: its bytes, and how many procedures have no spec.
+#[derive(Drop)]
+pub struct Report {
+    pub text: Vec<u8>,
+    pub missing: usize,
+}
+
+/// The report on a program.
+pub fn make_report(alloc: Global, program: &Program) -> Result<Report, AllocError>
+    requires { IsProgram program.now }
+    ensures text { IfOk result (λ report. report.text.items ≡ program_report program.now) }
+    ensures missing { IfOk result (λ report. report.missing ≡ program_missing program.now) }
+{
+    let known = known_of(alloc, program)?;
+    let mut text = Vec::new(alloc);
+    push_report(
+        &mut text,
+        program.structs.as_slice(),
+        program.procs.as_slice(),
+        known.as_slice(),
+    )?;
+    Ok(Report {
+        text,
+        missing: count_none(known.as_slice()),
+    })
+}
