@@ -66,14 +66,6 @@ AnswersOtherWords old new status.NoMemory = AppendsSome old new usage_line
 abbrev pub ReadsFront : Option (List ℕ) → Option (List ℕ) → Type 0
 ReadsFront old new = (bytes : List ℕ) × (old ≡ before_left bytes new)
 
--- the replies to the stream were written in full
-abbrev pub HasReplied : Status → Type 0
-HasReplied status.Done = Unit {0}
-HasReplied status.Unproven = Unit {0}
-HasReplied (status.Refused command offset) = Unit {0}
-HasReplied status.Full = Unit {0}
-HasReplied _ = ⊥
-
 -- where no fault came, right words end as the stream is to end, and other words meet the usage line, unless memory wants
 abbrev pub Completes : List (List ℕ) → List ℕ → Status → Type 0
 Completes words stream ended =
