@@ -57,7 +57,7 @@ use Rattle.exec_laws.specs.Rooms.{with_parts}
 use Rattle.exec_laws.specs.Values.{operand}
 use Rattle.exec_laws.proofs.CallRows.{callee-found, first-found}
 use Rattle.limit_laws.specs.Numbers.{storable_logical}
-use Rattle.limit_laws.specs.Sizes.{IsNarrow}
+use Rattle.shape_data.specs.Sizes.{IsNarrow}
 use Rattle.limit_laws.proofs.Counted.{IsLogicalStorable, atoms-of, facts-of, few-names, constant-fits, logical-fits, existential-fits, to-atoms, to-facts}
 use Rattle.limit_laws.proofs.Rows.{CaseGood, fresh-high, operand-good, strict}
 

@@ -14,7 +14,7 @@ use Rattle.component_keys.specs.Keys.{Component, calls_in, component_of, flows_o
 use Rattle.component_keys.specs.Structures.{structs_used}
 use Rattle.sym_matching.proofs.KeptLaws.{All-at}
 use Rattle.limit_laws.specs.Laws.{ComposedKeysHaveSizes}
-use Rattle.limit_laws.specs.Sizes.{HasFewSlots, IsNarrow}
+use Rattle.shape_data.specs.Sizes.{HasFewSlots, IsNarrow}
 
 -- what holds of each of a list holds of each that is picked from it
 picked : {A : Type 0} (P : A → Type 0) (all : List A) → All P all → (numbers : List ℕ) → All P (filter_map (slice_get all) numbers)

@@ -24,7 +24,7 @@ use Rattle.sym_matching.specs.Answers.{names_of_all}
 use Rattle.sym_matching.specs.Rooms.{names_of}
 use Rattle.certificate_laws.specs.Limits.{analysable}
 use Rattle.limit_laws.specs.Numbers.{IsLowExistential, IsLowLogical, storable_logical}
-use Rattle.limit_laws.specs.Sizes.{IsNarrow}
+use Rattle.shape_data.specs.Sizes.{IsNarrow}
 
 -- ---- fields
 

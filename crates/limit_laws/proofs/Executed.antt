@@ -34,7 +34,7 @@ use Rattle.exec_laws.specs.Laws.{IsTableWithin}
 use Rattle.exec_laws.specs.Pairs.{canonical}
 use Rattle.certificate_laws.specs.Coming.{Task, at_mark, mark_at}
 use Rattle.limit_laws.specs.Laws.{ExecutionKeepsLogical, ExitsKeepLogical, PostHasStorableLogical, HasStorableLogical, NodesKeepLogical}
-use Rattle.limit_laws.specs.Sizes.{IsNarrow}
+use Rattle.shape_data.specs.Sizes.{IsNarrow}
 use Rattle.limit_laws.proofs.Abstracted.{abstract_exit-kept, abstract_head-kept}
 use Rattle.limit_laws.proofs.Calls.{call-good}
 use Rattle.limit_laws.proofs.Counted.{IsLogicalStorable, constant-fits, existential-fits}

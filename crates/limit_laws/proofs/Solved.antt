@@ -25,7 +25,8 @@ use Rattle.solve_laws.proofs.SolvedLaws.{solved_has_reasons, specs_fit_keys}
 use Rattle.solve_laws.proofs.TaskLaws.{empty-are-own, none-are-own, task-with}
 use Rattle.solve_laws.proofs.TrialLaws.{standing-certs, standing-few, standing-one_each, standing-specs, standing-weaker, zip-at, zip-length, zip-weaker}
 use Rattle.limit_laws.specs.Laws.{SolvedIsStorable}
-use Rattle.limit_laws.specs.Sizes.{HasFewSlots, HasKeySizes, HasTaskSizes}
+use Rattle.shape_data.specs.Sizes.{HasFewSlots, HasKeySizes}
+use Rattle.limit_laws.specs.Sizes.{HasTaskSizes}
 use Rattle.limit_laws.proofs.Annotated.{done_is_storable}
 use Rattle.limit_laws.proofs.Searched.{candidates_are_storable}
 

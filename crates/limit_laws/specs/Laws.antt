@@ -24,7 +24,8 @@ use Rattle.annotation_laws.specs.Laws.{spec_of}
 use Rattle.candidate_laws.specs.Candidates.{candidates}
 use Rattle.solve_laws.specs.Solving.{solve}
 use Rattle.limit_laws.specs.Numbers.{IsLowExistential, storable_logical}
-use Rattle.limit_laws.specs.Sizes.{HasKeySizes, HasProgramSizes, HasTaskSizes}
+use Rattle.shape_data.specs.Sizes.{HasKeySizes, HasProgramSizes}
+use Rattle.limit_laws.specs.Sizes.{HasTaskSizes}
 
 -- FORMS
 
