@@ -1,5 +1,6 @@
--- Annotations by hand: of a procedure that reads a field, one that walks along a list, one that calls another, and one that calls itself.
-use Rattle.std.specs.Prelude.{Bool, true, false, List, [], ◌∷◌}
+-- Annotations by hand: of a procedure that reads a field, one that walks along a list, one that calls another, and one that calls itself;
+-- and listings at their limits.
+use Rattle.std.specs.Prelude.{ℕ, Bool, true, false, List, [], ◌∷◌, replicate}
 use Rattle.shape_data.specs.declared.answer.Callee.{Callee}
 use Rattle.shape_data.specs.declared.program.Flow.{Flow}
 use Rattle.shape_data.specs.declared.symbolic.Cert.{Cert}
@@ -7,11 +8,13 @@ use Rattle.shape_data.specs.declared.symbolic.Exp.TheVariants.{Var}
 use Rattle.shape_data.specs.declared.symbolic.Fact.TheVariants.{Eq, Ne}
 use Rattle.shape_data.specs.declared.symbolic.Post.{Post}
 use Rattle.shape_data.specs.declared.symbolic.SymHeap.{SymHeap}
+use Rattle.shape_data.specs.declared.symbolic.SymState.{SymState}
 use Rattle.shape_laws.specs.Examples.{node_struct}
 use Rattle.sym_matching.specs.Examples.{any, cell, heap, list, null, state}
 use Rattle.exec_laws.specs.Examples.{callee, post}
 use Rattle.certificate_laws.specs.Coming.{Task}
 use Rattle.certificate_laws.specs.Examples.{cert, get_flow, get_spec, read_flow, walk_body, walk_end, walk_head, whole_list}
+use Rattle.annotation_laws.specs.Listing.{Listing}
 
 -- the strict analysis of a procedure whose callees are these
 abbrev pub strict : Flow → List Callee → Task
@@ -56,3 +59,37 @@ length_cut_cert =
     (record { locals = null ∷ null ∷ null ∷ null ∷ []; heap = null_heap } ∷ []) ∷
     (state (Var 0 ∷ null ∷ null ∷ null ∷ []) (Ne (Var 0) null ∷ []) (list (Var 0) null ∷ []) ∷ []) ∷
     (state (Var 0 ∷ null ∷ any 1 ∷ null ∷ []) [] (cell (Var 0) (any 2) (any 1) ∷ list (any 1) null ∷ []) ∷ []) ∷ [] ∷ [] ∷ [] ∷ [] ∷ []) (post (any 1) null_heap ∷ [])
+
+-- THE LIMITS
+
+-- a listing of one node, where these are listed, these are the exits, and these wait
+abbrev pub listing : List SymState → List Post → List (ℕ × SymState) → Listing
+listing states exits queue = record { nodes = states ∷ []; exits = exits; queue = queue }
+
+-- the local is x, or 0
+abbrev pub x_state : SymState
+x_state = state (Var 0 ∷ []) [] []
+
+abbrev pub null_state : SymState
+null_state = state (null ∷ []) [] []
+
+-- a heap of so many facts
+abbrev pub large_heap : ℕ → SymHeap
+large_heap count = heap (replicate count (Ne (Var 0) null)) []
+
+abbrev pub large_state : ℕ → SymState
+large_state count = record { locals = Var 0 ∷ []; heap = large_heap count }
+
+-- so many times the same is listed
+abbrev pub listed : ℕ → List SymState
+listed count = replicate count null_state
+
+abbrev pub exits_before : ℕ → List Post
+exits_before count = replicate count (post null (heap [] []))
+
+-- x is the local of a procedure that reads a field: it is null, or it is in no cell
+abbrev pub reads_null : SymState
+reads_null = state (null ∷ null ∷ []) [] []
+
+abbrev pub reads_unowned : SymState
+reads_unowned = state (Var 0 ∷ null ∷ []) [] []

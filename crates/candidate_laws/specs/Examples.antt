@@ -15,7 +15,7 @@ use Rattle.shape_data.specs.declared.symbolic.Spec.{Spec}
 use Rattle.shape_data.specs.declared.symbolic.SymHeap.{SymHeap}
 use Rattle.shape_laws.specs.Examples.{node_name, node_struct, on_line}
 use Rattle.sym_canon.specs.declared.parts.Pair.{Pair}
-use Rattle.sym_matching.specs.Examples.{cell, heap, list, null, state}
+use Rattle.sym_matching.specs.Examples.{any, cell, heap, list, null, state}
 use Rattle.exec_laws.specs.Examples.{callee, pair, post, spec}
 use Rattle.certificate_laws.specs.Coming.{Task}
 use Rattle.certificate_laws.specs.Examples.{get_flow, get_spec, length_flow, length_spec, read_flow, whole_list}
@@ -125,3 +125,19 @@ listed count = replicate count null_pair
 
 abbrev pub found_before : ℕ → List SymHeap
 found_before count = replicate count last_node
+
+-- the local that reads is `?1`, of which an equation says that it is 0
+abbrev pub null_by_equation : Pair
+null_by_equation = pair (heap [] []) (state (any 1 ∷ null ∷ []) (Eq (any 1) null ∷ []) [])
+
+-- x is not itself, which no heap meets
+abbrev pub never_pair : Pair
+never_pair = pair (heap [] []) (state (Var 0 ∷ null ∷ []) (Ne (Var 0) (Var 0) ∷ []) [])
+
+-- the list that is missing is there
+abbrev pub list_pair : Pair
+list_pair = pair whole_list (state (Var 0 ∷ []) [] (list (Var 0) null ∷ []))
+
+-- a search of a procedure of three nodes, where so many are listed at the second, and nothing else
+abbrev pub at_second : ℕ → Option Dropped → Search
+at_second count first_drop = record { nodes = [] ∷ listed count ∷ [] ∷ []; queue = []; pres = []; first_drop = first_drop }

@@ -1,4 +1,5 @@
 pub mod Attempts
+pub mod Examples
 pub mod Laws
 pub mod Solving
 pub mod Standing

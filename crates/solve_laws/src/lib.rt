@@ -4,6 +4,7 @@
 //! spec has a reason.
 #![tactic(auto)]
 
+pub mod examples;
 pub mod laws;
 mod parts;
 
