@@ -1,12 +1,11 @@
 //! Projects of several files, as tables.
 
-mod flows;
 mod stack;
-mod types;
 
 use crate::{ProgramFault, Project, PutFault};
 use shape_data::Name;
 use shape_data::program::Program;
+use stack::{STACK, STACK_PROCS};
 use std::alloc::Global;
 use std::rt::HostRuntime;
 use std::test::Fail;
@@ -254,6 +253,30 @@ fn procedures_of_all_files_are_at_most_so_many(rt: HostRuntime) -> Result<(), Fa
         change(alloc, &mut project, file, Some(text.as_str()))?;
         let found = answer(alloc, &mut project)?;
         assert_eq!(rt; found.as_str() != "c.c 24 142", fine);
+    }
+    Ok(())
+}
+
+#[test]
+fn the_stack_module_has_so_many_nodes(rt: HostRuntime) -> Result<(), Fail> {
+    let alloc = rt.alloc();
+    let mut project = Project::new(alloc);
+    assert_eq!(&rt;
+        put(
+            alloc,
+            &mut project,
+            "stack.c",
+            Vec::from_slice(alloc, STACK)?
+        )?,
+        0
+    );
+    let Ok(program) = project.program(alloc) else {
+        return Err("refused")?;
+    };
+    assert_eq!(&rt; program.procs.len(), STACK_PROCS.len());
+    for (proc, wanted) in program.procs.iter().zip(STACK_PROCS) {
+        let found = (proc.line, proc.flow.nodes.len());
+        assert!(&rt; found == wanted, "{found:?} is not {wanted:?}");
     }
     Ok(())
 }

@@ -1,17 +1,12 @@
-//! The flow form of small procedures, each written as lines and compared with lines that were worked by hand.
-
-mod rows;
-
-use crate::Project;
-use crate::tests::stack::{STACK, STACK_PROCS};
+//! Rows of lowering.
+use crate::fault::Fault;
+use crate::rows::{both_sides, text_behind};
 use itoa::Buffer;
-use rows::{BEFORE, FLOWS};
+use project_form::{ProgramFault, Project, PutFault};
 use shape_data::Name;
 use shape_data::program::{ArithOp, Cmd, Flow, HeadMark, Node, Operand, Program, TestOp, Ty};
 use std::alloc::{AllocError, Global};
-use std::rt::HostRuntime;
 use std::sync::Arc;
-use std::test::Fail;
 
 /// A text, and a number behind it.
 #[derive(Clone, Copy)]
@@ -275,10 +270,9 @@ fn put_nodes(lines: &mut Vec<u8>, nodes: &[Node]) -> Result<(), AllocError> {
             text: b"",
             number: Some(i64::from(place)),
         };
-        put(lines, &[number, line])?;
+        put(lines, &[word(b" $ "), number, line])?;
         put_command(lines, &node.cmd)?;
         put_head(lines, &node.head)?;
-        lines.push(b'\n')?;
         place = place.saturating_add(1);
     }
     Ok(())
@@ -298,65 +292,47 @@ fn put_types(lines: &mut Vec<u8>, types: &[Ty]) -> Result<(), AllocError> {
     Ok(())
 }
 
-/// Appends a procedure: its name, its parameters, the types of its slots and of its result, and a line a node.
+/// Appends a procedure: a line with its name, its parameters, the types of its slots and of its result, and a line a node.
 fn put_flow(lines: &mut Vec<u8>, flow: &Flow) -> Result<(), AllocError> {
+    if !lines.is_empty() {
+        put(lines, &[word(b" $ ")])?;
+    }
     put(lines, &[word(flow.name.as_bytes())])?;
     put_names(lines, flow.params.as_slice())?;
     put(lines, &[word(b" |")])?;
     put_types(lines, flow.slots.as_slice())?;
     put(lines, &[word(b" ->")])?;
     put(lines, &kind(&flow.ret))?;
-    put(lines, &[word(b"\n")])?;
     put_nodes(lines, flow.nodes.as_slice())
 }
 
 /// The program that a text is.
-fn program(alloc: Global, text: &[u8]) -> Result<Arc<Program>, Fail> {
+fn program(alloc: Global, bytes: Vec<u8>) -> Result<Arc<Program>, Fault> {
     let mut project = Project::new(alloc);
     let name = Name::of(alloc, b"a.c")?;
-    if project
-        .put(alloc, &name, Vec::from_slice(alloc, text)?)
-        .is_err()
-    {
-        return Err("not put")?;
+    match project.put(alloc, &name, bytes) {
+        Ok(()) => {}
+        Err(PutFault::Code(_)) => return Err(Fault::Refused),
+        Err(PutFault::OutOfMemory) => return Err(Fault::OutOfMemory),
     }
     match project.program(alloc) {
         Ok(program) => Ok(program),
-        Err(_) => Err("refused")?,
+        Err(ProgramFault::Refused(_)) => Err(Fault::Refused),
+        Err(ProgramFault::OutOfMemory) => Err(Fault::OutOfMemory),
     }
 }
 
-/// The lines of the procedures of a row.
-fn lines_of(alloc: Global, row: &str) -> Result<Vec<u8>, Fail> {
-    let mut text = Vec::from_slice(alloc, BEFORE)?;
-    text.extend_from_slice(row.as_bytes())?;
-    let program = program(alloc, text.as_slice())?;
+/// Whether the procedures of a text have these lines.
+pub fn is_lowered(rt: &impl Print, alloc: Global, before: &str, row: &str) -> Result<bool, Fault> {
+    let (text, wanted) = both_sides(row);
+    let program = program(alloc, text_behind(alloc, before, text)?)?;
     let mut lines = Vec::new(alloc);
     for proc in program.procs.as_slice() {
         put_flow(&mut lines, &proc.flow)?;
     }
-    Ok(lines)
-}
-
-#[test]
-fn each_construct_becomes_its_nodes(rt: HostRuntime) -> Result<(), Fail> {
-    let alloc = rt.alloc();
-    for (row, wanted) in FLOWS {
-        let lines = lines_of(alloc, row)?;
-        let found = str::from_utf8(lines.as_slice()).unwrap_or("");
-        assert!(rt; found == wanted, "{row} gives\n{found}");
+    let found = str::from_utf8(lines.as_slice()).unwrap_or("").trim();
+    if found != wanted {
+        println!(rt; "found {found}")?;
     }
-    Ok(())
-}
-
-#[test]
-fn the_stack_module_has_so_many_nodes(rt: HostRuntime) -> Result<(), Fail> {
-    let alloc = rt.alloc();
-    let program = program(alloc, STACK)?;
-    assert_eq!(rt; program.procs.len(), STACK_PROCS.len());
-    for (proc, wanted) in program.procs.iter().zip(STACK_PROCS) {
-        let found = (proc.line, proc.flow.nodes.len());
-        assert!(rt; found == wanted, "{found:?} is not {wanted:?}");
-    }
-    Ok(())
+    Ok(found == wanted)
 }
