@@ -6,7 +6,5 @@ pub mod laws;
 pub mod places;
 pub mod solving;
 pub mod summing;
-#[cfg(test)]
-mod tests;
 
 pub use summing::summaries;

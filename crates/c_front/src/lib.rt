@@ -4,8 +4,6 @@
 
 mod fault;
 mod reading;
-#[cfg(test)]
-mod tests;
 
 pub use c_print::print;
 pub use fault::ReadFault;

@@ -4,8 +4,6 @@
 mod assigned;
 pub mod loops;
 mod marking;
-#[cfg(test)]
-mod tests;
 
 pub use loops::Loop;
 pub use marking::mark;

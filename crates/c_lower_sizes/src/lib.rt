@@ -8,8 +8,6 @@ pub mod laws;
 mod locals;
 mod simples;
 mod stmts;
-#[cfg(test)]
-mod tests;
 
 pub use counts::MOST_COUNTED;
 pub use locals::local_count;

@@ -10,8 +10,6 @@ mod locals;
 mod plain;
 mod simple;
 mod stmts;
-#[cfg(test)]
-mod tests;
 
 pub use c_parse_exprs::SyntaxFault;
 pub use file::parse;

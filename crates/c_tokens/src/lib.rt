@@ -7,8 +7,6 @@ pub mod laws;
 mod pieces;
 mod places;
 mod reading;
-#[cfg(test)]
-mod tests;
 mod token;
 mod words;
 

@@ -9,8 +9,6 @@ mod items;
 pub mod laws;
 mod names;
 mod structures;
-#[cfg(test)]
-mod tests;
 mod typed;
 
 pub use checker::check;

@@ -10,8 +10,6 @@ pub mod marks;
 pub mod order;
 pub mod reach;
 pub mod search;
-#[cfg(test)]
-mod tests;
 
 pub use graph::is_call_graph;
 pub use listing::components;

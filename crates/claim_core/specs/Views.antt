@@ -2,6 +2,7 @@
 use Rattle.std.specs.Prelude.{ℕ}
 use Rattle.shape_data.specs.declared.answer.Answer.{Answer}
 use Rattle.shape_data.specs.declared.answer.Key.{Key}
+use Rattle.shape_data.specs.WellFormed.{IsStorableAnswer, IsStorableKey}
 
 -- a key with an answer to it
 pub record Solution : Type 0 where
@@ -14,3 +15,9 @@ pub record Claimed : Type 0 where
   pub component : ℕ
   pub revision : ℕ
   pub key : Key
+
+-- the answer is right for the key, as a job says, and both are within the limits of a store
+pub record IsSolution (solves : Key → Answer → Type 0) (key : Key) (answer : Answer) : Type 0 where
+  pub right : solves key answer
+  pub storable_key : IsStorableKey key
+  pub storable_answer : IsStorableAnswer key answer

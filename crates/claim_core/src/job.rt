@@ -1,5 +1,8 @@
 //! Jobs, their answers, and the claims under which they are done.
 ghost use Rattle.std.specs.Prelude.{◌≡◌, ◌+◌, ◌<◌, ◌^◌, IfOk, OnOk, OnErr};
+ghost use Rattle.claim_core.specs.Sizes.{IsJobKey};
+ghost use Rattle.claim_core.specs.Views.{IsSolution};
+ghost use Rattle.shape_data.specs.WellFormed.{IsStorableAnswer, IsStorableKey};
 
 use claim_laws::Meaning;
 use shape_data::answer::{Answer, Key};
@@ -52,7 +55,7 @@ impl Tally {
     }
 }
 
-/// A key with an answer that is right for it, as the job's type says. Contracts see it as the two.
+/// A key with an answer that is right for it, as the job's type says, both within the limits of a store. Contracts see it as the two.
 #[derive(Drop)]
 pub struct Solved<J: Meaning> {
     key: Arc<Key>,
@@ -61,19 +64,21 @@ pub struct Solved<J: Meaning> {
 }
 
 impl<J: Meaning> Model for Solved<J> {
-    ghost use Rattle.claim_core.specs.Views.{Solution};
+    ghost use Rattle.claim_core.specs.Views.{IsSolution, Solution};
 
     ghost Value = { Solution };
 
     ghost view = { λ solved. record { key = solved.key.value; answer = solved.answer.value } };
 
-    ghost invariant = { λ solved. J.solves solved.key.value solved.answer.value };
+    ghost invariant = { λ solved. IsSolution J.solves solved.key.value solved.answer.value };
 }
 
 impl<J: Meaning> Solved<J> {
     /// A key with an answer that is right for it.
     pub fn new(key: Arc<Key>, answer: Arc<Answer>) -> Self
-        requires { J.solves key.value answer.value }
+        requires solves { J.solves key.value answer.value }
+        requires key { IsStorableKey key.value }
+        requires answer { IsStorableAnswer key.value answer.value }
         ensures key { result.key ≡ key.value }
         ensures answer { result.answer ≡ answer.value }
     {
@@ -94,6 +99,7 @@ impl<J: Meaning> Solved<J> {
     /// The answer, which is right for the key.
     pub fn into_answer(self) -> Arc<Answer>
         ensures answer { result.value ≡ self.answer }
+        ensures solution { IsSolution J.solves self.key self.answer }
         ensures solves { J.solves self.key self.answer }
     {
         let Solved {
@@ -114,14 +120,15 @@ pub trait Job: Meaning {
         key: &Arc<Key>,
         tally: &mut Tally,
     ) -> Result<Solved<Self>, AllocError>
-        requires { tally.old ≡ 0 }
+        requires tally { tally.old ≡ 0 }
+        requires key { IsJobKey key.now.value }
         ensures key { IfOk result (λ solved. solved.key ≡ key.now.value) }
         ensures ok { OnOk result (tally.new ≡ 1) }
         ensures err { OnErr result (tally.new ≡ 0) };
 }
 
-/// A component that was handed out, with the key to answer. It has to be spent, by the book's `publish` or `give_back`, or by
-/// `forget`. Contracts see it as the record of its parts.
+/// A component that was handed out, with the key to answer, which is within the limits of a store and has few fields and slots. It has
+/// to be spent, by the book's `publish` or `give_back`, or by `forget`. Contracts see it as the record of its parts.
 pub struct Claim {
     number: u64,
     component: u32,
@@ -131,15 +138,19 @@ pub struct Claim {
 
 impl Model for Claim {
     ghost use Rattle.claim_core.specs.Views.{Claimed};
+    ghost use Rattle.claim_core.specs.Sizes.{IsJobKey};
 
     ghost Value = { Claimed };
 
     ghost view = { λ claim. record { number = claim.number; component = claim.component; revision = claim.revision; key = claim.key.value } };
+
+    ghost invariant = { λ claim. IsJobKey claim.key.value };
 }
 
 impl Claim {
     /// A claim of these parts, which only the book that has handed the component out may make use of.
     pub fn new(number: u64, component: u32, revision: u64, key: Arc<Key>) -> Self
+        requires { IsJobKey key.value }
         ensures number { result.number ≡ number }
         ensures component { result.component ≡ component }
         ensures revision { result.revision ≡ revision }
@@ -176,7 +187,8 @@ impl Claim {
 
     /// The key to answer.
     pub fn key(&self) -> &Arc<Key>
-        ensures { result.now.value ≡ self.now.key }
+        ensures key { result.now.value ≡ self.now.key }
+        ensures job { IsJobKey self.now.key }
     {
         &self.key
     }

@@ -4,9 +4,9 @@
 
 pub mod event;
 pub mod job;
-#[cfg(test)]
-mod tests;
+pub mod sizes;
 
 pub use claim_laws::{Meaning, Published, Seen};
 pub use event::Event;
 pub use job::{Claim, Job, Solved, Tally};
+pub use sizes::{has_key_sizes, has_program_sizes};

@@ -6,8 +6,6 @@ pub mod known;
 pub mod present;
 pub mod replaying;
 pub mod standing;
-#[cfg(test)]
-mod tests;
 pub mod world;
 
 pub use present::Present;

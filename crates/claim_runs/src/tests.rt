@@ -3,10 +3,11 @@ ghost use Rattle.std.specs.Prelude.{◌≡◌, IfOk};
 ghost use Rattle.claim_replay.specs.Values.{IsFormed, IsWhole};
 
 use crate::draws::{Draws, answer, program};
+use claim_core::{has_key_sizes, has_program_sizes};
 use claim_replay::{Out, Present, World, apply, first};
 use shape_data::answer::{Answer, Kept, Key};
 use shape_data::exact::share;
-use shape_data::{Name, is_same, well_formed_program};
+use shape_data::{Name, is_same, well_formed_answer, well_formed_key, well_formed_program};
 use std::alloc::Global;
 use std::process::Abort;
 use std::sync::Arc;
@@ -52,10 +53,12 @@ fn after(
 }
 
 /// A claim as the book has handed it out.
-fn claim_of(alloc: Global, out: &Out) -> Result<Claim, Fail>
+fn claim_of(rt: &impl Abort, out: &Out) -> Result<Claim, Fail>
     ensures { IfOk result (λ claim. claim.key ≡ out.now.key.value) }
 {
     let key = share(&out.key)?;
+    assert!(rt; well_formed_key(&key));
+    assert!(rt; has_key_sizes(&key));
     Ok(Claim::new(out.number, out.component, out.revision, key))
 }
 
@@ -90,6 +93,7 @@ fn meet(
 ) -> Result<(), Fail> {
     let program = program(alloc, draws)?;
     assert!(rt; well_formed_program(&program));
+    assert!(rt; has_program_sizes(&program));
     let program = Arc::new(alloc, program)?;
     let before = book.log().len();
     let met = book.meet(alloc, &program)?;
@@ -159,17 +163,18 @@ fn publish(
     out: &Out,
 ) -> Result<bool, Fail> {
     let answer = answer(alloc, draws, &out.key)?;
+    assert!(rt; well_formed_answer(&out.key, &answer));
     let answer = Arc::new(alloc, answer)?;
     let key = share(&out.key)?;
-    let claim = claim_of(alloc, out)?;
+    let claim = claim_of(rt, out)?;
     assert!(rt; book.holds(&claim));
     let published = book.publish(claim, Solved::new(key, answer));
     Ok(published == Published::Kept)
 }
 
 /// An outstanding claim ends without an answer.
-fn give_back(rt: &impl Abort, alloc: Global, book: &mut Book<Any>, out: &Out) -> Result<(), Fail> {
-    let claim = claim_of(alloc, out)?;
+fn give_back(rt: &impl Abort, book: &mut Book<Any>, out: &Out) -> Result<(), Fail> {
+    let claim = claim_of(rt, out)?;
     assert!(rt; book.holds(&claim));
     book.give_back(claim);
     Ok(())
@@ -202,7 +207,7 @@ fn end(
     }
     let out = &outstanding[draws.word() as usize % outstanding.len()];
     if draws.below(5) == 0 {
-        give_back(rt, alloc, book, out)?;
+        give_back(rt, book, out)?;
         return Ok(Ended::Back(out.number));
     }
     if publish(rt, alloc, draws, book, out)? {

@@ -10,7 +10,5 @@ mod solving;
 mod standing;
 mod summaries;
 mod tables;
-#[cfg(test)]
-mod tests;
 
 pub use solving::solve;

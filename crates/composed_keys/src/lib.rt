@@ -6,8 +6,6 @@ pub mod keys;
 pub mod programs;
 pub mod rows;
 pub mod structures;
-#[cfg(test)]
-mod tests;
 
 pub use keys::{are_flows, is_key_of, key_of};
 pub use programs::components_of;

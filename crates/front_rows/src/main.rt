@@ -6,6 +6,8 @@
 mod fault;
 mod flows;
 mod rows;
+mod show;
+mod trees;
 mod typing;
 
 use fault::Fault;
@@ -17,6 +19,7 @@ use std::io::{self, BufRead, BufReader};
 fn agrees(rt: &impl Print, alloc: Global, before: &str, row: &str) -> Result<bool, Fault> {
     let (word, asked) = first_word(row);
     match word {
+        "read" => trees::is_read(rt, alloc, asked),
         "flow" => flows::is_lowered(rt, alloc, before, asked),
         "typed" => typing::is_typed(rt, alloc, before, asked),
         "refused" => typing::is_refused(rt, alloc, before, asked),

@@ -1,5 +1,6 @@
 //! The forms of a row: a word, and what is asked.
 //!
+//! - `read TEXT $ TREE`: the tree of a text, which stands behind nothing, as `show` writes it; or `CODE LINE:COLUMN`, where it is refused.
 //! - `before TEXT`: what the texts of the rows below stand behind, on their first line; it is no row by itself.
 //! - `flow TEXT $ LINES`: the flow form of the text's procedures, with ` $ ` between the lines. Each procedure has a line with its name,
 //!   its parameters, the types of its slots and of its result, and a line a node: its place, its line in the text (from 0), its command,
@@ -9,7 +10,7 @@
 //! - `kinds LETTERS TEXT`: the types of its expressions, in their order: `i` an int, `p` a pointer, `v` void.
 //! - `two FILE CODE COLUMN TEXT $ TEXT`: the first refusal of two files, which stand behind nothing, or `0 0 0`.
 //!
-//! `%` in a text is the end of a line.
+//! `%` in a text or a tree is the end of a line.
 use std::alloc::{AllocError, Global};
 
 /// The first word, and the text behind it.

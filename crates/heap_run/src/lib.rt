@@ -9,8 +9,6 @@ mod conditions;
 mod frames;
 mod numbers;
 mod steps;
-#[cfg(test)]
-mod tests;
 
 pub use conditions::can_start;
 pub use shape_data::machine::{Outcome, Stepped};

@@ -9,8 +9,6 @@ pub mod real;
 pub mod sink;
 pub mod source;
 pub mod steady;
-#[cfg(test)]
-mod tests;
 
 pub use memory::{MemorySink, MemorySource};
 pub use pieces::InPieces;

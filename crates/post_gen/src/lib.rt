@@ -5,8 +5,6 @@
 
 mod annotating;
 mod listing;
-#[cfg(test)]
-mod tests;
 mod turns;
 
 pub use annotating::annotate;

@@ -6,8 +6,6 @@
 
 mod coming;
 mod searching;
-#[cfg(test)]
-mod tests;
 mod turning;
 
 pub use candidate_laws::{Dropped, Found};

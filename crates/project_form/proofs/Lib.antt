@@ -4,3 +4,4 @@ pub mod Putting
 pub mod Readings
 pub mod Units
 pub mod Wholes
+pub mod Sizes

@@ -85,12 +85,12 @@ lowerable-fields files are = All-weaker IsLowerable HasCountableFields (λ file 
 
 -- PROGRAMS
 
-none_of_three : {A : Type 0} (one other third : Option A) → option_or one (option_or other third) ≡ None → (one ≡ None) × (other ≡ None) × (third ≡ None)
+pub none_of_three : {A : Type 0} (one other third : Option A) → option_or one (option_or other third) ≡ None → (one ≡ None) × (other ≡ None) × (third ≡ None)
 none_of_three None None third is = (refl, refl, is)
 none_of_three None (Some x) third is = cc
 none_of_three (Some x) other third is = cc
 
-mapped_none : {A B : Type 0} (f : A → B) (one : Option A) → option_map f one ≡ None → one ≡ None
+pub mapped_none : {A B : Type 0} (f : A → B) (one : Option A) → option_map f one ≡ None → one ≡ None
 mapped_none f None is = refl
 mapped_none f (Some x) is = cc
 

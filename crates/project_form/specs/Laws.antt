@@ -1,6 +1,7 @@
 -- What the laws of projects say.
 use Rattle.std.specs.Prelude.{◌≡◌, ℕ, Result, Ok, None, List, []}
 use Rattle.shape_data.specs.declared.program.Program.{Program}
+use Rattle.shape_data.specs.Sizes.{HasProgramSizes}
 use Rattle.shape_data.specs.WellFormed.{IsProgram}
 use Rattle.project_form.specs.declared.fault.Refused.{Refused}
 use Rattle.project_form.specs.Files.{SourceFile, AreFiles, put_refusal, with_file, without_file}
@@ -17,6 +18,10 @@ HaveAnswer = (files : List SourceFile) → (answer : Result Program Refused) × 
 -- a program that files are is well formed
 abbrev pub HaveWellFormed : Type 0
 HaveWellFormed = (files : List SourceFile) (program : Program) → AreFiles files → Reads files (Ok program) → IsProgram program
+
+-- a program that files are has the sizes of the programs that are analysed
+abbrev pub AnswersHaveSizes : Type 0
+AnswersHaveSizes = (files : List SourceFile) (program : Program) → Reads files (Ok program) → HasProgramSizes program
 
 -- no file is few enough, and putting and dropping keep within the limits
 pub record KeepLimits : Type 0 where

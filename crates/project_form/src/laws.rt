@@ -1,5 +1,5 @@
 //! Laws of projects. Each is the contract of a function with an empty body.
-ghost use Rattle.project_form.specs.Laws.{HaveAnswer, HaveOneAnswer, HaveWellFormed, KeepLimits};
+ghost use Rattle.project_form.specs.Laws.{AnswersHaveSizes, HaveAnswer, HaveOneAnswer, HaveWellFormed, KeepLimits};
 
 use c_lower_rules::laws::{parsed_files_are_texts, programs_are_well_formed};
 use c_types_rules::laws::first_refusal;
@@ -21,6 +21,13 @@ pub fn answers_are_well_formed()
     first_refusal();
     parsed_files_are_texts();
     programs_are_well_formed();
+}
+
+/// A program that files are has structures of at most sixteen fields, and procedures of at most 48 slots.
+pub fn answers_have_sizes()
+    ensures { AnswersHaveSizes }
+{
+    first_refusal();
 }
 
 /// Putting and dropping files keeps within the limits.

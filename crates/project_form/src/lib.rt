@@ -9,8 +9,6 @@ mod files;
 pub mod laws;
 mod project;
 mod reading;
-#[cfg(test)]
-mod tests;
 mod whole;
 
 pub use fault::{ProgramFault, PutFault, Refused};

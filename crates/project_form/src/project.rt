@@ -2,6 +2,7 @@
 ghost use Rattle.std.specs.Prelude.{◌≡◌, [], IfOk, IfErr, OnOk, OnErr, Ok, None};
 ghost use Rattle.std.specs.List.{AllZip};
 ghost use Rattle.std.specs.Arc.{arc_value};
+ghost use Rattle.shape_data.specs.Sizes.{HasProgramSizes};
 ghost use Rattle.shape_data.specs.WellFormed.{IsProgram};
 ghost use Rattle.project_form.specs.Files.{has_file, put_refusal, with_file, without_file};
 ghost use Rattle.project_form.specs.Kept.{AreAllKept, Follows, kept_of, sources_of, with_kept, without_kept};
@@ -12,7 +13,7 @@ ghost use Rattle.project_form.specs.Reads.{Reads};
 use crate::fault::{ProgramFault, PutFault};
 use crate::file::File;
 use crate::files::{count_kept, drop_named, put_file};
-use crate::laws::answers_are_well_formed;
+use crate::laws::{answers_are_well_formed, answers_have_sizes};
 use crate::whole::read_program;
 use shape_data::Name;
 use shape_data::program::Program;
@@ -83,6 +84,7 @@ impl Project {
     pub fn program(&mut self, alloc: Global) -> Result<Arc<Program>, ProgramFault>
         ensures program { IfOk result (λ program. Reads (sources_of self.old) (Ok (arc_value program))) }
         ensures well_formed { IfOk result (λ program. IsProgram (arc_value program)) }
+        ensures sizes { IfOk result (λ program. HasProgramSizes (arc_value program)) }
         ensures fault { IfErr result (IsProgramFault (sources_of self.old)) }
         ensures files { sources_of self.new ≡ sources_of self.old }
         ensures follow { AllZip Follows self.old self.new }
@@ -90,6 +92,7 @@ impl Project {
         ensures kept_behind_refusal { IfErr result (KeepsWhatIsRead self.new) }
     {
         answers_are_well_formed();
+        answers_have_sizes();
         let program = read_program(alloc, &mut self.files)?;
         Ok(Arc::new(alloc, program)?)
     }

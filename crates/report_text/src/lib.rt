@@ -6,8 +6,6 @@ pub mod blocks;
 pub mod laws;
 pub mod reasons;
 pub mod reports;
-#[cfg(test)]
-mod tests;
 pub mod totals;
 
 pub use blocks::{block, push_block};

@@ -7,8 +7,6 @@ pub mod count;
 pub mod feeding;
 pub mod memory;
 pub mod reporter;
-#[cfg(test)]
-mod tests;
 
 pub use count::CountReporter;
 pub use feeding::feed_all;

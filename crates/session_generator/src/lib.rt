@@ -4,7 +4,5 @@
 #![tactic(auto)]
 
 pub mod lines;
-#[cfg(test)]
-mod tests;
 
 pub use lines::generate;

@@ -10,8 +10,6 @@ pub mod lines;
 pub mod names;
 pub mod reading;
 pub mod session;
-#[cfg(test)]
-mod tests;
 
 pub use command::{Command, Line, Taken};
 pub use session::{Commands, next_command};

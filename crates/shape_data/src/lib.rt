@@ -6,8 +6,6 @@
 mod flows;
 mod heaps;
 pub mod names;
-#[cfg(test)]
-mod tests;
 pub mod well_formed;
 
 pub use flows::struct_of;

@@ -15,6 +15,3 @@ pub mod symbolic;
 pub use exact::{Exact, copy_of, is_same, is_same_shared, share};
 pub use name::Name;
 pub use row::Row;
-
-#[cfg(test)]
-mod tests;

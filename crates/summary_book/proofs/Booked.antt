@@ -1,19 +1,23 @@
 -- A book after each of its events.
-use Rattle.std.proofs.Common.{◌≡◌, ℕ, zero, suc, ◌+◌, ◌^◌, ◌<◌, ◌≤◌, Bool, true, false, cond, is_some, replicate, List, [], ◌∷◌, ◌++◌, length, slice_get, Some, None, Option, refl, sym, ap, ◌∙◌, subst, arith}
+use Rattle.std.proofs.Common.{◌≡◌, ℕ, zero, suc, ◌+◌, ◌^◌, ◌<◌, ◌≤◌, All, Bool, true, false, cond, is_some, replicate, List, [], ◌∷◌, ◌++◌, length, slice_get, Some, None, Option, refl, sym, ap, ◌∙◌, subst, arith}
 use Rattle.std.specs.Global.{Vec}
 use Rattle.std.specs.List.{AllZip, count_by, filter, range_with_len, remove}
 use Rattle.std.proofs.lemmas.List.{length-map}
+use Rattle.std.proofs.lemmas.List.Elements.{All-nil, All-push}
 use Rattle.std.specs.Vec.{vec_len, vec_capacity}
 use Rattle.shape_data.specs.declared.answer.Answer.{Answer}
 use Rattle.shape_data.specs.declared.answer.Key.{Key}
 use Rattle.shape_data.specs.declared.program.Program.{Program}
+use Rattle.shape_data.specs.WellFormed.{IsProgram, IsStorableAnswer}
 use Rattle.call_components.specs.Reaching.{marked}
 use Rattle.component_keys.specs.Keys.{program_components}
 use Rattle.component_keys.specs.Tests.{program_test}
 use Rattle.claim_core.specs.declared.event.Event.{Event as Told}
 use Rattle.claim_core.specs.Told.{event_of, events_of}
-use Rattle.claim_laws.specs.Logs.{IsLegal, IsSolved, replay, settled_at}
+use Rattle.claim_laws.specs.Logs.{IsLegal, IsSolved, first_world, replay, settled_at}
 use Rattle.claim_laws.specs.World.{Event, Out, World, is_kept, is_present, may_happen, standings}
+use Rattle.key_laws.specs.Storing.{IsFormedEvent, IsStorableWorld}
+use Rattle.key_laws.proofs.Worlds.{legal_weaker, legal_worlds}
 use Rattle.summary_book.specs.declared.rows.OutRow.{OutRow}
 use Rattle.summary_book.specs.declared.rows.Parts.{Parts}
 use Rattle.summary_book.specs.declared.rows.SlotRow.{SlotRow}
@@ -25,7 +29,7 @@ use Rattle.summary_book.specs.Rows.{AreMarks, AreParts, AreSlots, IsOutRow, IsSi
 use Rattle.summary_book.proofs.Components.{components_small}
 use Rattle.summary_book.proofs.Counted.{marked_few, marked_most}
 use Rattle.summary_book.proofs.Counts.{parts_count}
-use Rattle.summary_book.proofs.Events.{claimed_rows, given_rows, kept_rows, legal_told, made_few, may_give_back, may_publish_at, revised_rows, revision_few, sight_of, stale_rows}
+use Rattle.summary_book.proofs.Events.{claimed_rows, given_rows, kept_rows, legal_told, made_few, may_give_back, may_publish_at, revised_rows, revision_few, sight_of, stale_rows, told_events}
 use Rattle.summary_book.proofs.Here.{standings_length}
 use Rattle.summary_book.proofs.Opening.{empty_program, first_rows}
 
@@ -39,6 +43,7 @@ module _ (solves : Key → Answer → Type 0) where
       parts.program.value ≡ empty_program → AreParts parts → IsBook solves log parts slots marks out 0 0
   first_book log parts slots marks out no_log no_slots no_marks no_out log_len out_len program_is are = record {
     legal = subst (λ l. IsLegal solves (events_of l)) (sym no_log) tt;
+    formed = subst (λ l. All IsFormedEvent (events_of l)) (sym no_log) (All-nil IsFormedEvent);
     rows_are =
         subst (λ l. AreRows (replay (events_of l)) l parts slots.items marks.items out.items 0 0) (sym no_log)
         (subst (λ s. AreRows (replay []) [] parts s marks.items out.items 0 0) (sym no_slots)
@@ -54,6 +59,11 @@ module _ (solves : Key → Answer → Type 0) where
     legal_later : (told : Told) → IsLonger log later told → may_happen world (event_of told) ≡ true → IsSolved solves world (event_of told) → IsLegal solves (events_of later.items)
     legal_later told longer may solved = subst (λ l. IsLegal solves (events_of l)) (sym longer.items_are) (legal_told solves log.items told book.legal may solved)
 
+    formed_later : (told : Told) → later.items ≡ log.items ++ told ∷ [] → IsFormedEvent (event_of told) → All IsFormedEvent (events_of later.items)
+    formed_later told items_are formed =
+        subst (λ l. All IsFormedEvent (events_of l)) (sym items_are)
+        (subst (All IsFormedEvent) (sym (told_events log.items told)) (All-push IsFormedEvent (events_of log.items) (event_of told) book.formed formed))
+
     -- a claim was given back
     pub given_book : (told : Told) → IsLonger log later told → (left : Vec OutRow) (at number : ℕ) (claim : Out) → event_of told ≡ Event.GiveBack number → slice_get world.out at ≡ Some claim → claim.number ≡ number →
         left.items ≡ remove out.items at → vec_len left + 1 ≡ vec_len out → vec_capacity later ≡ vec_capacity log → IsBook solves later parts slots marks left revision made
@@ -63,6 +73,7 @@ module _ (solves : Key → Answer → Type 0) where
         let len = longer.len_is in
         record {
           legal = legal_later told longer (ap (may_happen world) is ∙ may_give_back (events_of log.items) at claim out_at) (subst (IsSolved solves world) (sym is) tt);
+          formed = formed_later told longer.items_are (subst IsFormedEvent (sym event_is) tt);
           rows_are =
               subst (λ l. AreRows (replay (events_of l)) l parts slots.items marks.items left.items revision made) (sym longer.items_are)
               (subst (λ o. AreRows (replay (events_of (log.items ++ told ∷ []))) (log.items ++ told ∷ []) parts slots.items marks.items o revision made) (sym left_is)
@@ -80,6 +91,7 @@ module _ (solves : Key → Answer → Type 0) where
         let len = longer.len_is in
         record {
           legal = legal_later told longer (ap (may_happen world) is ∙ may_publish_at (events_of log.items) at claim answer false out_at (sym stale)) (subst (IsSolved solves world) (sym event_is) solved);
+          formed = formed_later told longer.items_are (subst IsFormedEvent (sym event_is) tt);
           rows_are =
               subst (λ l. AreRows (replay (events_of l)) l parts slots.items marks.items left.items revision made) (sym longer.items_are)
               (subst (λ o. AreRows (replay (events_of (log.items ++ told ∷ []))) (log.items ++ told ∷ []) parts slots.items marks.items o revision made) (sym left_is)
@@ -98,6 +110,7 @@ module _ (solves : Key → Answer → Type 0) where
         let len = longer.len_is in
         record {
           legal = legal_later told longer (ap (may_happen world) is ∙ may_publish_at (events_of log.items) at claim answer true out_at (sym kept)) (subst (IsSolved solves world) (sym event_is) solved);
+          formed = formed_later told longer.items_are (subst IsFormedEvent (sym event_is) tt);
           rows_are =
               subst (λ l. AreRows (replay (events_of l)) l parts more.items marks.items left.items revision made) (sym longer.items_are)
               (subst (λ s. AreRows (replay (events_of (log.items ++ told ∷ []))) (log.items ++ told ∷ []) parts s marks.items left.items revision made) (sym more_is)
@@ -113,6 +126,7 @@ module _ (solves : Key → Answer → Type 0) where
         IsBook solves later parts slots marks more revision number
     claimed_book told items_are more number worker component key event_is key_is may more_is room = record {
       legal = subst (λ l. IsLegal solves (events_of l)) (sym items_are) (legal_told solves log.items told book.legal (ap (may_happen world) event_is ∙ may) (subst (IsSolved solves world) (sym event_is) tt));
+      formed = formed_later told items_are (subst IsFormedEvent (sym event_is) tt);
       rows_are =
           subst (λ l. AreRows (replay (events_of l)) l parts slots.items marks.items more.items revision number) (sym items_are)
           (subst (λ o. AreRows (replay (events_of (log.items ++ told ∷ []))) (log.items ++ told ∷ []) parts slots.items marks.items o revision number) (sym more_is)
@@ -127,6 +141,7 @@ module _ (solves : Key → Answer → Type 0) where
         AllZip (IsMoved log.items program) out.items moved.items → vec_len later + vec_len moved ≤ vec_capacity later → IsBook solves later new rows unmarked moved next made
     revised_book told items_are new rows unmarked moved next program event_is may program_is parts_are slots_are lengths none moved_are room = record {
       legal = subst (λ l. IsLegal solves (events_of l)) (sym items_are) (legal_told solves log.items told book.legal (ap (may_happen world) event_is ∙ may) (subst (IsSolved solves world) (sym event_is) tt));
+      formed = formed_later told items_are (subst IsFormedEvent (sym event_is) (subst IsProgram program_is parts_are.formed));
       rows_are =
           subst (λ l. AreRows (replay (events_of l)) l new rows.items unmarked.items moved.items next made) (sym items_are)
           (revised_rows log.items parts new slots.items rows.items marks.items unmarked.items out.items moved.items revision made book.rows_are told next program event_is may program_is parts_are slots_are lengths none
@@ -138,6 +153,7 @@ module _ (solves : Key → Answer → Type 0) where
     pub marked_book : (others : Vec Bool) → AreMarks world others.items → IsBook solves log parts slots others out revision made
     marked_book others are = record {
       legal = book.legal;
+      formed = book.formed;
       rows_are = record {
         program_is = book.rows_are.program_is;
         parts_are = book.rows_are.parts_are;
@@ -155,6 +171,14 @@ module _ (solves : Key → Answer → Type 0) where
 module _ (solves : Key → Answer → Type 0) (log : Vec Told) (parts : Parts) (slots : Vec (Option SlotRow)) (marks : Vec Bool) (out : Vec OutRow) (revision made : ℕ) (book : IsBook solves log parts slots marks out revision made) where
   log_length : length (events_of log.items) ≡ vec_len log
   log_length = length-map log.items event_of ∙ sym log.ok.0
+
+  -- so is it for each weaker meaning of answers
+  pub book_legal : (weaker : Key → Answer → Type 0) → ((key : Key) (answer : Answer) → solves key answer → weaker key answer) → IsLegal weaker (events_of log.items)
+  book_legal weaker holds = legal_weaker solves weaker holds first_world (events_of log.items) book.legal
+
+  -- what the world holds is within the limits of a store
+  pub book_storable : ((key : Key) (answer : Answer) → solves key answer → IsStorableAnswer key answer) → IsStorableWorld (replay (events_of log.items))
+  book_storable within = legal_worlds solves within (events_of log.items) book.legal book.formed
 
   pub revision_small : revision < 2 ^ 63
   revision_small =

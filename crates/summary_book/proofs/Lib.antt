@@ -20,4 +20,7 @@ pub mod Collecting
 pub mod Booked
 pub mod Sweeping
 pub mod Handed
+pub mod Sizes
+pub mod Marking
+pub mod Solutions
 pub mod Answered

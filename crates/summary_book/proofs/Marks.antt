@@ -1,9 +1,10 @@
 -- Marks that tell exactly which of the first components are settled.
-use Rattle.std.proofs.Common.{◌≡◌, ℕ, ◌+◌, ◌<◌, Bool, true, false, List, length, is_some, Some, None, Option, sym, ap, ◌∙◌, ⊎_elim, arith, option_map}
+use Rattle.std.proofs.Common.{◌≡◌, ℕ, ◌+◌, ◌<◌, Bool, true, false, List, length, is_some, Some, None, Option, sym, ap, ◌∙◌, subst, ⊎_elim, arith, option_map}
 use Rattle.std.specs.Prelude.{slice_set}
 use Rattle.std.proofs.lemmas.Bool.{cases_eq, cases_lt}
 use Rattle.std.proofs.lemmas.List.{get_or-set_same, get_or-set_other}
 use Rattle.call_components.specs.Reaching.{marked}
+use Rattle.component_keys.proofs.Basics.{some_same}
 use Rattle.component_keys.proofs.Ordered.{callees_before}
 use Rattle.claim_laws.specs.Logs.{settled_at}
 use Rattle.claim_laws.specs.World.{Slot, World}
@@ -36,3 +37,7 @@ exact_set world marks count within are settled = record {
 pub some_number : (o : Option Slot) (r : Option ℕ) → r ≡ option_map (λ (slot : Slot). slot.claim) o → is_some o ≡ is_some r
 some_number None r e = ap is_some (sym e)
 some_number (Some slot) r e = ap is_some (sym e)
+
+-- the place that was looked for
+pub exact_here : (world : World) (marks : List Bool) (o : Option ℕ) (here : ℕ) → o ≡ Some here → AreExact world marks here → (place : ℕ) → o ≡ Some place → AreExact world marks place
+exact_here world marks o here is exact place same = subst (AreExact world marks) (some_same (sym is ∙ same)) exact

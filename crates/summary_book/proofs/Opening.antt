@@ -6,6 +6,7 @@ use Rattle.shape_data.specs.WellFormed.{IsProgram}
 use Rattle.component_keys.specs.Components.{components}
 use Rattle.component_keys.specs.Keys.{Component, program_components}
 use Rattle.component_keys.proofs.Basics.{not_none}
+use Rattle.shape_data.specs.Sizes.{HasProgramSizes}
 use Rattle.claim_laws.specs.Logs.{replay}
 use Rattle.summary_book.specs.declared.rows.Parts.{Parts}
 use Rattle.summary_book.specs.Book.{AreRows}
@@ -24,6 +25,9 @@ empty_formed = record {
   different = λ i j d lt within. absurd (grind (arith, within));
   calls = All-nil _;
 }
+
+pub empty_sizes : HasProgramSizes empty_program
+empty_sizes = record { structs = All-nil _; procs = All-nil _ }
 
 no_components : program_components empty_program ≡ []
 unfolding program_components components

@@ -17,7 +17,7 @@ use Rattle.claim_laws.specs.World.{Event, Out, World, may_happen, without}
 use Rattle.summary_book.specs.declared.rows.OutRow.{OutRow}
 use Rattle.summary_book.specs.declared.rows.Parts.{Parts}
 use Rattle.summary_book.specs.declared.rows.SlotRow.{SlotRow}
-use Rattle.summary_book.specs.Book.{IsBook, count_marked}
+use Rattle.summary_book.specs.Book.{IsBook}
 use Rattle.summary_book.specs.Rows.{IsOutRow}
 use Rattle.summary_book.specs.Views.{Contents}
 use Rattle.summary_book.proofs.Booked.{IsLonger, given_book}
@@ -36,7 +36,7 @@ ends_of out = map (λ (claim : Out). Event.GiveBack claim.number) out
 pub record IsSweeping (solves : Key → Answer → Type 0) (first : Contents) (log : Vec Told) (parts : Parts) (slots : Vec (Option SlotRow)) (marks : Vec Bool) (out : Vec OutRow) (revision made : ℕ) : Type 0 where
   pub book : IsBook solves log parts slots marks out revision made
   pub log_is : events_of log.items ++ ends_of (replay (events_of log.items)).out ≡ first.log ++ ends_of (replay first.log).out
-  pub marked_is : count_marked marks.items ≡ first.marked
+  pub marks_are : marks.items ≡ first.marks
 
 first_left : (out : List Out) (claim : Out) → slice_get out 0 ≡ Some claim → out ≡ claim ∷ remove out 0
 first_left [] claim e = not_none e
@@ -71,7 +71,7 @@ module _ (solves : Key → Answer → Type 0) (first : Contents) (log later : Ve
         append_assoc (events_of log.items) (Event.GiveBack row.number ∷ []) (ends_of (remove world.out 0)) ∙
         ap (λ n. events_of log.items ++ (Event.GiveBack n ∷ ends_of (remove world.out 0))) (sym number_same) ∙
         ap (λ o. events_of log.items ++ ends_of o) (sym (first_left world.out own.0 own.1)) ∙ sweeping.log_is;
-    marked_is = sweeping.marked_is;
+    marks_are = sweeping.marks_are;
   }
 
 -- when none is left

@@ -1,5 +1,5 @@
 -- What a book keeps.
-use Rattle.std.specs.Prelude.{◌≡◌, ℕ, ◌+◌, ◌≤◌, Bool, true, List, [], ◌∷◌, length, if◌then◌else◌}
+use Rattle.std.specs.Prelude.{◌≡◌, ℕ, ◌+◌, ◌≤◌, All, Bool, true, List, [], ◌∷◌, length, if◌then◌else◌}
 use Rattle.std.specs.Global.{Vec}
 use Rattle.std.specs.List.{count_by}
 use Rattle.std.specs.Vec.{vec_len, vec_capacity}
@@ -12,6 +12,7 @@ use Rattle.claim_core.specs.declared.event.Event.{Event as Told}
 use Rattle.claim_core.specs.Told.{events_of}
 use Rattle.claim_laws.specs.World.{World, Event}
 use Rattle.claim_laws.specs.Logs.{replay, IsLegal}
+use Rattle.key_laws.specs.Storing.{IsFormedEvent}
 use Rattle.summary_book.specs.declared.answers.Met.{Met}
 use Rattle.summary_book.specs.declared.answers.Met.TheVariants.{Same, Revised}
 use Rattle.summary_book.specs.declared.rows.OutRow.{OutRow}
@@ -29,8 +30,10 @@ pub record AreRows (world : World) (log : List Told) (parts : Parts) (slots : Li
   pub revision_is : revision ≡ world.revision
   pub made_is : made ≡ world.made
 
+-- the log is legal and its programs are well formed, the rows are the world's, and there is room for the end of each outstanding claim
 pub record IsBook (solves : Key → Answer → Type 0) (log : Vec Told) (parts : Parts) (slots : Vec (Option SlotRow)) (marks : Vec Bool) (out : Vec OutRow) (revision made : ℕ) : Type 0 where
   pub legal : IsLegal solves (events_of log.items)
+  pub formed : All IsFormedEvent (events_of log.items)
   pub rows_are : AreRows (replay (events_of log.items)) log.items parts slots.items marks.items out.items revision made
   pub room : vec_len log + vec_len out ≤ vec_capacity log
 
@@ -46,7 +49,7 @@ abbrev pub met_events : Program → Met → List Event
 met_events program Same = []
 met_events program (Revised revision) = Event.Revise revision program ∷ []
 
--- the marks after a program was met
-abbrev pub met_marks : ℕ → Met → ℕ
-met_marks marked Same = marked
-met_marks marked (Revised revision) = 0
+-- the marks after a program was met: as before, or of no component
+abbrev pub AreMetMarks : List Bool → List Bool → Met → Type 0
+AreMetMarks marks later Same = later ≡ marks
+AreMetMarks marks later (Revised revision) = count_marked later ≡ 0

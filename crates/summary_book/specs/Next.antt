@@ -4,6 +4,7 @@ use Rattle.std.specs.List.{list_any, count_by, filter, filter_map, range_with_le
 use Rattle.std.specs.declared.option.Option.TheVariants.{None, Some}
 use Rattle.shape_data.specs.declared.answer.Key.{Key}
 use Rattle.component_keys.specs.Tests.{key_test}
+use Rattle.claim_core.specs.Views.{Claimed}
 use Rattle.claim_laws.specs.World.{World, Event, Slot, Standing, standing_at, standings}
 use Rattle.claim_laws.specs.Logs.{settled_at}
 use Rattle.claim_laws.specs.Waits.{IsUnsettled, IsOut, IsAboveOut}
@@ -45,6 +46,11 @@ abbrev pub IsNext : World → (ℕ → Bool) → Next → Type 0
 IsNext world aim (Yours claim) = (claim.number ≡ world.made + 1) × (claim.revision ≡ world.revision) × IsFirstFree world aim claim.component claim.key
 IsNext world aim (Waits claim) = IsWaiting world aim claim
 IsNext world aim All = IsSettled world aim
+
+-- where a claim was handed out, this holds of it
+abbrev pub IfYours : Next → (Claimed → Type 0) → Type 0
+IfYours (Yours claim) P = P claim
+IfYours _ P = Unit {0}
 
 -- nothing is left to do
 abbrev pub IsAllAnswer : Next → Type 0

@@ -17,6 +17,7 @@ use Rattle.composed_keys.specs.Rows.{AreWithin, component_value}
 use Rattle.composed_keys.specs.Used.{AreStructures}
 use Rattle.composed_keys.specs.declared.rows.Outer.{Outer as OuterRow}
 use Rattle.claim_core.specs.declared.event.Event.{Event as Told}
+use Rattle.shape_data.specs.Sizes.{HasProgramSizes}
 use Rattle.claim_laws.specs.World.{World, Slot, Out, slot_of}
 use Rattle.claim_laws.specs.Logs.{settled_at, replay}
 use Rattle.claim_core.specs.Told.{events_of}
@@ -30,6 +31,7 @@ use Rattle.summary_book.specs.Places.{key_at, answer_at}
 
 pub record AreParts (parts : Parts) : Type 0 where
   pub formed : IsProgram parts.program.value
+  pub sizes : HasProgramSizes parts.program.value
   pub structures : AreStructures parts.program.value.structs parts.structures
   pub components : map (component_value (flows_of parts.program.value)) parts.components.items ≡ program_components parts.program.value
   pub within : AreWithin (length parts.program.value.procs) parts.components.items

@@ -1,5 +1,5 @@
 -- When marks tell enough of the components that a component calls, and what a component's turn is.
-use Rattle.std.specs.Prelude.{◌≡◌, ℕ, ◌<◌, Bool, true, List, map, length, slice_get, is_some}
+use Rattle.std.specs.Prelude.{◌≡◌, ℕ, ◌<◌, Bool, true, false, List, map, length, slice_get, is_some}
 use Rattle.std.specs.declared.option.Option.{Option}
 use Rattle.std.specs.declared.option.Option.TheVariants.{None, Some}
 use Rattle.shape_data.specs.declared.answer.Callee.{Callee}
@@ -16,6 +16,15 @@ use Rattle.summary_book.specs.declared.turns.Turn.{Turn}
 use Rattle.summary_book.specs.declared.turns.Turn.TheVariants.{Settled, Blocked, Out, Free}
 use Rattle.summary_book.specs.Next.{IsFree, IsOutBy}
 use Rattle.summary_book.specs.Rows.{AreMarks, known_row}
+
+-- what is marked before is marked later
+abbrev pub StayMarked : List Bool → List Bool → Type 0
+StayMarked marks later = (place : ℕ) → marked marks place ≡ true → marked later place ≡ true
+
+-- a component is marked later that was not before
+pub record IsMarkedAnew (marks later : List Bool) (component : ℕ) : Type 0 where
+  pub was : marked marks component ≡ false
+  pub is : marked later component ≡ true
 
 -- of the components that it calls, those that are settled are marked
 abbrev pub IsExactAt : World → List Bool → ℕ → Type 0

@@ -1,15 +1,15 @@
 -- What contracts see of a book.
-use Rattle.std.specs.Prelude.{ℕ, List, ◌==◌, ◌&&◌, Bool}
+use Rattle.std.specs.Prelude.{List, ◌==◌, ◌&&◌, Bool}
 use Rattle.std.specs.List.{list_any}
 use Rattle.shape_data.specs.declared.answer.Kept.{Kept}
 use Rattle.component_keys.specs.Tests.{key_test}
 use Rattle.claim_core.specs.Views.{Claimed, Solution}
 use Rattle.claim_laws.specs.World.{World, Event, Slot, Out}
 
--- the log, and how many components are marked as settled
+-- the log, and for each component of the present program whether it is marked as settled
 pub record Contents : Type 0 where
   pub log : List Event
-  pub marked : ℕ
+  pub marks : List Bool
 
 -- the outstanding claim has the number and the key
 abbrev pub is_claim : Claimed → Out → Bool

@@ -12,7 +12,7 @@ pub enum Met {
 
 /// What is to be done next for an aim.
 pub enum Next {
-    /// This component, which was handed out.
+    /// This component, which was handed out. The claim is the book's, and its key is one that a job may be asked for.
     Yours(Claim),
     /// Nothing until a claim has ended: the least one by which a component of the aim is out.
     Waits {

@@ -1,13 +1,20 @@
 //! The book: its type, and its calls.
-ghost use Rattle.std.specs.Prelude.{◌≡◌, ◌≤◌, ◌++◌, [], ◌∷◌, Some, IsTrue, IfOk, OnErr, is_some, length, map};
+ghost use Rattle.std.specs.Prelude.{◌≡◌, ℕ, ◌≤◌, ◌++◌, [], ◌∷◌, All, Some, IsTrue, IfOk, OnErr, is_some, length, map, true};
 ghost use Rattle.std.specs.List.{count_by, range_with_len};
+ghost use Rattle.call_components.specs.Reaching.{marked};
+ghost use Rattle.claim_core.specs.Sizes.{IsJobKey};
 ghost use Rattle.claim_core.specs.Told.{events_of};
+ghost use Rattle.claim_core.specs.Views.{IsSolution};
+ghost use Rattle.claim_laws.specs.Invariant.{IsDueAt};
 ghost use Rattle.claim_laws.specs.Logs.{IsLegal, replay, settled_at};
+ghost use Rattle.key_laws.specs.Storing.{IsStorableWorld};
 ghost use Rattle.claim_laws.specs.World.{Event as Happening, Out, is_kept_outcome, out_of, outcome, standings};
+ghost use Rattle.shape_data.specs.Sizes.{HasProgramSizes};
 ghost use Rattle.shape_data.specs.WellFormed.{IsProgram};
 ghost use Rattle.summary_book.specs.Aims.{aimed};
-ghost use Rattle.summary_book.specs.Book.{met_by, met_events, met_marks};
-ghost use Rattle.summary_book.specs.Next.{IsAllAnswer, IsNext, IsSettled, count_aimed, events_by, slots_by};
+ghost use Rattle.summary_book.specs.Book.{AreMetMarks, count_marked, met_by, met_events};
+ghost use Rattle.summary_book.specs.Next.{IfYours, IsAllAnswer, IsNext, IsSettled, count_aimed, events_by, slots_by};
+ghost use Rattle.summary_book.specs.Settled.{IsMarkedAnew, StayMarked};
 ghost use Rattle.summary_book.specs.Views.{is_own, slot_solution, solution_of};
 
 use crate::aims::Aim;
@@ -29,7 +36,7 @@ use std::alloc::{AllocError, Global};
 use std::marker::{Model, PhantomData};
 use std::sync::Arc;
 
-/// A book. Contracts see its log, and how many components are marked as settled.
+/// A book. Contracts see its log, and which components are marked as settled.
 #[derive(Drop)]
 pub struct Book<J: Meaning> {
     log: Vec<Event>,
@@ -44,21 +51,22 @@ pub struct Book<J: Meaning> {
 
 impl<J: Meaning> Model for Book<J> {
     ghost use Rattle.summary_book.specs.Views.{Contents};
-    ghost use Rattle.summary_book.specs.Book.{IsBook, count_marked};
+    ghost use Rattle.summary_book.specs.Book.{IsBook};
     ghost use Rattle.claim_core.specs.Told.{events_of};
+    ghost use Rattle.claim_core.specs.Views.{IsSolution};
 
     ghost Value = { Contents };
 
-    ghost view = { λ book. record { log = events_of book.log.items; marked = count_marked book.marks.items } };
+    ghost view = { λ book. record { log = events_of book.log.items; marks = book.marks.items } };
 
-    ghost invariant = { λ book. IsBook J.solves book.log book.parts book.slots book.marks book.out book.revision book.made };
+    ghost invariant = { λ book. IsBook (IsSolution J.solves) book.log book.parts book.slots book.marks book.out book.revision book.made };
 }
 
 impl<J: Meaning> Book<J> {
     /// A book of the empty program, with nothing done.
     pub fn new(alloc: Global) -> Result<Self, AllocError>
         ensures log { IfOk result (λ book. book.log ≡ []) }
-        ensures marked { IfOk result (λ book. book.marked ≡ 0) }
+        ensures marks { IfOk result (λ book. book.marks ≡ []) }
     {
         let program = Program {
             structs: Row::new(alloc),
@@ -82,6 +90,7 @@ impl<J: Meaning> Book<J> {
     pub fn log(&self) -> &[Event]
         ensures events { events_of result.now ≡ self.now.log }
         ensures legal { IsLegal J.solves self.now.log }
+        ensures storable { IsStorableWorld (replay self.now.log) }
     {
         &self.log
     }
@@ -90,6 +99,7 @@ impl<J: Meaning> Book<J> {
     pub fn into_log(self) -> Vec<Event>
         ensures events { events_of result.items ≡ self.log }
         ensures legal { IsLegal J.solves self.log }
+        ensures storable { IsStorableWorld (replay self.log) }
     {
         let Book { log, .. } = self;
         log
@@ -97,7 +107,8 @@ impl<J: Meaning> Book<J> {
 
     /// How many components are marked as settled. Not each settled component need be marked.
     pub fn marked(&self) -> u32
-        ensures number { result ≡ self.now.marked }
+        ensures number { result ≡ count_marked self.now.marks }
+        ensures each { (component : ℕ) → marked self.now.marks component ≡ true → is_some (settled_at (replay self.now.log) component) ≡ true }
         ensures settled { result ≤ count_by (λ component. is_some (settled_at (replay self.now.log) component)) (range_with_len 0 (length (standings (replay self.now.log)))) }
     {
         count_set(&self.marks) as u32
@@ -110,12 +121,14 @@ impl<J: Meaning> Book<J> {
         holds(&self.log, &self.out, claim)
     }
 
-    /// Makes a program the present one, if it is another. Slots of components with the same members stay.
+    /// Makes a program the present one, if it is another. Slots of components with the same members stay. Its structures have few
+    /// fields and its procedures few slots, which `has_program_sizes` of `claim_core` tests.
     pub fn meet(&mut self, alloc: Global, program: &Arc<Program>) -> Result<Met, AllocError>
-        requires { IsProgram program.now.value }
+        requires formed { IsProgram program.now.value }
+        requires sizes { HasProgramSizes program.now.value }
         ensures met { IfOk result (λ met. met ≡ met_by (replay self.old.log) program.now.value) }
         ensures log { IfOk result (λ met. self.new.log ≡ self.old.log ++ met_events program.now.value met) }
-        ensures marked { IfOk result (λ met. self.new.marked ≡ met_marks self.old.marked met) }
+        ensures marks { IfOk result (λ met. AreMetMarks self.old.marks self.new.marks met) }
         ensures err { OnErr result (self.new ≡ self.old) }
     {
         let given: &Program = program;
@@ -140,11 +153,15 @@ impl<J: Meaning> Book<J> {
     }
 
     /// Hands out the first component that the aim reaches, callees first, that is unsettled, whose callees are settled and whose key no
-    /// outstanding claim holds. Room for the claim's end is taken here.
+    /// outstanding claim holds. The claim is the book's from then on, so it may be published or given back, and its key is one that a
+    /// job may be asked for. Room for the claim's end is taken here.
     pub fn next(&mut self, alloc: Global, worker: u64, aim: &Aim) -> Result<Next, AllocError>
         ensures next { IfOk result (λ next. IsNext (replay self.old.log) (aimed (replay self.old.log).program aim.now) next) }
         ensures log { IfOk result (λ next. self.new.log ≡ self.old.log ++ events_by worker next) }
-        ensures marked { IfOk result (λ next. IsAllAnswer next → count_aimed (replay self.old.log) (aimed (replay self.old.log).program aim.now) ≤ self.new.marked) }
+        ensures own { IfOk result (λ next. IfYours next (λ claim. IsTrue (is_own (replay self.new.log) claim))) }
+        ensures key { IfOk result (λ next. IfYours next (λ claim. IsJobKey claim.key)) }
+        ensures marked { IfOk result (λ next. IsAllAnswer next → count_aimed (replay self.old.log) (aimed (replay self.old.log).program aim.now) ≤ count_marked self.new.marks) }
+        ensures stay { StayMarked self.old.marks self.new.marks }
         ensures err { OnErr result (self.new.log ≡ self.old.log) }
     {
         let aim = aimed_in(alloc, &self.parts, aim)?;
@@ -177,12 +194,15 @@ impl<J: Meaning> Book<J> {
         Ok(Next::Yours(claim))
     }
 
-    /// Ends a claim with an answer, and says what becomes of that.
+    /// Ends a claim with an answer, and says what becomes of that. An answer that is kept for the key that its component is due marks
+    /// the component.
     pub fn publish(&mut self, claim: Claim, solved: Solved<J>) -> Published
         requires own { IsTrue (is_own (replay self.old.log) claim) }
         requires key { claim.key ≡ solved.key }
         ensures published { (out : Out) → out_of (replay self.old.log).out claim.number ≡ Some out → result ≡ outcome (replay self.old.log) out }
         ensures log { self.new.log ≡ self.old.log ++ Happening.Publish claim.number solved.answer (is_kept_outcome result) ∷ [] }
+        ensures stay { StayMarked self.old.marks self.new.marks }
+        ensures settled { (component : ℕ) → IsDueAt (replay self.old.log) component claim.key → result ≡ Published.Kept → IsMarkedAnew self.old.marks self.new.marks component }
     {
         let number = claim.number();
         let _key = claim.forget();
@@ -221,7 +241,7 @@ impl<J: Meaning> Book<J> {
     pub fn give_back(&mut self, claim: Claim)
         requires { IsTrue (is_own (replay self.old.log) claim) }
         ensures log { self.new.log ≡ self.old.log ++ Happening.GiveBack claim.number ∷ [] }
-        ensures marked { self.new.marked ≡ self.old.marked }
+        ensures marks { self.new.marks ≡ self.old.marks }
     {
         let number = claim.number();
         let _key = claim.forget();
@@ -234,7 +254,7 @@ impl<J: Meaning> Book<J> {
     pub fn sweep(&mut self)
         ensures log { self.new.log ≡ self.old.log ++ map (λ out. Happening.GiveBack out.number) (replay self.old.log).out }
         ensures out { (replay self.new.log).out ≡ [] }
-        ensures marked { self.new.marked ≡ self.old.marked }
+        ensures marks { self.new.marks ≡ self.old.marks }
     {
         while !self.out.is_empty() {
             let row = self.out.remove(0);
@@ -243,10 +263,12 @@ impl<J: Meaning> Book<J> {
         }
     }
 
-    /// The keys and answers of the components that an aim reaches, callees first. They have to be settled.
+    /// The keys and answers of the components that an aim reaches, callees first. They have to be settled. Each answer is right for its
+    /// key, and both are within the limits of a store.
     pub fn collect(&self, alloc: Global, aim: &Aim) -> Result<Vec<Kept>, AllocError>
         requires { IsSettled (replay self.now.log) (aimed (replay self.now.log).program aim.now) }
-        ensures { IfOk result (λ kept. map solution_of kept.items ≡ map slot_solution (slots_by (replay self.now.log) (aimed (replay self.now.log).program aim.now))) }
+        ensures slots { IfOk result (λ kept. map solution_of kept.items ≡ map slot_solution (slots_by (replay self.now.log) (aimed (replay self.now.log).program aim.now))) }
+        ensures solutions { IfOk result (λ kept. All (λ one. IsSolution J.solves one.key.value one.answer.value) kept.items) }
     {
         let aim = aimed_in(alloc, &self.parts, aim)?;
         collected(alloc, &self.parts, &self.log, &self.slots, &aim)

@@ -1,8 +1,9 @@
 //! What becomes of an answer.
-ghost use Rattle.std.specs.Prelude.{◌≡◌, ◌<◌, Some, IfSome, All, length, slice_get};
+ghost use Rattle.std.specs.Prelude.{◌≡◌, ℕ, ◌<◌, Some, IfSome, All, is_some, length, slice_get, true};
 ghost use Rattle.std.specs.List.{filter_map};
 ghost use Rattle.claim_core.specs.Told.{events_of};
-ghost use Rattle.claim_laws.specs.Logs.{replay};
+ghost use Rattle.call_components.specs.Reaching.{marked};
+ghost use Rattle.claim_laws.specs.Logs.{replay, settled_at};
 ghost use Rattle.claim_laws.specs.World.{Out, is_due, is_kept_outcome, outcome, standing_at};
 ghost use Rattle.component_keys.specs.Keys.{flows_of};
 ghost use Rattle.shape_data.specs.declared.answer.Key.{Key};
@@ -10,7 +11,7 @@ ghost use Rattle.component_keys.specs.Tests.{flows_test};
 ghost use Rattle.summary_book.specs.Moved.{outcome_by_row, with_slot};
 ghost use Rattle.summary_book.specs.Places.{key_at};
 ghost use Rattle.summary_book.specs.Rows.{AreMarks, IsOutRow, IsSight};
-ghost use Rattle.summary_book.specs.Settled.{IsExactAt, due_in};
+ghost use Rattle.summary_book.specs.Settled.{AreExact, IsExactAt, StayMarked, due_in};
 
 use crate::places::{key_at, slot_at};
 use crate::rows::{OutRow, Parts, SlotRow};
@@ -92,6 +93,8 @@ pub fn outcome(
     requires place { IfSome row.now.here (λ here. here < length parts.now.components.items) }
     requires revision { revision ≡ (replay (events_of log.now)).revision }
     ensures marks { AreMarks (replay (events_of log.now)) marks.new.items }
+    ensures stay { StayMarked marks.old.items marks.new.items }
+    ensures exact { (place : ℕ) → row.now.here ≡ Some place → AreExact (replay (events_of log.now)) marks.new.items place }
     ensures outcome { (claim : Out) → IsOutRow log.now parts.now.program.value row.now claim → result ≡ outcome (replay (events_of log.now)) claim }
 {
     let Some(here) = row.here else {
@@ -138,7 +141,9 @@ pub fn mark(
     requires sight { IsSight log.now parts.now slots.now }
     requires marks { AreMarks (replay (events_of log.now)) marks.old.items }
     requires place { IfSome here (λ here. here < length parts.now.components.items) }
-    ensures { AreMarks (replay (events_of log.now)) marks.new.items }
+    ensures marks { AreMarks (replay (events_of log.now)) marks.new.items }
+    ensures stay { StayMarked marks.old.items marks.new.items }
+    ensures found { (place : ℕ) → here ≡ Some place → IsExactAt (replay (events_of log.now)) marks.old.items place → is_some (settled_at (replay (events_of log.now)) place) ≡ true → marked marks.new.items place ≡ true }
 {
     if let Some(here) = here {
         look_at(parts, log, slots, marks, here as usize);

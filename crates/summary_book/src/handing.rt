@@ -1,6 +1,7 @@
 //! Components that are handed out.
 ghost use Rattle.std.specs.Prelude.{◌≡◌, ℕ, ◌+◌, ◌<◌, ◌≤◌, ◌++◌, [], ◌∷◌, Some, true, IfOk, OnErr, OnOk, length};
 ghost use Rattle.std.specs.Vec.{vec_capacity, vec_len};
+ghost use Rattle.claim_core.specs.Sizes.{IsJobKey};
 ghost use Rattle.claim_core.specs.Told.{events_of};
 ghost use Rattle.claim_core.specs.declared.event.Event.TheVariants as told;
 ghost use Rattle.claim_laws.specs.Invariant.{IsDueAt};
@@ -52,6 +53,7 @@ pub fn hand_out(
     key: Arc<Key>,
 ) -> Result<Claim, AllocError>
     requires room { vec_len log.old + vec_len out.old ≤ vec_capacity log.old }
+    requires key { IsJobKey key.value }
     ensures number { IfOk result (λ claim. claim.number ≡ number) }
     ensures component { IfOk result (λ claim. claim.component ≡ component) }
     ensures revision { IfOk result (λ claim. claim.revision ≡ revision) }

@@ -1,5 +1,5 @@
 //! The book of claims: the present program, a slot for each component that was answered, the outstanding claims and the log of all
-//! that was done. Contracts see a book as its log and the number of components that are marked as settled; its type keeps that the
+//! that was done. Contracts see a book as its log and the marks of the components that are settled; its type keeps that the
 //! log is legal, and each call appends its events and answers what the world after the log says. Nothing here knows of heaps.
 #![tactic(auto)]
 
@@ -15,8 +15,6 @@ mod parts;
 mod places;
 pub mod rows;
 mod settled;
-#[cfg(test)]
-mod tests;
 mod turns;
 
 pub use aims::Aim;

@@ -5,6 +5,7 @@ ghost use Rattle.call_components.specs.Reaching.{marked, rows};
 ghost use Rattle.component_keys.specs.Keys.{flows_of};
 ghost use Rattle.composed_keys.specs.declared.rows.Component.{Component as ComponentRow};
 ghost use Rattle.composed_keys.specs.declared.rows.Outer.{Outer as OuterRow};
+ghost use Rattle.shape_data.specs.Sizes.{HasProgramSizes};
 ghost use Rattle.shape_data.specs.WellFormed.{IsProgram};
 ghost use Rattle.summary_book.specs.Aims.{aimed, component_with, has_name};
 ghost use Rattle.summary_book.specs.Rows.{AreParts};
@@ -39,7 +40,8 @@ fn calls_of(alloc: Global, components: &[Component]) -> Result<Vec<Vec<u32>>, Al
 
 /// What is made of a program once.
 pub fn parts_of(alloc: Global, program: &Arc<Program>) -> Result<Parts, AllocError>
-    requires { IsProgram program.now.value }
+    requires formed { IsProgram program.now.value }
+    requires sizes { HasProgramSizes program.now.value }
     ensures program { IfOk result (λ parts. parts.program.value ≡ program.now.value) }
     ensures parts { IfOk result AreParts }
 {

@@ -1,5 +1,5 @@
 //! Which components are settled. It takes no memory: a slot's key is compared with what its component is due part by part.
-ghost use Rattle.std.specs.Prelude.{◌≡◌, ◌+◌, ◌<◌, ◌≤◌, ◌↔◌, IsTrue, IfSome, Some, length, All};
+ghost use Rattle.std.specs.Prelude.{◌≡◌, ◌+◌, ◌<◌, ◌≤◌, ◌↔◌, IsTrue, IfSome, Some, length, All, is_some, true};
 ghost use Rattle.std.specs.List.{list_all};
 ghost use Rattle.std.specs.Option.{option_map};
 ghost use Rattle.call_components.specs.Reaching.{marked};
@@ -9,7 +9,7 @@ ghost use Rattle.composed_keys.specs.declared.rows.Outer.{Outer as OuterRow};
 ghost use Rattle.summary_book.specs.Book.{count_marked};
 ghost use Rattle.summary_book.specs.Rows.{AreMarks, IsSight};
 ghost use Rattle.summary_book.specs.Places.{key_at};
-ghost use Rattle.summary_book.specs.Settled.{AreExact, HasKnown, IsExactAt};
+ghost use Rattle.summary_book.specs.Settled.{AreExact, HasKnown, IsExactAt, StayMarked};
 
 use crate::known::are_known;
 use crate::places::{key_at, slot_at};
@@ -103,6 +103,8 @@ pub fn look_at(
     requires marks { AreMarks (replay (events_of log.now)) marks.old.items }
     requires place { place < length parts.now.components.items }
     ensures marks { AreMarks (replay (events_of log.now)) marks.new.items }
+    ensures stay { StayMarked marks.old.items marks.new.items }
+    ensures found { IsExactAt (replay (events_of log.now)) marks.old.items place → is_some (settled_at (replay (events_of log.now)) place) ≡ true → marked marks.new.items place ≡ true }
     ensures exact { AreExact (replay (events_of log.now)) marks.old.items place → AreExact (replay (events_of log.now)) marks.new.items (place + 1) }
 {
     if is_set(marks, place) {
@@ -124,7 +126,8 @@ pub fn mark_settled(
     requires sight { IsSight log.now parts.now slots.now }
     requires marks { AreMarks (replay (events_of log.now)) marks.old.items }
     requires end { end ≤ length parts.now.components.items }
-    ensures { AreExact (replay (events_of log.now)) marks.new.items end }
+    ensures exact { AreExact (replay (events_of log.now)) marks.new.items end }
+    ensures stay { StayMarked marks.old.items marks.new.items }
 {
     for place in 0..end {
         look_at(parts, log, slots, marks, place);

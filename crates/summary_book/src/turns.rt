@@ -12,7 +12,7 @@ ghost use Rattle.component_keys.specs.Tests.{key_test};
 ghost use Rattle.composed_keys.specs.declared.rows.Outer.{Outer as OuterRow};
 ghost use Rattle.shape_data.specs.declared.answer.Key.{Key};
 ghost use Rattle.summary_book.specs.Rows.{AreMarks, AreOut, IsOutRow, IsSight};
-ghost use Rattle.summary_book.specs.Settled.{IsExactAt, IsTurn};
+ghost use Rattle.summary_book.specs.Settled.{IsExactAt, IsTurn, StayMarked};
 ghost use Rattle.summary_book.specs.Found.{IsAllFound, IsFound, lesser};
 
 use crate::rows::{OutRow, Parts, SlotRow};
@@ -139,6 +139,7 @@ pub fn first_free(
     requires out { AreOut log.now parts.now.program.value out.now (replay (events_of log.now)).out }
     requires aim { IsAim (replay (events_of log.now)) (marked aim.now) }
     ensures marks { AreMarks (replay (events_of log.now)) marks.new.items }
+    ensures stay { StayMarked marks.old.items marks.new.items }
     ensures found { IsFound (replay (events_of log.now)) (marked aim.now) result }
     ensures all { IsAllFound result → (place : ℕ) → place < length parts.now.components.items → marked aim.now place ≡ true → marked marks.new.items place ≡ true }
 {

@@ -11,8 +11,6 @@ mod parts;
 mod placing;
 mod sights;
 mod states;
-#[cfg(test)]
-mod tests;
 
 pub use pairs::canon_pair;
 pub use parts::Pair;

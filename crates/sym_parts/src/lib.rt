@@ -6,8 +6,6 @@ pub mod addresses;
 pub mod expressions;
 pub mod mapping;
 pub mod occurs;
-#[cfg(test)]
-mod tests;
 
 pub use addresses::{cell_address, cell_addresses, has_cell_at};
 pub use expressions::{has_double, is_among, is_same_exp};

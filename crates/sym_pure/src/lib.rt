@@ -12,8 +12,6 @@ mod parts;
 mod redundancy;
 mod solving;
 mod sources;
-#[cfg(test)]
-mod tests;
 
 pub use normality::{is_normal, is_normal_heap};
 pub use normals::normal;

@@ -15,8 +15,6 @@ mod parts;
 mod printing;
 mod reading;
 mod starts;
-#[cfg(test)]
-mod tests;
 mod words;
 
 pub use fault::BadSpec;

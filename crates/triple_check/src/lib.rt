@@ -7,8 +7,6 @@ mod answers;
 pub mod coming;
 pub mod coverings;
 mod gaps;
-#[cfg(test)]
-mod tests;
 
 pub use answers::{check_answer, first_gap, table_of};
 pub use certificate_laws::{Gap, SpecGap};

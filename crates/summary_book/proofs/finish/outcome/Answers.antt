@@ -9,7 +9,8 @@ use Rattle.claim_laws.specs.declared.published.Published.TheVariants.{Stale}
 use Rattle.claim_laws.specs.declared.published.Seen.TheVariants.{Gone, Changed}
 use Rattle.summary_book.specs.Moved.{outcome_by_row}
 use Rattle.summary_book.specs.Settled.{IsExactAt}
-use Rattle.summary_book.proofs.Marks.{exact_below}
+use Rattle.component_keys.proofs.Basics.{not_none}
+use Rattle.summary_book.proofs.Marks.{exact_below, exact_here}
 use Rattle.summary_book.proofs.Outcomes.{outcome_gone, outcome_otherwise, outcome_where_due, outcome_where_settled}
 use Rattle.summary_book.proofs.Rowed.{row_at, there_row}
 use Rattle.summary_book.proofs.finish.outcome.Goals as goal
@@ -28,7 +29,7 @@ returns-in-Some-settling-clause-outcome c = λ claim is.
 pub is_due-requires-clause-exact : goal.is_due-requires-clause-exact
 is_due-requires-clause-exact c =
     let world = replay (events_of c.args.log.now) in
-    subst (λ m. IsExactAt world m c.in-Some.here) (sym c.deref-2.ensures.value) (exact_below world c.mark_settled.new.marks.items c.in-Some.here c.mark_settled.ensures)
+    subst (λ m. IsExactAt world m c.in-Some.here) (sym c.deref-2.ensures.value) (exact_below world c.mark_settled.new.marks.items c.in-Some.here c.mark_settled.ensures.exact)
 
 pub returns-then-is_due-clause-outcome : goal.returns-then-is_due-clause-outcome
 returns-then-is_due-clause-outcome c = λ claim is.
@@ -36,7 +37,7 @@ returns-then-is_due-clause-outcome c = λ claim is.
     let items = c.args.parts.now.components.items in
     let lt : c.in-Some.here < length items = subst (λ o. IfSome o (λ here. here < length items)) c.in-Some.is c.requires.place in
     let row = there_row items c.in-Some.here lt in
-    let exact = c.settling.ensures.exact (subst (λ m. IsExactAt world m c.in-Some.here) (sym c.deref.ensures.value) (exact_below world c.mark_settled.new.marks.items c.in-Some.here c.mark_settled.ensures)) in
+    let exact = c.settling.ensures.exact (subst (λ m. IsExactAt world m c.in-Some.here) (sym c.deref.ensures.value) (exact_below world c.mark_settled.new.marks.items c.in-Some.here c.mark_settled.ensures.exact)) in
     let none = sym (sym c.in_default-settling.is ∙ exact) in
     sym
     (outcome_where_due c.args.log.now c.args.parts.now c.args.slots.now c.requires.sight c.in-Some.here row.0 row.1 c.args.row.now claim is c.in-Some.is none (sym (c.is_due.ensures claim is) ∙ c.if-is_due.true))
@@ -58,7 +59,7 @@ returns-then-not-has_flows-clause-outcome c = λ claim is.
     let lt : c.in-Some.here < length items = subst (λ o. IfSome o (λ here. here < length items)) c.in-Some.is c.requires.place in
     let row = c.index-component.result.now in
     let at = row_at items items c.in-Some.here row refl lt c.index-component.ensures in
-    let exact = c.settling.ensures.exact (subst (λ m. IsExactAt world m c.in-Some.here) (sym c.deref.ensures.value) (exact_below world c.mark_settled.new.marks.items c.in-Some.here c.mark_settled.ensures)) in
+    let exact = c.settling.ensures.exact (subst (λ m. IsExactAt world m c.in-Some.here) (sym c.deref.ensures.value) (exact_below world c.mark_settled.new.marks.items c.in-Some.here c.mark_settled.ensures.exact)) in
     let none = sym (sym c.in_default-settling.is ∙ exact) in
     let flows : flows_test.0 claim.key.procs (filter_map (slice_get (flows_of c.args.parts.now.program.value)) row.members.items) ≡ false =
     ap (λ m. flows_test.0 claim.key.procs (filter_map (slice_get (flows_of c.args.parts.now.program.value)) m)) (sym c.deref-4.ensures.value) ∙
@@ -75,7 +76,7 @@ returns-clause-outcome c = λ claim is.
     let lt : c.in-Some.here < length items = subst (λ o. IfSome o (λ here. here < length items)) c.in-Some.is c.requires.place in
     let row = c.index-component.result.now in
     let at = row_at items items c.in-Some.here row refl lt c.index-component.ensures in
-    let exact = c.settling.ensures.exact (subst (λ m. IsExactAt world m c.in-Some.here) (sym c.deref.ensures.value) (exact_below world c.mark_settled.new.marks.items c.in-Some.here c.mark_settled.ensures)) in
+    let exact = c.settling.ensures.exact (subst (λ m. IsExactAt world m c.in-Some.here) (sym c.deref.ensures.value) (exact_below world c.mark_settled.new.marks.items c.in-Some.here c.mark_settled.ensures.exact)) in
     let none = sym (sym c.in_default-settling.is ∙ exact) in
     let flows : flows_test.0 claim.key.procs (filter_map (slice_get (flows_of c.args.parts.now.program.value)) row.members.items) ≡ true =
     ap (λ m. flows_test.0 claim.key.procs (filter_map (slice_get (flows_of c.args.parts.now.program.value)) m)) (sym c.deref-4.ensures.value) ∙
@@ -84,3 +85,18 @@ returns-clause-outcome c = λ claim is.
     sym
     (outcome_otherwise c.args.log.now c.args.parts.now c.args.slots.now c.requires.sight c.in-Some.here row at c.args.row.now claim is c.in-Some.is true none
     (sym (c.is_due.ensures claim is) ∙ c.if-is_due.false) flows)
+
+pub returns-in-Some-settling-clause-exact : goal.returns-in-Some-settling-clause-exact
+returns-in-Some-settling-clause-exact c = exact_here (replay (events_of c.args.log.now)) c.mark_settled.new.marks.items c.args.row.now.here c.in-Some.here c.in-Some.is c.mark_settled.ensures.exact
+
+pub returns-then-is_due-clause-exact : goal.returns-then-is_due-clause-exact
+returns-then-is_due-clause-exact c = exact_here (replay (events_of c.args.log.now)) c.mark_settled.new.marks.items c.args.row.now.here c.in-Some.here c.in-Some.is c.mark_settled.ensures.exact
+
+pub returns-then-not-has_flows-clause-exact : goal.returns-then-not-has_flows-clause-exact
+returns-then-not-has_flows-clause-exact c = exact_here (replay (events_of c.args.log.now)) c.mark_settled.new.marks.items c.args.row.now.here c.in-Some.here c.in-Some.is c.mark_settled.ensures.exact
+
+pub returns-clause-exact : goal.returns-clause-exact
+returns-clause-exact c = exact_here (replay (events_of c.args.log.now)) c.mark_settled.new.marks.items c.args.row.now.here c.in-Some.here c.in-Some.is c.mark_settled.ensures.exact
+
+pub returns-in_default-clause-exact : goal.returns-in_default-clause-exact
+returns-in_default-clause-exact c = λ place is. not_none (sym c.in_default.is ∙ is)

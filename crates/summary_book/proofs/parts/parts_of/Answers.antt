@@ -5,6 +5,7 @@ use Rattle.shape_data.specs.WellFormed.{IsProgram}
 use Rattle.component_keys.specs.Keys.{flows_of, program_components}
 use Rattle.composed_keys.specs.Rows.{AreWithin, component_value}
 use Rattle.composed_keys.specs.Used.{AreStructures}
+use Rattle.shape_data.specs.Sizes.{HasProgramSizes}
 use Rattle.summary_book.proofs.Components.{calls_are}
 use Rattle.summary_book.proofs.Rowed.{called_in_row}
 use Rattle.summary_book.proofs.parts.parts_of.Goals as goal
@@ -18,7 +19,8 @@ returns-clause-parts c =
     subst (λ p. map (component_value (flows_of p)) items ≡ program_components p) (c.deref-3.ensures ∙ sym e) c.in_ok-components.ensures.are in
     let within : AreWithin (length program.procs) items = subst (λ (p : Program). AreWithin (length p.procs) items) (c.deref-3.ensures ∙ sym e) c.in_ok-components.ensures.within in
     record {
-      formed = subst IsProgram (sym e) c.requires;
+      formed = subst IsProgram (sym e) c.requires.formed;
+      sizes = subst HasProgramSizes (sym e) c.requires.sizes;
       structures = subst (λ s. AreStructures s c.in_ok-structures.structures) (c.deref-2.ensures ∙ ap (λ (p : Program). p.structs) (c.deref.ensures ∙ sym e)) c.in_ok-structures.ensures;
       components = components;
       within = within;

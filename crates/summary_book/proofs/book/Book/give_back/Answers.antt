@@ -1,6 +1,7 @@
 -- The claim's row goes, and its end is written down.
 use Rattle.std.proofs.Common.{◌≡◌, ◌∙◌, true, refl, sym, subst, arith}
 use Rattle.std.proofs.lemmas.Option.{slice_get_within}
+use Rattle.claim_core.specs.Views.{IsSolution}
 use Rattle.claim_core.specs.declared.event.Event.TheVariants as told
 use Rattle.claim_core.specs.Told.{events_of}
 use Rattle.claim_laws.specs.Logs.{replay}
@@ -28,6 +29,6 @@ invariant_of-self g c =
     let place : IsPlaceOf c.args.claim.number inside.out.items c.place_of-at.result =
     subst (λ l. IsPlaceOf c.args.claim.number l c.place_of-at.result) c.deref.ensures.value (subst (λ n. IsPlaceOf n c.deref.result.now c.place_of-at.result) c.number-number.ensures c.place_of-at.ensures) in
     let end = end_at inside.log.items (replay (events_of inside.log.items)).program inside.out.items c.place_of-at.result c.args.claim c.self.invariant.rows_are.out_are own place in
-    given_book g.J.Meaning.solves inside.log c.push_reserved.new.self inside.parts inside.slots inside.marks inside.out inside.revision inside.made c.self.invariant (told.GiveBack c.number-number.result)
+    given_book (IsSolution g.J.Meaning.solves) inside.log c.push_reserved.new.self inside.parts inside.slots inside.marks inside.out inside.revision inside.made c.self.invariant (told.GiveBack c.number-number.result)
     (record { items_are = c.push_reserved.ensures.items; len_is = c.push_reserved.ensures.len }) c.remove.new.self c.place_of-at.result c.number-number.result end.out refl end.out_at (end.number_is ∙ sym c.number-number.ensures)
     c.remove.ensures.items c.remove.ensures.len c.push_reserved.ensures.capacity

@@ -3,6 +3,7 @@ use Rattle.std.proofs.Common.{◌≡◌, ◌≤◌, ◌+◌, ◌∙◌, ◌++◌
 use Rattle.std.specs.List.{AllZip, filter}
 use Rattle.std.specs.Vec.{vec_len, vec_capacity}
 use Rattle.std.proofs.lemmas.List.{length-replicate}
+use Rattle.claim_core.specs.Views.{IsSolution}
 use Rattle.call_components.specs.Reaching.{marked}
 use Rattle.component_keys.specs.Keys.{program_components}
 use Rattle.claim_core.specs.declared.event.Event.TheVariants as told
@@ -26,7 +27,7 @@ returns-then-is_same-clause-met g c =
 pub overflow_add-revision : goal.overflow_add-revision
 overflow_add-revision g c =
     let inside = c.self.inside in
-    let small = revision_small g.J.Meaning.solves inside.log inside.parts inside.slots inside.marks inside.out inside.revision inside.made c.self.invariant in
+    let small = revision_small (IsSolution g.J.Meaning.solves) inside.log inside.parts inside.slots inside.marks inside.out inside.revision inside.made c.self.invariant in
     omega (arith, small)
 
 pub returns-clause-met : goal.returns-clause-met
@@ -56,6 +57,6 @@ invariant_of-self-2 g c =
     (subst (λ o. AllZip (IsMoved c.deref-3.result.now program) o c.in_ok-out.out.items) c.deref-4.ensures.value c.in_ok-out.ensures.rows) in
     let room : vec_len c.push_reserved.new.self + vec_len c.in_ok-out.out ≤ vec_capacity c.push_reserved.new.self =
     (let ok = c.in_ok-reserve.ensures.ok in let len = c.push_reserved.ensures.len in let capacity = c.push_reserved.ensures.capacity in let own = c.len-2.ensures in omega (arith, ok, len, capacity, own)) in
-    revised_book g.J.Meaning.solves inside.log c.push_reserved.new.self inside.parts inside.slots inside.marks inside.out inside.revision inside.made c.self.invariant last later_is new c.in_ok-slots.slots c.in_ok-marks.marks
+    revised_book (IsSolution g.J.Meaning.solves) inside.log c.push_reserved.new.self inside.parts inside.slots inside.marks inside.out inside.revision inside.made c.self.invariant last later_is new c.in_ok-slots.slots c.in_ok-marks.marks
     c.in_ok-out.out (inside.revision + 1) program (ap (λ p. Event.Revise (inside.revision + 1) p) same_program) may refl c.in_ok-parts.ensures.parts slots_are lengths
     (λ place. ap (λ m. marked m place) marks_are ∙ all_unmarked c.len.result place) moved_are room

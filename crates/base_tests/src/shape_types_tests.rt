@@ -1,0 +1,178 @@
+//! Each public function once, each generic impl at a type, and what callers of a row learn.
+ghost use Rattle.std.specs.Prelude.{◌≡◌, ◌<◌, ◌≤◌, ◌↔◌, ◌++◌, ◌∷◌, [], length, slice_get, Some, IsTrue, IfOk, All};
+
+use shape_types::answer::{Callee, Key};
+use shape_types::exact::{Exact, copy_of, is_same, is_same_shared, share};
+use shape_types::name::Name;
+use shape_types::program::{Cmd, Flow, Node, Operand, Proc, Program, Ty};
+use shape_types::row::Row;
+use shape_types::symbolic::{Atom, Exp, Spec, SymHeap};
+use std::alloc::{AllocError, Global};
+use std::cmp::Ordering;
+use std::sync::Arc;
+use std::test::Fail;
+
+fn name(alloc: Global, bytes: &[u8]) -> Result<Name, AllocError>
+    requires some { 1 ≤ length bytes.now }
+    requires short { length bytes.now ≤ 64 }
+{
+    Name::of(alloc, bytes)
+}
+
+// What callers of a row learn, with no proof of their own.
+
+fn are_small(row: &Row<u32>) -> bool
+    ensures { IsTrue result ↔ All (λ value. value < 10) row.now }
+{
+    row.iter().all(|value| *value < 10)
+}
+
+fn at(row: &Row<u32>, place: usize) -> u32
+    requires { place < length row.now }
+    ensures { slice_get row.now place ≡ Some result }
+{
+    row[place]
+}
+
+fn with_one_more(row: &mut Row<u32>, value: u32) -> Result<(), AllocError>
+    ensures { IfOk result (λ done. row.new ≡ row.old ++ value ∷ []) }
+{
+    row.push(value)?;
+    Ok(())
+}
+
+// A row of one value.
+fn one<T: Drop>(alloc: Global, value: T) -> Result<Row<T>, AllocError> {
+    let mut row = Row::new(alloc);
+    row.push(value)?;
+    Ok(row)
+}
+
+fn flow(alloc: Global, node: Node) -> Result<Flow, AllocError> {
+    let nodes = one(alloc, node)?;
+    Ok(Flow {
+        name: name(alloc, b"five")?,
+        params: Row::new(alloc),
+        slots: Row::new(alloc),
+        ret: Ty::Int,
+        nodes,
+    })
+}
+
+// A program of one procedure, which returns this number.
+fn program(alloc: Global, number: i32) -> Result<Program, AllocError> {
+    let value = Operand::Num(number);
+    let node = Node {
+        line: 0,
+        cmd: Cmd::Return { value },
+        head: None,
+    };
+    let flow = flow(alloc, node)?;
+    let file = name(alloc, b"five.c")?;
+    Ok(Program {
+        structs: Row::new(alloc),
+        procs: one(
+            alloc,
+            Proc {
+                flow,
+                file,
+                line: 3,
+            },
+        )?,
+    })
+}
+
+// A heap of one structure, which holds this number.
+fn heap(alloc: Global, number: i32) -> Result<SymHeap, AllocError> {
+    let kind = name(alloc, b"node")?;
+    let fields = one(alloc, Exp::Const(number))?;
+    let at = Exp::Var(0);
+    Ok(SymHeap {
+        pure: Row::new(alloc),
+        spatial: one(alloc, Atom::Points { at, kind, fields })?,
+    })
+}
+
+// A key with one callee, whose spec asks for a heap that holds this number.
+fn key(alloc: Global, number: i32) -> Result<Key, AllocError> {
+    let pre = heap(alloc, number)?;
+    let posts = Row::new(alloc);
+    let callee = Callee {
+        name: name(alloc, b"get")?,
+        params: Row::new(alloc),
+        specs: one(alloc, Spec { pre, posts })?,
+    };
+    Ok(Key {
+        recursive: true,
+        procs: Row::new(alloc),
+        structs: Row::new(alloc),
+        callees: one(alloc, callee)?,
+    })
+}
+
+// Whether a value is the same as its clone, and is not the same as the other.
+fn is_told_apart<T: Exact + Drop>(value: &T, other: &T) -> Result<bool, AllocError> {
+    let copied = copy_of(value)?;
+    Ok(is_same(value, &copied) && !is_same(&copied, other))
+}
+
+#[test]
+fn deep_values_are_told_apart(rt: HostRuntime) -> Result<(), Fail> {
+    let alloc = rt.alloc();
+    assert!(rt; is_told_apart(&program(alloc, 5)?, &program(alloc, 6)?)?);
+    assert!(rt; is_told_apart(&key(alloc, 5)?, &key(alloc, 6)?)?);
+    assert!(rt; is_told_apart(&Some(3u32), &None)?);
+    Ok(())
+}
+
+#[test]
+fn shared_values_are_compared_by_what_they_hold(rt: HostRuntime) -> Result<(), Fail> {
+    let alloc = rt.alloc();
+    let first = Arc::new(alloc, one(alloc, 5u32)?)?;
+    let alike = Arc::new(alloc, one(alloc, 5u32)?)?;
+    let other = Arc::new(alloc, one(alloc, 6u32)?)?;
+    assert!(rt; is_same_shared(&first, &alike));
+    assert!(rt; !is_same_shared(&share(&first)?, &other));
+    Ok(())
+}
+
+#[test]
+fn names_are_bytes_in_order(rt: HostRuntime) -> Result<(), Fail> {
+    let alloc = rt.alloc();
+    let short = name(alloc, b"ab")?;
+    let long = name(alloc, b"ab\xff")?;
+    assert!(rt; Name::is_name(&[7; 64]) && !Name::is_name(&[7; 65]) && !Name::is_name(b""));
+    assert_eq!(rt; long.as_bytes().len(), 3);
+    assert!(rt; short < long && short == short.clone()?);
+    Ok(())
+}
+
+#[test]
+fn rows_are_edited(rt: HostRuntime) -> Result<(), Fail> {
+    let mut row = Row::new(rt.alloc());
+    assert!(rt; row.is_empty());
+    row.push(5)?;
+    with_one_more(&mut row, 7)?;
+    row.insert(1, 6)?;
+    row.set(0, 4);
+    assert_eq!(rt; row.remove(1), 6);
+    assert_eq!(rt; row.into_vec().as_slice(), [4, 7].as_slice());
+    Ok(())
+}
+
+#[test]
+fn rows_are_read(rt: HostRuntime) -> Result<(), Fail> {
+    let alloc = rt.alloc();
+    let row: Row<u32> = vec![in alloc; 4, 7]?.into();
+    assert!(rt; row.first() == row.get(0) && row.last() == row.get(1) && are_small(&row));
+    assert!(rt; row.len() == 2 && at(&row, 1) == 7);
+    let mut count = 0u32;
+    for value in &row {
+        count = count.wrapping_add(*value);
+    }
+    assert_eq!(rt; count, 11);
+    let other = Row::from_vec(vec![in alloc; 4, 8]?);
+    assert!(rt; row < other && row.cmp(&other) == Ordering::Less && is_told_apart(&row, &other)?);
+    assert_eq!(rt; format!(in alloc; "{row:?}")?.as_str(), "[4, 7]");
+    Ok(())
+}

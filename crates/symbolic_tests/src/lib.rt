@@ -1,0 +1,15 @@
+//! Tests of the machine, of symbolic heaps, and of their texts. Tests alone: beside the libraries they would have these proved a second time.
+#![tactic(auto)]
+
+#[cfg(test)]
+mod heap_run_tests;
+#[cfg(test)]
+mod report_text_tests;
+#[cfg(test)]
+mod sym_canon_tests;
+#[cfg(test)]
+mod sym_parts_tests;
+#[cfg(test)]
+mod sym_pure_tests;
+#[cfg(test)]
+mod sym_text_tests;
