@@ -5,4 +5,4 @@ pub mod Named
 pub mod Reported
 pub mod Puts
 pub mod Summed
-pub mod Solved
+pub mod Among

@@ -1,10 +1,13 @@
 -- Where the procedures of a program stand among its components and their answers.
 use Rattle.std.specs.Prelude.{◌≡◌, ℕ, ◌<◌, ◌⊎◌, List, length, map, slice_get}
+use Rattle.std.specs.List.{find, flat_map}
 use Rattle.std.specs.Option.{option_and_then}
+use Rattle.std.specs.Str.{bytes_eq}
 use Rattle.std.specs.declared.option.Option.{Option}
 use Rattle.std.specs.declared.option.Option.TheVariants.{Some}
 use Rattle.shape_data.specs.declared.answer.Answer.{Answer}
 use Rattle.shape_data.specs.declared.answer.Callee.{Callee}
+use Rattle.shape_data.specs.declared.answer.Kept.{Kept}
 use Rattle.shape_data.specs.declared.answer.ProcSummary.{ProcSummary}
 use Rattle.shape_data.specs.declared.program.Flow.{Flow}
 use Rattle.shape_data.specs.declared.program.Program.{Program}
@@ -21,6 +24,14 @@ pub record AreRows (program : Program) (rows : List Row) : Type 0 where
 -- a procedure as a callee, with the specs that an answer has for it
 abbrev pub callee_in : Answer → Flow → Callee
 callee_in answer flow = record { name = flow.name; params = flow.params; specs = specs_in answer flow.name }
+
+-- the answers that are kept
+abbrev pub answers_kept : List Kept → List Answer
+answers_kept kept = map (λ (one : Kept). one.answer.value) kept
+
+-- the first summary of the name among answers
+abbrev pub summary_among : List Answer → List ℕ → Option ProcSummary
+summary_among answers name = find (λ (summary : ProcSummary). bytes_eq summary.name name) (flat_map (λ (answer : Answer). answer.procs) answers)
 
 -- the summary at a place
 abbrev pub summary_in : List Answer → Place → Option ProcSummary

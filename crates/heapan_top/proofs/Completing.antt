@@ -1,11 +1,11 @@
 -- Where nothing failed, right words are answered in full, unless memory wants.
-use Rattle.std.proofs.Common.{◌≡◌, ℕ, List, Option, Some, None, ◌⊎◌, inl, inr, refl}
+use Rattle.std.proofs.Common.{◌≡◌, ℕ, List, Option, Some, None, inl, inr, refl}
 use Rattle.std.specs.Prelude.{IfSome}
 use Rattle.heapan_top.specs.declared.status.Status.{Status}
 use Rattle.heapan_top.specs.declared.status.Status.TheVariants as status
 use Rattle.heapan_top.specs.Headline.{AnswersInFull, AnswersSession, AreRightWords, Completes}
 use Rattle.heapan_top.specs.Laws.{OneReply}
-use Rattle.heapan_top.specs.Replies.{Replies, beginning}
+use Rattle.heapan_top.specs.Replies.{beginning}
 
 module _ (one_reply : OneReply) (old new : Option (List ℕ)) (words : List (List ℕ)) (right : AreRightWords words) where
   -- where all was written, the status is that of the replies

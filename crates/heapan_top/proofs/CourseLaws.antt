@@ -1,5 +1,5 @@
 -- How replies to one command after another make the replies to a stream, and what is written where a fault ends them.
-use Rattle.std.proofs.Common.{◌≡◌, ◌≢◌, ℕ, zero, suc, ◌+◌, ◌-◌, ◌<◌, ◌≤◌, Bool, true, false, cond, List, [], ◌∷◌, ◌++◌, ◌⊎◌, inl, inr, Option, Some, None, Result, Ok, Err, length, take, refl, sym, ap, ◌∙◌, subst, append_assoc}
+use Rattle.std.proofs.Common.{◌≡◌, ◌≢◌, ℕ, zero, suc, ◌+◌, ◌-◌, ◌<◌, ◌≤◌, Bool, true, false, cond, List, [], ◌∷◌, ◌++◌, inl, inr, Option, Some, None, Result, Ok, Err, length, take, refl, sym, ap, ◌∙◌, subst, append_assoc}
 use Rattle.std.specs.Prelude.{IfOk, IfSome, ◌==◌}
 use Rattle.std.proofs.lemmas.List.{append-nil}
 use Rattle.io_ports.specs.Bytes.{after_held, before_left}
@@ -19,11 +19,11 @@ use Rattle.heapan_top.specs.Replies.{Course, Replies, beginning, malformed_line,
 
 -- ---- what is held
 
-held-nil : (held : Option (List ℕ)) → after_held held [] ≡ held
+pub held-nil : (held : Option (List ℕ)) → after_held held [] ≡ held
 held-nil None = refl
 held-nil (Some bytes) = ap Some (append-nil bytes)
 
-held-append : (held : Option (List ℕ)) (xs ys : List ℕ) → after_held (after_held held xs) ys ≡ after_held held (xs ++ ys)
+pub held-append : (held : Option (List ℕ)) (xs ys : List ℕ) → after_held (after_held held xs) ys ≡ after_held held (xs ++ ys)
 held-append None xs ys = refl
 held-append (Some bytes) xs ys = ap Some (append_assoc bytes xs ys)
 

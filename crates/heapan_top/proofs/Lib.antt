@@ -4,3 +4,4 @@ pub mod CourseLaws
 pub mod Printing
 pub mod ReplyLaws
 pub mod Words
+pub mod WorkLaws

@@ -3,3 +3,4 @@ pub mod Headline
 pub mod Laws
 pub mod Parts
 pub mod Replies
+pub mod Work

@@ -1,12 +1,16 @@
 -- What the parts of the program promise one another. No contract of a call that other crates see cites it.
-use Rattle.std.specs.Prelude.{◌≡◌, ℕ, ◌+◌, ◌<◌, Option, Some, None, IfSome, List, [], ◌++◌, ◌⊎◌}
+use Rattle.std.specs.Prelude.{◌≡◌, ℕ, ◌+◌, ◌<◌, ◌≤◌, Option, Some, None, IfSome, List, ◌++◌, ◌⊎◌}
+use Rattle.claim_laws.specs.Logs.{published}
+use Rattle.claim_laws.specs.World.{Event}
 use Rattle.session_lines.specs.declared.command.Command.{Command}
 use Rattle.session_lines.specs.Reading.{Reading}
 use Rattle.session_replies.specs.Answers.{Answers as AnswersCommand, Present}
+use Rattle.session_replies.specs.Work.{IsWorked}
 use Rattle.heapan_top.specs.declared.status.Status.{Status}
 use Rattle.heapan_top.specs.declared.status.Status.TheVariants as status
 use Rattle.heapan_top.specs.Headline.{Answers, Appends, AppendsSome}
 use Rattle.heapan_top.specs.Replies.{Course, Replies, beginning}
+use Rattle.heapan_top.specs.Work.{AreCounted}
 
 -- how far a session came, by its reader and by what is present
 abbrev pub course_of : Reading → Present → Course
@@ -59,3 +63,31 @@ IsUnderWay told old course left new = IfSome told (λ stream. Goes beginning str
 -- one more command was taken
 abbrev pub IsOneMore : ℕ → ℕ → Type 0
 IsOneMore old new = (old < 65536) × (new ≡ old + 1)
+
+-- WORK
+
+-- the answer to a command was written, and its work is done; or a front of it
+abbrev pub IsReplyWork : Present → Command → Option (List ℕ) → Present → Option (List ℕ) → List Event → Option Status → Type 0
+IsReplyWork present asked old after new log None = (text : List ℕ) × AnswersCommand present asked text after × Appends old new text × IsWorked present asked log
+IsReplyWork present asked old after new log (Some ended) =
+    (new ≡ old) ⊎ ((text : List ℕ) × (later : Present) × AnswersCommand present asked text later × AppendsSome old new text × IsWorked present asked log)
+
+-- from one course over a stream a session came, with these bytes written and this work done, to another course over what is left
+pub record GoesOn (course : Course) (stream : List ℕ) (old : Option (List ℕ)) (after : Course) (left new : Option (List ℕ)) (log : List Event) : Type 0 where
+  pub text : List ℕ
+  pub rest : List ℕ
+  pub is_left : left ≡ Some rest
+  pub appends : Appends old new text
+  pub carries : (written : List ℕ) (solves : ℕ) → published log ≤ solves → AreCounted after rest written solves → AreCounted course stream (text ++ written) solves
+
+-- this was written last
+abbrev pub EndsCounted : Course → List ℕ → Option (List ℕ) → Option (List ℕ) → List Event → Type 0
+EndsCounted course stream old new log = (written : List ℕ) × Appends old new written × ((solves : ℕ) → published log ≤ solves → AreCounted course stream written solves)
+
+abbrev pub IsWork : Course → List ℕ → Option (List ℕ) → Course → Option (List ℕ) → Option (List ℕ) → List Event → Option Status → Type 0
+IsWork course stream old after left new log None = GoesOn course stream old after left new log
+IsWork course stream old after left new log (Some ended) = EndsCounted course stream old new log
+
+-- the work was done from the beginning
+abbrev pub IsDone : Option (List ℕ) → Option (List ℕ) → Course → Option (List ℕ) → Option (List ℕ) → List Event → Type 0
+IsDone told old course left new log = IfSome told (λ stream. GoesOn beginning stream old course left new log)

@@ -7,6 +7,7 @@ mod status;
 #[cfg(test)]
 mod tests;
 mod turns;
+mod work;
 
 pub use session::run;
 pub use status::{Outcome, Status};

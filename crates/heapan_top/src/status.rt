@@ -1,4 +1,5 @@
 //! How a call of the program ended.
+use claim_core::Event;
 
 /// How it ended, with the number that the process ends with.
 #[derive(Clone, Copy, PartialEq, Eq, Debug)]
@@ -43,7 +44,12 @@ impl Status {
 }
 
 /// What a call of the program answers.
-#[derive(Clone, Copy, PartialEq, Eq, Debug)]
+#[derive(Drop)]
 pub struct Outcome {
+    /// How it ended.
     pub status: Status,
+    /// Each claim of a component and its end, in order.
+    pub log: Vec<Event>,
+    /// How many answers were published.
+    pub solves: u64,
 }

@@ -3,9 +3,11 @@
 mod sessions;
 mod stack;
 mod tables;
+mod work;
 mod worked;
 
 use crate::{Outcome, Status, run};
+use claim_core::Event;
 use io_ports::{
     InPieces, MemorySink, MemorySource, ReadEnd, Sink, Source, SteadySink, SteadySource, read_up_to,
 };
@@ -15,6 +17,7 @@ use std::alloc::{AllocError, Global};
 use std::process::Abort;
 use std::test::Fail;
 use tables::{ANALYSED, REFUSED, REFUSED_BELOW, REPORTED, REPORTED_TOGETHER};
+use work::WORK;
 use worked::{STACK_REPLY, WORKED};
 
 /// The first example: what is read, and what is written.
@@ -41,7 +44,7 @@ fn steady(alloc: Global, bytes: &[u8]) -> Result<SteadySource, AllocError> {
 
 /// Runs the right words over any source and sink.
 fn session<S: Source, K: Sink>(alloc: Global, source: &mut S, sink: &mut K) -> Status {
-    let Outcome { status } = run(alloc, &["session"], source, sink);
+    let Outcome { status, .. } = run(alloc, &["session"], source, sink);
     status
 }
 
@@ -467,4 +470,38 @@ fn a_status_has_its_number(rt: HostRuntime) {
     for (status, code) in rows {
         assert_eq!(&rt; status.code(), code);
     }
+}
+
+/// What an event is.
+fn letter(event: &Event) -> u8 {
+    match event {
+        Event::Revise { .. } => b'R',
+        Event::Claim { .. } => b'C',
+        Event::Publish { .. } => b'P',
+        Event::GiveBack { .. } => b'G',
+    }
+}
+
+/// These events are what is done for the replies to a stream.
+fn works(rt: &impl Abort, alloc: Global, stream: &[u8], want: &[u8]) -> Result<(), Fail> {
+    let mut source = steady(alloc, stream)?;
+    let mut sink = SteadySink::new(alloc)?;
+    let Outcome { log, solves, .. } = run(alloc, &["session"], &mut source, &mut sink);
+    let mut events = Vec::new(alloc);
+    for event in log.as_slice() {
+        events.push(letter(event))?;
+    }
+    assert_eq!(rt; events.as_slice(), want);
+    let published = want.iter().filter(|letter| **letter == b'P').count();
+    assert_eq!(rt; solves, published as u64);
+    Ok(())
+}
+
+#[test]
+fn what_is_known_is_not_solved_again(rt: HostRuntime) -> Result<(), Fail> {
+    let alloc = rt.alloc();
+    for (stream, want) in WORK {
+        works(&rt, alloc, stream, want)?;
+    }
+    Ok(())
 }

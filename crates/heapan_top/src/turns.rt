@@ -4,16 +4,19 @@ ghost use Rattle.io_ports.specs.Counts.{Rose};
 ghost use Rattle.session_lines.specs.Lines.{IsCommand, IsFirst};
 ghost use Rattle.session_lines.specs.Reading.{stream_left};
 ghost use Rattle.session_replies.specs.Answers.{IsAnswered};
+ghost use Rattle.session_replies.specs.Work.{Extends};
 ghost use Rattle.heapan_top.specs.Headline.{ReadsFront};
-ghost use Rattle.heapan_top.specs.Parts.{Ends, IsAt, IsOneMore, IsReply, IsTurn, course_of};
+ghost use Rattle.heapan_top.specs.Parts.{Ends, IsAt, IsOneMore, IsReply, IsReplyWork, IsTurn, IsWork, course_of};
 ghost use Rattle.heapan_top.specs.Replies.{Course, malformed_line, one_behind, status_with};
 
 use crate::laws::{one_reply, some_reply};
 use crate::status::Status;
 use io_ports::{Sink, SinkFault, Source, write_all};
 use report_text::reasons::push_decimal;
+use session_lines::laws::one_first;
 use session_lines::{Command, Commands, Taken, next_command};
 use session_replies::Session;
+use session_replies::laws::one_answer;
 use std::alloc::{AllocError, Global};
 
 /// How a call ends that has read all, where the last report told of so many procedures without a spec.
@@ -79,7 +82,9 @@ fn reply<K: Sink>(
 ) -> Option<Status>
     requires answered { IsAnswered asked }
     requires allowed { IsCommand asked }
-    ensures reply { IsReply session.old asked (K.held sink.old) session.new (K.held sink.new) result }
+    ensures reply { IsReply session.old.present asked (K.held sink.old) session.new.present (K.held sink.new) result }
+    ensures work { IsReplyWork session.old.present asked (K.held sink.old) session.new.present (K.held sink.new) session.new.log result }
+    ensures more { Extends session.old.log session.new.log }
     ensures write_fault { result ≡ Some Status.WriteFault → Rose (K.faults sink.old) (K.faults sink.new) }
     ensures never_falls { K.faults sink.old ≤ K.faults sink.new }
 {
@@ -104,8 +109,11 @@ fn follow<K: Sink>(
     offset: u64,
 ) -> Option<Status>
     requires { IsCommand asked }
-    ensures turn { (course : Course) (stream rest : List ℕ) → IsAt course session.old number offset → IsFirst stream asked rest
-        → IsTurn course stream (K.held sink.old) (one_behind course (length stream - length rest) session.new) (Some rest) (K.held sink.new) result }
+    ensures turn { (course : Course) (stream rest : List ℕ) → IsAt course session.old.present number offset → IsFirst stream asked rest
+        → IsTurn course stream (K.held sink.old) (one_behind course (length stream - length rest) session.new.present) (Some rest) (K.held sink.new) result }
+    ensures work { (course : Course) (stream rest : List ℕ) → IsAt course session.old.present number offset → IsFirst stream asked rest
+        → IsWork course stream (K.held sink.old) (one_behind course (length stream - length rest) session.new.present) (Some rest) (K.held sink.new) session.new.log result }
+    ensures more { Extends session.old.log session.new.log }
     ensures not_read_fault { result ≢ Some Status.ReadFault }
     ensures not_usage { result ≢ Some Status.Usage }
     ensures write_fault { result ≡ Some Status.WriteFault → Rose (K.faults sink.old) (K.faults sink.new) }
@@ -113,6 +121,8 @@ fn follow<K: Sink>(
 {
     one_reply();
     some_reply();
+    one_first();
+    one_answer();
     match &asked {
         Command::Quit => Some(status_with(session.missing())),
         Command::Save => Some(refuse(alloc, sink, number, offset)),
@@ -129,8 +139,12 @@ pub fn turn<S: Source, K: Sink>(
     sink: &mut K,
 ) -> Option<Status>
     ensures turn { IfSome (stream_left commands.old (S.left source.old)) (λ stream.
-        IsTurn (course_of commands.old session.old) stream (K.held sink.old) (course_of commands.new session.new)
+        IsTurn (course_of commands.old session.old.present) stream (K.held sink.old) (course_of commands.new session.new.present)
         (stream_left commands.new (S.left source.new)) (K.held sink.new) result) }
+    ensures work { IfSome (stream_left commands.old (S.left source.old)) (λ stream.
+        IsWork (course_of commands.old session.old.present) stream (K.held sink.old) (course_of commands.new session.new.present)
+        (stream_left commands.new (S.left source.new)) (K.held sink.new) session.new.log result) }
+    ensures more { Extends session.old.log session.new.log }
     ensures counted { IfNone result (IsOneMore commands.old.taken commands.new.taken) }
     ensures reads { ReadsFront (stream_left commands.old (S.left source.old)) (stream_left commands.new (S.left source.new)) }
     ensures not_usage { result ≢ Some Status.Usage }

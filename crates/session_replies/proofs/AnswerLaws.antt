@@ -1,12 +1,12 @@
 -- A command has an answer, and has it once, since files are a program or refused, and only one of these.
-use Rattle.std.proofs.Common.{◌≡◌, ℕ, List, Option, Some, None, Result, refl, sym, ap, ◌∙◌}
+use Rattle.std.proofs.Common.{◌≡◌, ℕ, List, Option, Some, None, refl, sym, ap, ◌∙◌}
 use Rattle.session_generator.specs.Generated.{generated}
 use Rattle.session_lines.specs.declared.command.Command.{Command}
 use Rattle.session_lines.specs.declared.command.Command.TheVariants as command
-use Rattle.project_form.specs.Files.{AreFiles, SourceFile, has_file, put_refusal, with_file, without_file}
+use Rattle.project_form.specs.Files.{AreFiles, SourceFile, put_refusal, with_file}
 use Rattle.project_form.specs.Laws.{HaveAnswer, HaveOneAnswer, KeepLimits}
-use Rattle.session_replies.specs.Answers.{Answers, GENERATED, IsAnswered, Present, missing_by, text_of, unless_refused, with_put}
-use Rattle.session_replies.specs.Texts.{block_named, error_line, ok_line, program_report, program_total, put_line}
+use Rattle.session_replies.specs.Answers.{Answers, GENERATED, IsAnswered, Present, missing_by, text_of, unless_refused}
+use Rattle.session_replies.specs.Texts.{block_named, error_line, ok_line, program_report, program_total}
 
 module _ (one_reading : HaveOneAnswer) where
   pub once : (present one other : Present) (asked : Command) (text text' : List ℕ) → Answers present asked text one → Answers present asked text' other → (text ≡ text') × (one ≡ other)

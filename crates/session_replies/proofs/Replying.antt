@@ -1,6 +1,12 @@
 -- The answers to a command from what its parts were answered.
-use Rattle.std.proofs.Common.{◌≡◌, ℕ, Bool, List, [], Option, Some, None, Result, sym, ap, ap₂, ◌∙◌, subst}
+use Rattle.std.specs.List.{position}
+use Rattle.std.specs.Option.{option_and_then}
+use Rattle.std.proofs.Common.{◌≡◌, ℕ, Bool, List, Option, Some, None, Result, slice_get, get_or, sym, ap, ap₂, ◌∙◌, subst}
+use Rattle.shape_data.specs.declared.answer.ProcSummary.{ProcSummary}
+use Rattle.shape_data.specs.declared.program.Proc.{Proc}
 use Rattle.shape_data.specs.declared.program.Program.{Program}
+use Rattle.report_text.specs.Report.{block_text}
+use Rattle.bottom_up.specs.BottomUp.{program_summaries}
 use Rattle.session_generator.specs.Generated.{generated}
 use Rattle.session_lines.specs.declared.command.Command.TheVariants as command
 use Rattle.project_form.specs.declared.fault.Refused.{Refused}
@@ -9,7 +15,10 @@ use Rattle.project_form.specs.Reads.{Reads}
 use Rattle.session_replies.specs.declared.found.Found.{Found}
 use Rattle.session_replies.specs.Answers.{Answers, GENERATED, Present, missing_by, text_of, unless_refused, with_drop, with_put}
 use Rattle.session_replies.specs.Parts.{answer_in}
-use Rattle.session_replies.specs.Texts.{block_named, drop_line, error_line, ok_line, program_report, program_total, put_line}
+use Rattle.std.proofs.lemmas.Option.{get_or_from_slice_get}
+use Rattle.summary_book.proofs.Lists.{position_found}
+use Rattle.session_replies.specs.Known.{named_summary}
+use Rattle.session_replies.specs.Texts.{block_at, block_named, block_of, is_named, drop_line, error_line, ok_line, program_report, program_total, put_line}
 
 -- a file was put, or refused
 pub put_answers : (present after : Present) (name bytes text : List ℕ) (refusal : Option ℕ) → refusal ≡ put_refusal name bytes present.files → after ≡ with_put name bytes present →
@@ -78,3 +87,12 @@ gen_answers present mid after n name bytes text answer named made may put now re
     let read_so : Reads put_all.files answer = subst (λ (p : Present). Reads p.files answer) same reads in
     subst (λ (later : Present). Answers present (command.Gen n) text later) (sym (now ∙ same))
     (subst (λ (whole : List ℕ). Answers present (command.Gen n) whole put_all) (sym says) (Answers.gen n answer is read_so))
+
+-- the block of the procedure of a name, from its summary
+pub block_is : (program : Program) (name : List ℕ) (place : ℕ) (proc : Proc) (summary : ProcSummary) → position (is_named name) program.procs ≡ Some place → proc ≡ get_or program.procs place proc →
+    named_summary program name ≡ Some summary → block_text program.structs proc summary ≡ block_named name program
+block_is program name place proc summary is proc_is known =
+    let found = position_found (is_named name) program.procs place is in
+    let at : slice_get program.procs place ≡ Some proc = found.1 ∙ ap (λ p. Some p) (sym (proc_is ∙ get_or_from_slice_get program.procs place found.0 proc found.1)) in
+    let there : slice_get (program_summaries program) place ≡ Some summary = sym (ap (option_and_then (slice_get (program_summaries program))) is) ∙ known in
+    sym (ap (block_at program) is ∙ ap (λ o. block_of program.structs o (slice_get (program_summaries program) place)) at ∙ ap (λ o. block_of program.structs (Some proc) o) there)

@@ -1,5 +1,6 @@
 -- What is known of a program can be printed.
-use Rattle.std.proofs.Common.{◌≡◌, ℕ, ◌<◌, ◌≤◌, List, length, None, Some, sym, ◌∙◌, subst, arith, inl, inr}
+use Rattle.std.proofs.Common.{◌≡◌, ℕ, ◌<◌, ◌≤◌, List, length, Option, option_and_then, None, Some, sym, subst, arith, inl, inr}
+use Rattle.std.specs.List.{position}
 use Rattle.std.specs.Prelude.{All, slice_get, ◌⊎◌, get_or}
 use Rattle.std.proofs.lemmas.Option.{slice_get_cases, slice_get-get_or, slice_get_within}
 use Rattle.shape_data.specs.declared.answer.ProcSummary.{ProcSummary}
@@ -9,6 +10,8 @@ use Rattle.shape_data.specs.WellFormed.{IsCountable, IsProgram}
 use Rattle.report_text.specs.Parts.{AreReportable, FormedIsPrintable, IsPrintable}
 use Rattle.bottom_up.specs.BottomUp.{program_summaries}
 use Rattle.bottom_up.specs.Laws.{EachIsReported, IsReported}
+use Rattle.session_replies.specs.Known.{named_summary}
+use Rattle.session_replies.specs.Texts.{is_named}
 
 module _ (each : EachIsReported) (program : Program) (fine : IsProgram program) where
   abbrev known : List ProcSummary
@@ -44,3 +47,11 @@ module _ (each : EachIsReported) (program : Program) (fine : IsProgram program) 
       specs = each_summary (λ (summary : ProcSummary). IsCountable summary.specs) (λ number proc summary is. let few : length summary.specs ≤ 4294967295 = is.formed.few in omega (arith, few));
     };
   }
+
+  -- so can the summary of one procedure
+  pub named_is_printable : FormedIsPrintable → (name : List ℕ) (summary : ProcSummary) → named_summary program name ≡ Some summary → IsPrintable program.structs summary
+  named_is_printable printable name summary is = by_place (position (is_named name) program.procs) is
+    where
+      by_place : (o : Option ℕ) → option_and_then (slice_get known) o ≡ Some summary → IsPrintable program.structs summary
+      by_place None there = absurd cc
+      by_place (Some number) there = let own = reported_at number summary there in printable _ program.structs own.0.flow summary own.1.formed own.1.reason

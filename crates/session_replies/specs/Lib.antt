@@ -1,4 +1,6 @@
 pub mod Answers
+pub mod Known
 pub mod Laws
 pub mod Parts
 pub mod Texts
+pub mod Work

@@ -1,6 +1,7 @@
 -- What the parts of a session promise one another. No contract of a call that other crates make cites it.
 use Rattle.std.specs.Prelude.{Result, Ok, Err}
 use Rattle.shape_data.specs.declared.program.Program.{Program}
+use Rattle.shape_data.specs.Sizes.{HasProgramSizes}
 use Rattle.shape_data.specs.WellFormed.{IsProgram}
 use Rattle.project_form.specs.declared.fault.Refused.{Refused}
 use Rattle.session_replies.specs.declared.found.Found.{Found}
@@ -11,7 +12,7 @@ abbrev pub answer_in : Found → Result Program Refused
 answer_in (found.Whole program) = Ok program.value
 answer_in (found.NoProgram refused) = Err refused
 
--- a program is well formed
+-- a program is well formed, and has the sizes of the programs that are analysed
 abbrev pub IsFormed : Found → Type 0
-IsFormed (found.Whole program) = IsProgram program.value
+IsFormed (found.Whole program) = IsProgram program.value × HasProgramSizes program.value
 IsFormed (found.NoProgram refused) = Unit {0}

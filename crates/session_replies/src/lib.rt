@@ -4,6 +4,7 @@
 #![tactic(auto)]
 
 pub mod found;
+pub mod known;
 pub mod laws;
 pub mod session;
 pub mod texts;

@@ -1,22 +1,22 @@
 //! The lines of replies.
-ghost use Rattle.std.specs.Prelude.{◌≡◌, IfOk};
+ghost use Rattle.std.specs.Prelude.{◌≡◌, ◌≤◌, true, is_some, IfOk, OnOk};
 ghost use Rattle.std.specs.List.{position};
-ghost use Rattle.bottom_up.specs.BottomUp.{program_summaries};
-ghost use Rattle.report_text.specs.Parts.{AreReportable};
+ghost use Rattle.claim_laws.specs.Logs.{published};
+ghost use Rattle.shape_data.specs.Sizes.{HasProgramSizes};
 ghost use Rattle.shape_data.specs.WellFormed.{IsProgram};
 ghost use Rattle.session_replies.specs.Texts.{block_named, drop_line, error_line, is_named, ok_line, program_missing, program_report, program_total, refused_line};
+ghost use Rattle.session_replies.specs.Work.{Extends, count_reached};
+ghost use Rattle.summary_book.specs.declared.aims.Aim.TheVariants as aim;
 
-use bottom_up::laws::each_is_reported;
-use bottom_up::summaries;
+use crate::known::Knowledge;
 use project_form::Refused;
-use report_text::laws::formed_is_printable;
 use report_text::reasons::push_decimal;
 use report_text::totals::push_total;
 use report_text::{block, count_none, push_report};
-use shape_data::answer::ProcSummary;
+use shape_data::Name;
 use shape_data::program::Program;
-use shape_data::{Name, Row};
 use std::alloc::{AllocError, Global};
+use std::sync::Arc;
 
 /// The code of a name under which no file is present.
 const NO_FILE: u16 = 145;
@@ -68,17 +68,6 @@ pub fn refused_text(alloc: Global, refused: &Refused) -> Result<Vec<u8>, AllocEr
     Ok(text)
 }
 
-/// What is known of the procedures of a program.
-fn known_of(alloc: Global, program: &Program) -> Result<Row<ProcSummary>, AllocError>
-    requires { IsProgram program.now }
-    ensures value { IfOk result (λ known. known ≡ program_summaries program.now) }
-    ensures reportable { IfOk result (λ known. AreReportable program.now.structs program.now.procs known) }
-{
-    each_is_reported();
-    formed_is_printable();
-    summaries(alloc, program)
-}
-
 /// The place of the procedure of a name.
 fn place_of(program: &Program, name: &Name) -> Option<usize>
     ensures { result ≡ position (is_named name.now) program.now.procs }
@@ -91,30 +80,45 @@ fn place_of(program: &Program, name: &Name) -> Option<usize>
 }
 
 /// The block of the procedure of a name, or the error that the program defines none.
-pub fn block_text(alloc: Global, program: &Program, name: &Name) -> Result<Vec<u8>, AllocError>
-    requires { IsProgram program.now }
-    ensures { IfOk result (λ text. text.items ≡ block_named name.now program.now) }
+pub fn block_text(
+    alloc: Global,
+    known: &mut Knowledge,
+    program: &Arc<Program>,
+    name: &Name,
+) -> Result<Vec<u8>, AllocError>
+    requires formed { IsProgram program.now.value }
+    requires sizes { HasProgramSizes program.now.value }
+    ensures text { IfOk result (λ text. text.items ≡ block_named name.now program.now.value) }
+    ensures worked { OnOk result (is_some (position (is_named name.now) program.now.value.procs) ≡ true → count_reached program.now.value (aim.One name.now) ≤ published known.new) }
+    ensures more { Extends known.old known.new }
 {
     let Some(place) = place_of(program, name) else {
         return error_text(alloc, NO_PROC);
     };
-    let known = known_of(alloc, program)?;
+    let summary = known.summary(alloc, program, name)?;
     block(
         alloc,
         &program.procs[place],
-        &known[place],
+        &summary,
         program.structs.as_slice(),
     )
 }
 
 /// The total line of a program.
-pub fn total_text(alloc: Global, program: &Program) -> Result<Vec<u8>, AllocError>
-    requires { IsProgram program.now }
-    ensures { IfOk result (λ text. text.items ≡ program_total program.now) }
+pub fn total_text(
+    alloc: Global,
+    known: &mut Knowledge,
+    program: &Arc<Program>,
+) -> Result<Vec<u8>, AllocError>
+    requires formed { IsProgram program.now.value }
+    requires sizes { HasProgramSizes program.now.value }
+    ensures text { IfOk result (λ text. text.items ≡ program_total program.now.value) }
+    ensures worked { OnOk result (count_reached program.now.value aim.All ≤ published known.new) }
+    ensures more { Extends known.old known.new }
 {
-    let known = known_of(alloc, program)?;
+    let summaries = known.summaries(alloc, program)?;
     let mut text = Vec::new(alloc);
-    push_total(&mut text, known.as_slice())?;
+    push_total(&mut text, summaries.as_slice())?;
     Ok(text)
 }
 
@@ -126,21 +130,28 @@ pub struct Report {
 }
 
 /// The report on a program.
-pub fn make_report(alloc: Global, program: &Program) -> Result<Report, AllocError>
-    requires { IsProgram program.now }
-    ensures text { IfOk result (λ report. report.text.items ≡ program_report program.now) }
-    ensures missing { IfOk result (λ report. report.missing ≡ program_missing program.now) }
+pub fn make_report(
+    alloc: Global,
+    known: &mut Knowledge,
+    program: &Arc<Program>,
+) -> Result<Report, AllocError>
+    requires formed { IsProgram program.now.value }
+    requires sizes { HasProgramSizes program.now.value }
+    ensures text { IfOk result (λ report. report.text.items ≡ program_report program.now.value) }
+    ensures missing { IfOk result (λ report. report.missing ≡ program_missing program.now.value) }
+    ensures worked { OnOk result (count_reached program.now.value aim.All ≤ published known.new) }
+    ensures more { Extends known.old known.new }
 {
-    let known = known_of(alloc, program)?;
+    let summaries = known.summaries(alloc, program)?;
     let mut text = Vec::new(alloc);
     push_report(
         &mut text,
         program.structs.as_slice(),
         program.procs.as_slice(),
-        known.as_slice(),
+        summaries.as_slice(),
     )?;
     Ok(Report {
         text,
-        missing: count_none(known.as_slice()),
+        missing: count_none(summaries.as_slice()),
     })
 }

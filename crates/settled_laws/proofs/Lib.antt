@@ -1,2 +1,4 @@
 pub mod Settled
 pub mod Whole
+pub mod Aimed
+pub mod Counted

@@ -6,24 +6,22 @@ use Rattle.std.proofs.lemmas.Bool.{lt-ltb, ltb-true}
 use Rattle.shape_data.specs.declared.answer.Answer.{Answer}
 use Rattle.shape_data.specs.declared.answer.Key.{Key}
 use Rattle.component_keys.specs.Keys.{program_components}
-use Rattle.claim_core.specs.Views.{Solution}
 use Rattle.claim_laws.specs.World.{World, Event, Slot, standings}
 use Rattle.claim_laws.specs.Logs.{IsLegal, replay, settled_at}
 use Rattle.summary_book.specs.declared.aims.Aim.TheVariants.{All}
 use Rattle.summary_book.specs.Aims.{aimed}
 use Rattle.summary_book.specs.Next.{IsSettled}
-use Rattle.summary_book.specs.Views.{slot_solution, solution_of}
 use Rattle.summary_book.proofs.Here.{settled_of, some_settled, standings_length, stands_at}
 use Rattle.bottom_up.specs.BottomUp.{Known, answers_in, known_by}
 use Rattle.bottom_up.proofs.Listed.{within_at}
 use Rattle.bottom_up.proofs.Over.{known_many}
-use Rattle.settled_laws.specs.Laws.{AllAreKnown, AreKnown, AreSettled, CollectedAreKnown, IsOnlyAnswer, SettledIsAll, all_slots, known_in}
+use Rattle.settled_laws.specs.Laws.{AllAreKnown, AreKnown, AreSettled, IsOnlyAnswer, SettledIsAll, all_slots, known_in}
 use Rattle.settled_laws.proofs.Settled.{settled_known}
 
 -- ---- lists
 
 -- all that stands in a list from a place on
-taken_from : {X : Type 0} (at : ℕ → Option X) (xs : List X) (from : ℕ) → ((k : ℕ) → k < length xs → at (from + k) ≡ slice_get xs k) →
+pub taken_from : {X : Type 0} (at : ℕ → Option X) (xs : List X) (from : ℕ) → ((k : ℕ) → k < length xs → at (from + k) ≡ slice_get xs k) →
     filter_map at (range_with_len from (length xs)) ≡ xs
 taken_from at [] from same = refl
 taken_from at (x ∷ xs) from same =
@@ -33,7 +31,7 @@ taken_from at (x ∷ xs) from same =
     (λ k lt. let next : (from + 1) + k ≡ from + suc k = omega arith in ap at next ∙ same (suc k) (omega (arith, lt))))
 
 -- all numbers of a row pass
-all_pass : (p : ℕ → Bool) (from count : ℕ) → ((k : ℕ) → k < count → p (from + k) ≡ true) →
+pub all_pass : (p : ℕ → Bool) (from count : ℕ) → ((k : ℕ) → k < count → p (from + k) ≡ true) →
     filter p (range_with_len from count) ≡ range_with_len from count
 all_pass p from zero passes = refl
 all_pass p from (suc count) passes =
@@ -44,7 +42,7 @@ all_pass p from (suc count) passes =
     (λ k lt. let next : (from + 1) + k ≡ from + suc k = omega arith in ap p next ∙ passes (suc k) (omega (arith, lt))))
 
 -- what is made of each that is given
-given_mapped : {X Y Z : Type 0} (f : Y → Z) (at : X → Option Y) (xs : List X) →
+pub given_mapped : {X Y Z : Type 0} (f : Y → Z) (at : X → Option Y) (xs : List X) →
     map f (filter_map at xs) ≡ filter_map (λ x. option_map f (at x)) xs
 given_mapped f at [] = refl
 given_mapped {X = X} {Y = Y} f at (x ∷ xs) = by_option (at x) (given_mapped f at xs)
@@ -54,7 +52,7 @@ given_mapped {X = X} {Y = Y} f at (x ∷ xs) = by_option (at x) (given_mapped f 
     by_option None again = again
     by_option (Some y) again = ap (λ l. f y ∷ l) again
 
-mapped_twice : {X Y Z : Type 0} (f : X → Y) (g : Y → Z) (xs : List X) → map g (map f xs) ≡ map (λ x. g (f x)) xs
+pub mapped_twice : {X Y Z : Type 0} (f : X → Y) (g : Y → Z) (xs : List X) → map g (map f xs) ≡ map (λ x. g (f x)) xs
 mapped_twice f g [] = refl
 mapped_twice f g (x ∷ xs) = ap (λ l. g (f x) ∷ l) (mapped_twice f g xs)
 
@@ -117,9 +115,3 @@ module _ (solves : Key → Answer → Type 0) (answer_of : Key → Answer) (only
 
 pub all_are_known : (solves : Key → Answer → Type 0) → AllAreKnown solves
 all_are_known solves answer_of only log legal settled = are_known solves answer_of only log legal settled
-
-pub collected_are_known : (solves : Key → Answer → Type 0) → CollectedAreKnown solves
-collected_are_known solves answer_of only log legal settled kept same =
-    sym (mapped_twice solution_of (λ (one : Solution). one.answer) kept) ∙ ap (map (λ (one : Solution). one.answer)) same ∙
-    mapped_twice slot_solution (λ (one : Solution). one.answer) (all_slots (replay log)) ∙
-    (are_known solves answer_of only log legal (each_settled (replay log) settled)).answers

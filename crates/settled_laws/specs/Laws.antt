@@ -1,12 +1,15 @@
 -- What is settled is what an analysis from nothing knows.
-use Rattle.std.specs.Prelude.{◌≡◌, ◌↔◌, ℕ, ◌<◌, true, List, map, length, slice_get, is_some}
+use Rattle.std.specs.Prelude.{◌≡◌, ◌↔◌, ℕ, ◌<◌, ◌≤◌, true, List, map, length, slice_get, is_some}
+use Rattle.std.specs.List.{count_by, filter, filter_map, range_with_len}
 use Rattle.std.specs.declared.option.Option.TheVariants.{Some}
 use Rattle.shape_data.specs.declared.answer.Answer.{Answer}
 use Rattle.shape_data.specs.declared.answer.Kept.{Kept}
 use Rattle.shape_data.specs.declared.answer.Key.{Key}
+use Rattle.shape_data.specs.declared.program.Program.{Program}
 use Rattle.component_keys.specs.Keys.{program_components}
 use Rattle.claim_laws.specs.World.{World, Event, Slot}
-use Rattle.claim_laws.specs.Logs.{replay, IsLegal, settled_at}
+use Rattle.claim_laws.specs.Logs.{replay, IsLegal, published, settled_at}
+use Rattle.summary_book.specs.declared.aims.Aim.{Aim}
 use Rattle.summary_book.specs.declared.aims.Aim.TheVariants.{All}
 use Rattle.summary_book.specs.Aims.{aimed}
 use Rattle.summary_book.specs.Next.{IsSettled, slots_by}
@@ -50,10 +53,25 @@ AllAreKnown solves =
     (answer_of : Key → Answer) → IsOnlyAnswer solves answer_of → (log : List Event) → IsLegal solves log → AreSettled (replay log) →
     AreKnown answer_of (replay log)
 
--- so has what is collected of all components
+-- the answers of the components that an aim reaches, callees first, where the program is analysed from nothing
+abbrev pub aimed_answers : (Key → Answer) → Program → Aim → List Answer
+aimed_answers answer_of program aim =
+    filter_map (slice_get (answers_in (known_by answer_of program))) (filter (aimed program aim) (range_with_len 0 (length (program_components program))))
+
+-- where the components that an aim reaches are settled, what is collected of them has these answers
 abbrev pub CollectedAreKnown : (Key → Answer → Type 0) → Type 0
 CollectedAreKnown solves =
-    (answer_of : Key → Answer) → IsOnlyAnswer solves answer_of → (log : List Event) → IsLegal solves log →
-    IsSettled (replay log) (aimed (replay log).program All) →
-    (kept : List Kept) → map solution_of kept ≡ map slot_solution (all_slots (replay log)) →
-    map (λ (one : Kept). one.answer.value) kept ≡ answers_in (known_by answer_of (replay log).program)
+    (answer_of : Key → Answer) → IsOnlyAnswer solves answer_of → (log : List Event) → IsLegal solves log → (aim : Aim) →
+    IsSettled (replay log) (aimed (replay log).program aim) →
+    (kept : List Kept) → map solution_of kept ≡ map slot_solution (slots_by (replay log) (aimed (replay log).program aim)) →
+    map (λ (one : Kept). one.answer.value) kept ≡ aimed_answers answer_of (replay log).program aim
+
+-- the aim at all has all of them
+abbrev pub AllAreAimed : Type 0
+AllAreAimed = (answer_of : Key → Answer) (program : Program) → aimed_answers answer_of program All ≡ answers_in (known_by answer_of program)
+
+-- where the components that an aim reaches are settled, as many answers were published at least
+abbrev pub SettledWerePublished : Type 0
+SettledWerePublished =
+    (log : List Event) (aim : Aim) → IsSettled (replay log) (aimed (replay log).program aim) →
+    count_by (aimed (replay log).program aim) (range_with_len 0 (length (program_components (replay log).program))) ≤ published log

@@ -2,13 +2,13 @@
 #![tactic(auto)]
 
 #[cfg(test)]
-mod bottom_up_tests;
-#[cfg(test)]
 mod comp_solve_tests;
 #[cfg(test)]
 mod post_gen_tests;
 #[cfg(test)]
 mod pre_gen_tests;
+#[cfg(test)]
+mod session_replies_tests;
 #[cfg(test)]
 mod solve_job_tests;
 #[cfg(test)]

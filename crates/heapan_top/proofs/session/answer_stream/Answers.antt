@@ -1,33 +1,15 @@
--- Each command leads on, or answers the session.
-use Rattle.std.proofs.Common.{◌≤◌, arith}
-use Rattle.session_lines.specs.Reading.{stream_left}
-use Rattle.heapan_top.specs.Parts.{course_of}
-use Rattle.heapan_top.proofs.CourseLaws.{all_answered, reads_source, reads_through, under_way}
+-- What was done is what the session's log tells.
+use Rattle.std.proofs.Common.{◌∙◌, ap, subst, sym}
+use Rattle.std.specs.Prelude.{IfSome}
+use Rattle.claim_laws.specs.Logs.{published}
+use Rattle.heapan_top.specs.Work.{AppendsCounted}
+use Rattle.heapan_top.proofs.WorkLaws.{none_appended}
 use Rattle.heapan_top.proofs.session.answer_stream.Goals as goal
 
-pub returns-in-Some-clause-answers : goal.returns-in-Some-clause-answers
-returns-in-Some-clause-answers g c =
-    all_answered c.one_reply.ensures c.some_reply.ensures (g.S.Source.left c.args.source.now) (stream_left c.loop-status.commands (g.S.Source.left c.loop-status.source))
-    (stream_left c.turn.new.commands (g.S.Source.left c.turn.new.source)) (g.K.Sink.held c.args.sink.now) (g.K.Sink.held c.loop-status.sink) (g.K.Sink.held c.turn.new.sink)
-    (course_of c.loop-status.commands c.loop-status.session) (course_of c.turn.new.commands c.turn.new.session) c.turn.result c.in-Some.status c.in-Some.is c.loop-status.invariant.under_way c.turn.ensures.turn
+pub returns-in_default-clause-counted : goal.returns-in_default-clause-counted
+returns-in_default-clause-counted g c = none_appended (g.S.Source.left c.args.source.now) (g.K.Sink.held c.args.sink.now) c.outcome.result.solves
 
-pub returns-in-Some-clause-reads : goal.returns-in-Some-clause-reads
-returns-in-Some-clause-reads g c =
-    let told = g.S.Source.left c.args.source.now in
-    let left = g.S.Source.left c.turn.new.source in
-    reads_source told left c.turn.new.commands.ahead
-    (reads_through told (stream_left c.loop-status.commands (g.S.Source.left c.loop-status.source)) (stream_left c.turn.new.commands left) c.loop-status.invariant.reads c.turn.ensures.reads)
-
-pub loop-status-preserved : goal.loop-status-preserved
-loop-status-preserved g c =
-    let told = g.S.Source.left c.args.source.now in
-    let before = stream_left c.loop-status.commands (g.S.Source.left c.loop-status.source) in
-    let after = stream_left c.turn.new.commands (g.S.Source.left c.turn.new.source) in
-    record {
-      under_way =
-          under_way c.one_reply.ensures c.some_reply.ensures told before after (g.K.Sink.held c.args.sink.now) (g.K.Sink.held c.loop-status.sink) (g.K.Sink.held c.turn.new.sink)
-          (course_of c.loop-status.commands c.loop-status.session) (course_of c.turn.new.commands c.turn.new.session) c.turn.result c.in_default.is c.loop-status.invariant.under_way c.turn.ensures.turn;
-      reads = reads_through told before after c.loop-status.invariant.reads c.turn.ensures.reads;
-      reads_never_fall = let one = c.loop-status.invariant.reads_never_fall in let two = c.turn.ensures.reads_never_fall in omega arith;
-      writes_never_fall = let one = c.loop-status.invariant.writes_never_fall in let two = c.turn.ensures.writes_never_fall in omega arith;
-    }
+pub returns-clause-counted : goal.returns-clause-counted
+returns-clause-counted g c =
+    subst (λ solves. IfSome (g.S.Source.left c.args.source.now) (λ stream. AppendsCounted stream (g.K.Sink.held c.args.sink.now) (g.K.Sink.held c.answer_commands-status.new.sink) solves))
+    (sym (c.outcome-2.ensures.solves ∙ ap published c.into_log.ensures.events)) c.answer_commands-status.ensures.work

@@ -1,0 +1,79 @@
+//! The summaries of a program's procedures from answers that are at hand, one for each component, callees first.
+ghost use Rattle.std.specs.Prelude.{◌≡◌, All, IfOk, IsSome};
+ghost use Rattle.std.specs.List.{filter_map, find};
+ghost use Rattle.std.specs.Option.{option_copied};
+ghost use Rattle.std.specs.Str.{bytes_eq};
+ghost use Rattle.bottom_up.specs.BottomUp.{answers_in, bottom_up, program_summaries};
+ghost use Rattle.bottom_up.specs.Placed.{answers_kept, summary_among, summary_in};
+ghost use Rattle.shape_data.specs.WellFormed.{IsProgram};
+
+use crate::places::{Place, places_of};
+use composed_keys::components_of;
+use shape_data::answer::{Answer, Kept, ProcSummary};
+use shape_data::program::Program;
+use shape_data::{Name, Row, copy_of};
+use solve_laws::laws::solved_is_well_formed;
+use std::alloc::{AllocError, Global};
+
+/// The summary at a place.
+fn kept_summary<'a>(kept: &'a [Kept], place: &Place) -> &'a ProcSummary
+    requires { IsSome (summary_in (answers_kept kept.now) place.now) }
+    ensures { summary_in (answers_kept kept.now) place.now ≡ Some result.now }
+{
+    &kept[place.component].answer.procs[place.member]
+}
+
+/// The summaries at these places.
+fn kept_summaries(
+    alloc: Global,
+    kept: &[Kept],
+    places: &[Place],
+) -> Result<Row<ProcSummary>, AllocError>
+    requires { All (λ place. IsSome (summary_in (answers_kept kept.now) place)) places.now }
+    ensures { IfOk result (λ made. made ≡ filter_map (summary_in (answers_kept kept.now)) places.now) }
+{
+    let mut made = Row::new(alloc);
+    for place in places {
+        made.push(copy_of(kept_summary(kept, place))?)?;
+    }
+    Ok(made)
+}
+
+/// The summaries of a program's procedures, in their order, where the answers are those of an analysis from nothing.
+pub fn summaries_of(
+    alloc: Global,
+    program: &Program,
+    kept: &[Kept],
+) -> Result<Row<ProcSummary>, AllocError>
+    requires program { IsProgram program.now }
+    requires answers { answers_kept kept.now ≡ answers_in (bottom_up program.now) }
+    ensures { IfOk result (λ made. made ≡ program_summaries program.now) }
+{
+    solved_is_well_formed();
+    let rows = components_of(alloc, program)?;
+    let places = places_of(alloc, program.procs.len(), &rows)?;
+    kept_summaries(alloc, kept, &places)
+}
+
+/// The summary of the name in an answer.
+fn summary_named<'a>(answer: &'a Answer, name: &Name) -> Option<&'a ProcSummary>
+    ensures { option_copied result ≡ find (λ summary. bytes_eq summary.name name.now) answer.now.procs }
+{
+    answer
+        .procs
+        .as_slice()
+        .iter()
+        .find(|summary| summary.name == *name)
+}
+
+/// The first summary of the name among these answers.
+pub fn summary_of(kept: &[Kept], name: &Name) -> Result<Option<ProcSummary>, AllocError>
+    ensures { IfOk result (λ found. found ≡ summary_among (answers_kept kept.now) name.now) }
+{
+    for one in kept {
+        if let Some(found) = summary_named(&one.answer, name) {
+            return Ok(Some(copy_of(found)?));
+        }
+    }
+    Ok(None)
+}

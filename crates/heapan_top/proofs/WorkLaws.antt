@@ -1,0 +1,237 @@
+-- How much was done for the replies that were written whole.
+use Rattle.std.proofs.Common.{◌≡◌, ◌≢◌, ℕ, ◌+◌, ◌-◌, ◌≤◌, List, [], ◌∷◌, ◌++◌, inl, inr, Option, Some, None, length, min, take, refl, sym, ap, ◌∙◌, subst, append_assoc, length-append, arith}
+use Rattle.std.specs.Prelude.{IfSome}
+use Rattle.std.proofs.lemmas.List.{append_cancel_left, length-take}
+use Rattle.io_ports.specs.Bytes.{after_held}
+use Rattle.claim_laws.specs.Logs.{published}
+use Rattle.claim_laws.specs.World.{Event}
+use Rattle.summary_book.specs.declared.aims.Aim.{Aim}
+use Rattle.shape_data.specs.declared.program.Program.{Program}
+use Rattle.session_lines.specs.declared.command.Command.{Command}
+use Rattle.session_lines.specs.declared.command.Command.TheVariants as command
+use Rattle.session_lines.specs.Laws.{OneFirst}
+use Rattle.session_lines.specs.Lines.{IsFirst}
+use Rattle.session_lines.specs.Reading.{IsMalformed, IsTaken, Reading}
+use Rattle.session_replies.specs.Answers.{Answers, Present}
+use Rattle.session_replies.specs.Laws.{OneAnswer}
+use Rattle.session_replies.specs.Work.{Extends, IsWorked, Tells, count_reached}
+use Rattle.session_replies.proofs.Working.{grown}
+use Rattle.heapan_top.specs.declared.status.Status.{Status}
+use Rattle.heapan_top.specs.Headline.{Appends}
+use Rattle.heapan_top.specs.Parts.{Ends, EndsCounted, GoesOn, IsAt, IsDone, IsReplyWork, IsWork, course_of}
+use Rattle.heapan_top.specs.Replies.{Course, beginning, one_behind}
+use Rattle.heapan_top.specs.Work.{AppendsCounted, AreCounted, Prints}
+use Rattle.heapan_top.proofs.CourseLaws.{held-append, held-nil}
+
+-- ---- nothing was written
+
+not_joined : (xs ys : List ℕ) → ys ≢ [] → xs ++ ys ≢ []
+not_joined [] ys some is = some is
+not_joined (x ∷ xs) ys some is = cc
+
+-- what tells of components has a byte
+not_empty : (course : Course) (stream text : List ℕ) (count : ℕ) → Prints course stream text count → text ≢ []
+not_empty _ _ _ _ (Prints.here course stream rest asked text after program aim few first answers some tells) = some
+not_empty _ _ _ _ (Prints.behind course stream rest asked text more after count few first answers prints) =
+    not_joined text more (not_empty (one_behind course (length stream - length rest) after) rest more count prints)
+
+nothing_before : (text more : List ℕ) → [] ≡ text ++ more → text ≡ []
+nothing_before [] more is = refl
+nothing_before (x ∷ text) more is = cc
+
+pub none_counted : (course : Course) (stream : List ℕ) (solves : ℕ) → AreCounted course stream [] solves
+none_counted course stream solves text count prints (more, is) = absurd (not_empty course stream text count prints (nothing_before text more is))
+
+pub nothing_counted : (course : Course) (stream : List ℕ) (held : Option (List ℕ)) (log : List Event) → EndsCounted course stream held held log
+nothing_counted course stream held log = ([], sym (held-nil held), λ solves enough. none_counted course stream solves)
+
+-- so it is from the beginning
+pub none_appended : (told held : Option (List ℕ)) (solves : ℕ) → IfSome told (λ stream. AppendsCounted stream held held solves)
+none_appended None held solves = tt
+none_appended (Some stream) held solves = ([], sym (held-nil held), none_counted beginning stream solves)
+
+-- of a stream that is told, or not
+pub nothing_told : (told held : Option (List ℕ)) (course : Course) (log : List Event) → IfSome told (λ stream. EndsCounted course stream held held log)
+nothing_told None held course log = tt
+nothing_told (Some stream) held course log = nothing_counted course stream held log
+
+-- ---- a line that refuses
+
+refusal_written : (old new : Option (List ℕ)) (line : List ℕ) (planned ended : Status) → Ends old new line planned ended → (written : List ℕ) × Appends old new written
+refusal_written old new line planned ended (inl (is, all)) = (line, all)
+refusal_written old new line planned ended (inr (cut, (count, some))) = (take count line, some)
+
+-- no command stands first that is answered
+abbrev AnswersNone : List ℕ → Type 0
+AnswersNone stream = (asked : Command) (rest text : List ℕ) (present after : Present) → IsFirst stream asked rest → Answers present asked text after → ⊥
+
+refusal_counted : (course : Course) (stream written : List ℕ) (solves : ℕ) → AnswersNone stream → AreCounted course stream written solves
+refusal_counted course stream written solves none _ _ (Prints.here _ _ rest asked text after program aim few first answers some tells) begins =
+    absurd (none asked rest text course.present after first answers)
+refusal_counted course stream written solves none _ _ (Prints.behind _ _ rest asked text more after count few first answers prints) begins =
+    absurd (none asked rest text course.present after first answers)
+
+line_counted : (course : Course) (stream line : List ℕ) (old new : Option (List ℕ)) (log : List Event) (planned ended : Status) → AnswersNone stream → Ends old new line planned ended →
+    EndsCounted course stream old new log
+line_counted course stream line old new log planned ended none ends =
+    let own = refusal_written old new line planned ended ends in
+    (own.0, own.1, λ solves enough. refusal_counted course stream own.0 solves none)
+
+pub breaks_counted : (told old new : Option (List ℕ)) (reading : Reading) (present : Present) (log : List Event) (number offset : ℕ) (line : List ℕ) (planned ended : Status) →
+    IfSome told (λ stream. IsMalformed reading stream number offset) → Ends old new line planned ended → IfSome told (λ stream. EndsCounted (course_of reading present) stream old new log)
+breaks_counted None old new reading present log number offset line planned ended malformed ends = tt
+breaks_counted (Some stream) old new reading present log number offset line planned ended malformed ends =
+    line_counted (course_of reading present) stream line old new log planned ended (λ asked rest text before after first answers. malformed.none asked rest first) ends
+
+module _ (one_first : OneFirst) where
+  pub saves_counted : (course : Course) (stream rest line : List ℕ) (asked : Command) (old new : Option (List ℕ)) (log : List Event) (planned ended : Status) → IsFirst stream asked rest → asked ≡ command.Save →
+      Ends old new line planned ended → EndsCounted course stream old new log
+  saves_counted course stream rest line asked old new log planned ended first is ends =
+      line_counted course stream line old new log planned ended
+      (λ other later text before after first' answers.
+      let same = one_first stream later rest other asked first' first in
+      never text before after (subst (λ one. Answers before one text after) (same.0 ∙ is) answers)) ends
+    where
+      never : (text : List ℕ) (before after : Present) → Answers before command.Save text after → ⊥
+      never text before after answers = elim answers [ ]
+
+  module _ (one_answer : OneAnswer) (course : Course) (stream rest : List ℕ) (asked : Command) (first : IsFirst stream asked rest) (text : List ℕ) (after : Present)
+      (answers : Answers course.present asked text after) (log : List Event) (worked : IsWorked course.present asked log) (solves : ℕ) (enough : published log ≤ solves) where
+    -- the first command and its answer are these
+    record IsSame (rest' : List ℕ) (asked' : Command) (text' : List ℕ) (after' : Present) : Type 0 where
+      asked_is : asked' ≡ asked
+      rest_is : rest' ≡ rest
+      text_is : text' ≡ text
+      after_is : after' ≡ after
+
+    same : (rest' : List ℕ) (asked' : Command) (text' : List ℕ) (after' : Present) → IsFirst stream asked' rest' → Answers course.present asked' text' after' → IsSame rest' asked' text' after'
+    same rest' asked' text' after' first' answers' =
+        let one = one_first stream rest' rest asked' asked first' first in
+        let so : Answers course.present asked text' after' = subst (λ other. Answers course.present other text' after') one.0 answers' in
+        let two = one_answer course.present after' after asked text' text so answers in
+        record { asked_is = one.0; rest_is = one.1; text_is = two.0; after_is = two.1 }
+
+    told : (asked' : Command) (program : Program) (aim : Aim) → asked' ≡ asked → Tells course.present asked' program aim → count_reached program aim ≤ solves
+    told asked' program aim is tells =
+        let own = worked program aim (subst (λ other. Tells course.present other program aim) is tells) in
+        omega (arith, own, enough)
+
+    -- the reply was written whole, and more
+    pub reply_counted : (written : List ℕ) → AreCounted (one_behind course (length stream - length rest) after) rest written solves → AreCounted course stream (text ++ written) solves
+    reply_counted written again _ _ (Prints.here _ _ rest' asked' text' after' program aim few first' answers' some tells) begins =
+        told asked' program aim (same rest' asked' text' after' first' answers').asked_is tells
+    reply_counted written again _ _ (Prints.behind _ _ rest' asked' text' more after' count few first' answers' prints) (others, is) =
+        let own = same rest' asked' text' after' first' answers' in
+        let left : written ≡ more ++ others =
+        append_cancel_left text written (more ++ others)
+        (is ∙ append_assoc text' more others ∙ ap (λ t. t ++ (more ++ others)) own.text_is) in
+        let there : Prints (one_behind course (length stream - length rest) after) rest more count =
+        subst (λ (later : Present). Prints (one_behind course (length stream - length rest) later) rest more count) own.after_is
+        (subst (λ r. Prints (one_behind course (length stream - length r) after') r more count) own.rest_is prints) in
+        again more count there (others, left)
+
+    -- a front of it was written
+    pub front_counted : (size : ℕ) → AreCounted course stream (take size text) solves
+    front_counted size _ _ (Prints.here _ _ rest' asked' text' after' program aim few first' answers' some tells) begins =
+        told asked' program aim (same rest' asked' text' after' first' answers').asked_is tells
+    front_counted size _ _ (Prints.behind _ _ rest' asked' text' more after' count few first' answers' prints) (others, is) =
+        let own = same rest' asked' text' after' first' answers' in
+        let some = not_empty (one_behind course (length stream - length rest') after') rest' more count prints in
+        let longer : length (take size text) ≡ (length text' + length more) + length others =
+        ap length is ∙ length-append (text' ++ more) others ∙ ap (λ n. n + length others) (length-append text' more) in
+        let alike : length text' ≡ length text = ap length own.text_is in
+        let short : length (take size text) ≡ min size (length text) = length-take size text in
+        by_more more some (length text') (length others) (length text) (length (take size text)) longer alike short
+      where
+        by_more : (xs : List ℕ) → xs ≢ [] → (front behind whole cut : ℕ) → cut ≡ (front + length xs) + behind → front ≡ whole → cut ≡ min size whole → {A : Type 0} → A
+        by_more [] some front behind whole cut longer alike short = absurd (some refl)
+        by_more (x ∷ xs) some front behind whole cut longer alike short = absurd (omega (arith, longer, alike, short))
+
+-- ---- a command
+
+module _ (one_first : OneFirst) (one_answer : OneAnswer) where
+  replied_work : (course : Course) (stream rest : List ℕ) (asked : Command) (after : Present) (old new : Option (List ℕ)) (log : List Event) (result : Option Status) → IsFirst stream asked rest →
+      IsReplyWork course.present asked old after new log result → IsWork course stream old (one_behind course (length stream - length rest) after) (Some rest) new log result
+  replied_work course stream rest asked after old new log None first (text, answers, all, worked) = record {
+    text = text;
+    rest = rest;
+    is_left = refl;
+    appends = all;
+    carries = λ written solves enough again. reply_counted one_first one_answer course stream rest asked first text after answers log worked solves enough written again;
+  }
+  replied_work course stream rest asked after old new log (Some ended) first (inl is) =
+      subst (λ held. EndsCounted course stream old held log) (sym is) (nothing_counted course stream old log)
+  replied_work course stream rest asked after old new log (Some ended) first (inr (text, later, answers, (size, some), worked)) =
+      (take size text, some, λ solves enough. front_counted one_first one_answer course stream rest asked first text later answers log worked solves enough size)
+
+  pub turned_work : (course : Course) (present : Present) (number offset : ℕ) (stream rest : List ℕ) (asked : Command) (after : Present) (old new : Option (List ℕ)) (log : List Event) (result : Option Status) →
+      IsAt course present number offset → IsFirst stream asked rest → IsReplyWork present asked old after new log result →
+      IsWork course stream old (one_behind course (length stream - length rest) after) (Some rest) new log result
+  turned_work course present number offset stream rest asked after old new log result at first work =
+      replied_work course stream rest asked after old new log result first (subst (λ (p : Present). IsReplyWork p asked old after new log result) (sym at.present_is) work)
+
+-- what follows a command, for any course and stream
+abbrev pub FollowsWork : Present → Command → ℕ → ℕ → Option (List ℕ) → Present → Option (List ℕ) → List Event → Option Status → Type 0
+FollowsWork present asked number offset old after new log result =
+    (course : Course) (stream rest : List ℕ) → IsAt course present number offset → IsFirst stream asked rest →
+    IsWork course stream old (one_behind course (length stream - length rest) after) (Some rest) new log result
+
+-- a command was taken, and followed
+pub takes_work : (told left old new : Option (List ℕ)) (reading later : Reading) (present after : Present) (asked : Command) (number offset : ℕ) (log : List Event) (result : Option Status) →
+    number ≡ reading.taken + 1 → offset ≡ reading.offset → IfSome told (λ stream. IsTaken reading later stream left asked) → FollowsWork present asked number offset old after new log result →
+    IfSome told (λ stream. IsWork (course_of reading present) stream old (course_of later after) left new log result)
+takes_work None left old new reading later present after asked number offset log result is_number is_offset taken follows = tt
+takes_work (Some stream) left old new reading later present after asked number offset log result is_number is_offset taken follows =
+    let work = follows (course_of reading present) stream taken.rest (record { present_is = refl; number_is = is_number; offset_is = is_offset; few = taken.counted.few }) taken.first in
+    let same : one_behind (course_of reading present) (length stream - length taken.rest) after ≡ course_of later after =
+    ap (λ n. record { taken = n; offset = reading.offset + (length stream - length taken.rest); present = after }) (sym taken.counted.taken) ∙ ap (λ o. record { taken = later.taken; offset = o; present = after }) (sym taken.counted.offset) in
+    subst (λ (o : Option (List ℕ)). IsWork (course_of reading present) stream old (course_of later after) o new log result) (sym taken.is_left)
+    (subst (λ (course : Course). IsWork (course_of reading present) stream old course (Some taken.rest) new log result) same work)
+
+-- ---- one after another
+
+-- nothing was done
+pub none_done : (told held : Option (List ℕ)) (log : List Event) → IsDone told held beginning told held log
+none_done None held log = tt
+none_done (Some stream) held log = record {
+  text = [];
+  rest = stream;
+  is_left = refl;
+  appends = sym (held-nil held);
+  carries = λ written solves enough counted. counted;
+}
+
+module _ (before log : List Event) (more : Extends before log) where
+  fewer : (solves : ℕ) → published log ≤ solves → published before ≤ solves
+  fewer solves enough = let less = grown before log more in omega (arith, less, enough)
+
+  work_behind : (course mid after : Course) (stream : List ℕ) (old between new : Option (List ℕ)) (left left' : Option (List ℕ)) → GoesOn course stream old mid left between before →
+      IfSome left (λ rest. GoesOn mid rest between after left' new log) → GoesOn course stream old after left' new log
+  work_behind course mid after stream old between new left left' one two =
+      let other : GoesOn mid one.rest between after left' new log = subst (λ (o : Option (List ℕ)). IfSome o (λ rest. GoesOn mid rest between after left' new log)) one.is_left two in
+      record {
+        text = one.text ++ other.text;
+        rest = other.rest;
+        is_left = other.is_left;
+        appends = other.appends ∙ ap (λ held. after_held held other.text) one.appends ∙ held-append old one.text other.text;
+        carries = λ written solves enough counted.
+            subst (λ whole. AreCounted course stream whole solves) (sym (append_assoc one.text other.text written))
+            (one.carries (other.text ++ written) solves (fewer solves enough) (other.carries written solves enough counted));
+      }
+
+  pub done_more : (told left left' old between new : Option (List ℕ)) (mid after : Course) (result : Option Status) → result ≡ None → IsDone told old mid left between before →
+      IfSome left (λ rest. IsWork mid rest between after left' new log result) → IsDone told old after left' new log
+  done_more None left left' old between new mid after result is done work = tt
+  done_more (Some stream) left left' old between new mid after result is done work =
+      work_behind beginning mid after stream old between new left left' done (subst (λ (r : Option Status). IfSome left (λ rest. IsWork mid rest between after left' new log r)) is work)
+
+  pub all_done : (told left left' old between new : Option (List ℕ)) (mid after : Course) (result : Option Status) (ended : Status) → result ≡ Some ended → IsDone told old mid left between before →
+      IfSome left (λ rest. IsWork mid rest between after left' new log result) → IfSome told (λ stream. AppendsCounted stream old new (published log))
+  all_done None left left' old between new mid after result ended is done work = tt
+  all_done (Some stream) left left' old between new mid after result ended is done work =
+      let ends : IfSome left (λ rest. EndsCounted mid rest between new log) = subst (λ (r : Option Status). IfSome left (λ rest. IsWork mid rest between after left' new log r)) is work in
+      let own : EndsCounted mid done.rest between new log = subst (λ (o : Option (List ℕ)). IfSome o (λ rest. EndsCounted mid rest between new log)) done.is_left ends in (
+        done.text ++ own.0,
+        own.1 ∙ ap (λ held. after_held held own.0) done.appends ∙ held-append old done.text own.0,
+        done.carries own.0 (published log) (let less = grown before log more in less) (own.2 (published log) (omega arith)),
+      )

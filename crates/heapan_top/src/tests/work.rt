@@ -1,0 +1,30 @@
+//! Streams, and what is done for their replies: `R` where another program is present, `C` where a component is claimed, `P` where it is
+//! answered. A comment changes no component, and where a callee is changed but its specs stay, its caller is not solved again. What is
+//! shown has its own component solved, and those that it calls.
+
+const PEEK_THRICE: (&[u8], &[u8]) = (
+    b"put a.c 134\nstruct node { int data; struct node *next; };\nint get(struct node *x) { return x->data; }\nint peek(struct node *x) { return get(x); }\nreport\nput a.c 142\nstruct node { int data; struct node *next; };\nint get(struct node *x) { /* c */ return x->data; }\nint peek(struct node *x) { return get(x); }\nreport\nput a.c 145\nstruct node { int data; struct node *next; };\nint get(struct node *x) { int d = x->data; return d; }\nint peek(struct node *x) { return get(x); }\nreport\n",
+    b"RCPCPRCP",
+);
+
+const STARTED: (&[u8], &[u8]) = (
+    b"put a.c 134\nstruct node { int data; struct node *next; };\nint get(struct node *x) { return x->data; }\nint peek(struct node *x) { return get(x); }\nstart\n",
+    b"R",
+);
+
+const SHOWN: (&[u8], &[u8]) = (
+    b"put a.c 134\nstruct node { int data; struct node *next; };\nint get(struct node *x) { return x->data; }\nint peek(struct node *x) { return get(x); }\nshow get\n",
+    b"RCP",
+);
+
+const SHOWN_TWICE: (&[u8], &[u8]) = (
+    b"put a.c 134\nstruct node { int data; struct node *next; };\nint get(struct node *x) { return x->data; }\nint peek(struct node *x) { return get(x); }\nshow get\nshow peek\nshow get\n",
+    b"RCPCP",
+);
+
+const NONE_SHOWN: (&[u8], &[u8]) = (
+    b"put a.c 134\nstruct node { int data; struct node *next; };\nint get(struct node *x) { return x->data; }\nint peek(struct node *x) { return get(x); }\nshow gone\n",
+    b"",
+);
+
+pub const WORK: [(&[u8], &[u8]); 5] = [PEEK_THRICE, STARTED, SHOWN, SHOWN_TWICE, NONE_SHOWN];

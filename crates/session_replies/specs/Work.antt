@@ -1,0 +1,42 @@
+-- What a session did for its replies: which components were claimed and answered.
+use Rattle.std.specs.Prelude.{◌≡◌, ℕ, true, ◌≤◌, List, ◌++◌, None, Ok, is_some, length}
+use Rattle.std.specs.List.{count_by, position, range_with_len}
+use Rattle.shape_data.specs.declared.program.Program.{Program}
+use Rattle.component_keys.specs.Keys.{program_components}
+use Rattle.claim_laws.specs.Logs.{published}
+use Rattle.claim_laws.specs.World.{Event}
+use Rattle.summary_book.specs.declared.aims.Aim.{Aim}
+use Rattle.summary_book.specs.declared.aims.Aim.TheVariants.{All, One}
+use Rattle.summary_book.specs.Aims.{aimed}
+use Rattle.session_generator.specs.Generated.{generated}
+use Rattle.session_lines.specs.declared.command.Command.{Command}
+use Rattle.session_lines.specs.declared.command.Command.TheVariants as command
+use Rattle.project_form.specs.Files.{put_refusal, with_file}
+use Rattle.project_form.specs.Reads.{Reads}
+use Rattle.session_replies.specs.Answers.{GENERATED, Present}
+use Rattle.session_replies.specs.Texts.{is_named}
+
+-- what is present, and all claims of components and their ends, in order
+pub record Contents : Type 0 where
+  pub present : Present
+  pub log : List Event
+
+-- more was done
+abbrev pub Extends : List Event → List Event → Type 0
+Extends before after = (more : List Event) × (after ≡ before ++ more)
+
+-- how many components an aim reaches
+abbrev pub count_reached : Program → Aim → ℕ
+count_reached program aim = count_by (aimed program aim) (range_with_len 0 (length (program_components program)))
+
+-- the reply to the command tells of a program, of the components that this aim reaches
+abbrev pub Tells : Present → Command → Program → Aim → Type 0
+Tells present (command.Show name) program aim = (aim ≡ One name) × Reads present.files (Ok program) × (is_some (position (is_named name) program.procs) ≡ true)
+Tells present command.Report program aim = (aim ≡ All) × Reads present.files (Ok program)
+Tells present (command.Gen n) program aim =
+    (aim ≡ All) × (put_refusal GENERATED (generated n) present.files ≡ None) × Reads (with_file GENERATED (generated n) present.files) (Ok program)
+Tells present _ program aim = ⊥
+
+-- where the reply to the command tells of components, at least so many answers were published
+abbrev pub IsWorked : Present → Command → List Event → Type 0
+IsWorked present asked log = (program : Program) (aim : Aim) → Tells present asked program aim → count_reached program aim ≤ published log
