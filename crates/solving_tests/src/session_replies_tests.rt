@@ -133,13 +133,13 @@ fn structs(alloc: Global) -> Result<Row<StructDef>, AllocError> {
     Ok(structs)
 }
 
-/// The summaries stand in the order of the procedures; each has one spec, and both have the same. So many components are solved, once
-/// though they are asked for twice.
+/// The summaries stand in the order of the procedures; each has one spec, and both have the same. So many events are the work for
+/// them, though they are asked for twice: a revision, and a claim and its answer for each component.
 fn have_one_spec(
     rt: &impl Abort,
     alloc: Global,
     program: Program,
-    components: usize,
+    events: usize,
 ) -> Result<(), Fail> {
     assert!(rt; well_formed_program(&program));
     assert!(rt; has_program_sizes(&program));
@@ -148,7 +148,7 @@ fn have_one_spec(
     let first = known.summaries(alloc, &program)?;
     let made = known.summaries(alloc, &program)?;
     assert!(rt; first == made);
-    assert_eq!(rt; known.into_log().len(), 1 + 2 * components);
+    assert_eq!(rt; known.into_log().len(), events);
     assert_eq!(rt; made.len(), 2);
     assert_eq!(rt; program.procs.len(), 2);
     assert!(rt; made[0].name == program.procs[0].flow.name);
@@ -173,7 +173,7 @@ fn a_caller_has_the_spec_of_its_callee(rt: HostRuntime) -> Result<(), Fail> {
     for (one, other) in [(b'f', b'g'), (b'h', b'g'), (b'g', b'h')] {
         let first = reading(alloc, one)?;
         let second = reading(alloc, other)?;
-        have_one_spec(&rt, alloc, pair(alloc, first, second)?, 2)?;
+        have_one_spec(&rt, alloc, pair(alloc, first, second)?, 5)?;
     }
     Ok(())
 }
@@ -183,5 +183,5 @@ fn procedures_that_call_each_other_are_solved_together(rt: HostRuntime) -> Resul
     let alloc = rt.alloc();
     let first = proc(alloc, b'f', Ty::Int, counting(alloc, b'g')?)?;
     let second = proc(alloc, b'g', Ty::Int, counting(alloc, b'f')?)?;
-    have_one_spec(&rt, alloc, pair(alloc, first, second)?, 1)
+    have_one_spec(&rt, alloc, pair(alloc, first, second)?, 3)
 }
