@@ -1,0 +1,295 @@
+//! A job, programs, gates and a leader to try the pool with.
+ghost use Rattle.std.specs.Prelude.{◌≡◌, ◌≤◌, IfOk, vec_len};
+
+use claim_core::{Job, Meaning, Solved, Tally, has_program_sizes};
+use shape_data::answer::{Answer, Kept, Key, ProcSummary, Reason};
+use shape_data::program::{Cmd, Flow, Node, Operand, Proc, Program, Ty};
+use shape_data::symbolic::{Cert, Spec, SymState};
+use shape_data::{Name, Row, well_formed_answer, well_formed_program};
+use std::alloc::{AllocError, Global};
+use std::sync::atomic::{AtomicU64, Ordering};
+use std::sync::ledger::Ledger;
+use std::sync::{Arc, Wait};
+use std::thread;
+use summary_book::Aim;
+use worker_pool::desk::Desk;
+use worker_pool::gate::Gate;
+use worker_pool::pool::Leader;
+use worker_pool::shares::Hands;
+
+/// A job that answers every key with no specs, but wants memory once, at its solve of this number.
+#[derive(Drop)]
+pub struct Toy {
+    wants_at: u64,
+    solved: AtomicU64,
+}
+
+impl Toy {
+    /// A job that wants memory at its solve of this number, from 1 on; at none for 0.
+    pub fn new(wants_at: u64) -> Self {
+        Toy {
+            wants_at,
+            solved: AtomicU64::new(0),
+        }
+    }
+}
+
+impl Meaning for Toy {
+    ghost use Rattle.std.specs.Prelude.{◌≡◌, false};
+
+    ghost solves = { λ key answer. answer.stored ≡ false };
+}
+
+fn summaries(alloc: Global, key: &Key) -> Result<Row<ProcSummary>, AllocError> {
+    let mut procs = Row::new(alloc);
+    for flow in key.procs.as_slice() {
+        let specs: Row<Spec> = Row::new(alloc);
+        let certs: Row<Cert> = Row::new(alloc);
+        procs.push(ProcSummary {
+            name: flow.name.clone()?,
+            specs,
+            certs,
+            reason: Some(Reason::Endless),
+        })?;
+    }
+    Ok(procs)
+}
+
+impl Job for Toy {
+    fn solve(
+        &self,
+        alloc: Global,
+        key: &Arc<Key>,
+        tally: &mut Tally,
+    ) -> Result<Solved<Toy>, AllocError> {
+        let turn = self.solved.fetch_add(1, Ordering::SeqCst);
+        if turn == self.wants_at.wrapping_sub(1) {
+            return Err(AllocError);
+        }
+        let answer = Answer {
+            stored: false,
+            procs: summaries(alloc, key)?,
+        };
+        if !well_formed_answer(key, &answer) {
+            return Err(AllocError);
+        }
+        let answer = Arc::new(alloc, answer)?;
+        let key = key.clone()?;
+        tally.raise();
+        Ok(Solved::new(key, answer))
+    }
+}
+
+/// A procedure of one letter, which may call another one, and returns a number.
+#[derive(Clone, Copy)]
+pub struct Sketch {
+    pub name: u8,
+    pub callee: Option<u8>,
+    pub value: i32,
+}
+
+fn name(alloc: Global, letter: u8) -> Result<Name, AllocError> {
+    Name::of(alloc, &[letter])
+}
+
+fn node(cmd: Cmd) -> Node {
+    Node {
+        line: 0,
+        cmd,
+        head: None,
+    }
+}
+
+fn nodes(alloc: Global, sketch: Sketch) -> Result<Row<Node>, AllocError> {
+    let mut nodes = Row::new(alloc);
+    if let Some(letter) = sketch.callee {
+        let cmd = Cmd::Call {
+            to: None,
+            callee: name(alloc, letter)?,
+            args: Row::new(alloc),
+            next: 1,
+        };
+        nodes.push(node(cmd))?;
+    }
+    let cmd = Cmd::Return {
+        value: Operand::Num(sketch.value),
+    };
+    nodes.push(node(cmd))?;
+    Ok(nodes)
+}
+
+fn proc(alloc: Global, sketch: Sketch) -> Result<Proc, AllocError> {
+    let slots: Row<Ty> = Row::new(alloc);
+    let flow = Flow {
+        name: name(alloc, sketch.name)?,
+        params: Row::new(alloc),
+        slots,
+        ret: Ty::Int,
+        nodes: nodes(alloc, sketch)?,
+    };
+    Ok(Proc {
+        flow,
+        file: name(alloc, b'x')?,
+        line: 1,
+    })
+}
+
+/// A program of these procedures.
+pub fn program(alloc: Global, sketches: &[Sketch]) -> Result<Arc<Program>, AllocError> {
+    let mut procs = Row::new(alloc);
+    for sketch in sketches {
+        procs.push(proc(alloc, *sketch)?)?;
+    }
+    let program = Program {
+        structs: Row::new(alloc),
+        procs,
+    };
+    Ok(Arc::new(alloc, program)?)
+}
+
+/// Twenty-six procedures that call nobody and return this number.
+pub fn wide(alloc: Global, value: i32) -> Result<Arc<Program>, AllocError> {
+    let mut procs = Row::new(alloc);
+    for letter in b'a'..b'{' {
+        let sketch = Sketch {
+            name: letter,
+            callee: None,
+            value,
+        };
+        procs.push(proc(alloc, sketch)?)?;
+    }
+    let program = Program {
+        structs: Row::new(alloc),
+        procs,
+    };
+    Ok(Arc::new(alloc, program)?)
+}
+
+/// Makes claim 1 wait until claim 2 has entered, for at most `TURNS` turns, and notes who entered.
+#[derive(Drop)]
+pub struct Meeting {
+    pub first: AtomicU64,
+    pub second: AtomicU64,
+    pub late: AtomicU64,
+}
+
+const TURNS: u32 = 100_000_000;
+
+impl Gate for Meeting {
+    fn enter<R: Wait>(&self, _rt: &R, claim: u64) {
+        if claim == 2 {
+            self.second.store(1, Ordering::SeqCst);
+        }
+        if claim == 1 {
+            self.first.store(1, Ordering::SeqCst);
+            for _ in 0..TURNS {
+                if self.second.load(Ordering::SeqCst) == 1 {
+                    return;
+                }
+                thread::yield_now();
+            }
+            self.late.store(1, Ordering::SeqCst);
+        }
+    }
+}
+
+/// Lets the claims of some numbers wait for others, a different way in every run.
+#[derive(Drop)]
+pub struct Yields {
+    pub turns: AtomicU64,
+}
+
+impl Gate for Yields {
+    fn enter<R: Wait>(&self, _rt: &R, _claim: u64) {
+        let turn = self.turns.fetch_add(1, Ordering::SeqCst);
+        for _ in 0..turn % 7 {
+            thread::yield_now();
+        }
+    }
+}
+
+/// A leader that settles one program after another, and notes the first letter of each entry, with a point behind those of a program.
+#[derive(Drop)]
+pub struct Asks {
+    pub programs: Vec<Arc<Program>>,
+    pub aim: Aim,
+    pub letters: Vec<u8>,
+    pub most: usize,
+    pub wants: bool,
+}
+
+impl Asks {
+    /// A leader with no program.
+    pub fn new(alloc: Global, aim: Aim) -> Self {
+        Asks {
+            programs: Vec::new(alloc),
+            aim,
+            letters: Vec::new(alloc),
+            most: 0,
+            wants: false,
+        }
+    }
+}
+
+/// Settles a program, where it is well formed.
+fn ask<R: Wait, G: Gate, A: Ledger, B: Ledger>(
+    rt: &R,
+    alloc: Global,
+    desk: &Desk<'_, Toy, G, A, B>,
+    hands: &mut Hands<B>,
+    program: &Arc<Program>,
+    aim: &Aim,
+) -> Result<Vec<Kept>, AllocError>
+    requires { B.parts ≡ 1 }
+    ensures count { IfOk result (λ kept. vec_len kept ≤ hands.new.seen) }
+    ensures rises { hands.old.seen ≤ hands.new.seen }
+{
+    if !well_formed_program(program) || !has_program_sizes(program) {
+        return Err(AllocError);
+    }
+    desk.start(rt, alloc, program)?;
+    desk.settle(rt, alloc, program, aim, hands)
+}
+
+/// Notes the first letter of each entry.
+fn note(letters: &mut Vec<u8>, kept: &[Kept]) -> Result<(), AllocError> {
+    for one in kept {
+        if let Some(flow) = one.key.procs.as_slice().first() {
+            letters.extend_from_slice(flow.name.as_bytes())?;
+        }
+    }
+    letters.push(b'.')?;
+    Ok(())
+}
+
+impl<G: Gate> Leader<Toy, G> for Asks {
+    ghost led = { λ before after seen. after.most ≤ seen };
+
+    fn lead<R: Wait, A: Ledger, B: Ledger>(
+        &mut self,
+        rt: &R,
+        alloc: Global,
+        desk: &Desk<'_, Toy, G, A, B>,
+        hands: &mut Hands<B>,
+    ) {
+        let Asks {
+            programs,
+            aim,
+            letters,
+            most,
+            wants,
+        } = self;
+        *most = 0;
+        for program in programs.as_slice() {
+            let Ok(kept) = ask(rt, alloc, desk, hands, program, aim) else {
+                *wants = true;
+                return;
+            };
+            *most = kept.len();
+            if note(letters, kept.as_slice()).is_err() {
+                *wants = true;
+                return;
+            }
+        }
+    }
+}

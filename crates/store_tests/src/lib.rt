@@ -1,0 +1,5 @@
+//! Tests of the stored forms of keys and answers. Tests alone: beside the library they would have it proved a second time.
+#![tactic(auto)]
+
+#[cfg(test)]
+mod summary_json_tests;

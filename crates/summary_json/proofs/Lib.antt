@@ -1,0 +1,14 @@
+pub mod AnswerLaws
+pub mod AnswerLemmas
+pub mod AnswerTexts
+pub mod FitLaws
+pub mod KeyLaws
+pub mod KeyTexts
+pub mod ObjectLaws
+pub mod ParamLaws
+pub mod PlainTexts
+pub mod ReadBack
+pub mod ReasonLaws
+pub mod ScopedLaws
+pub mod TextLaws
+pub mod TextLemmas

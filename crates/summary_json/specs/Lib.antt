@@ -1,0 +1,10 @@
+pub mod Answers
+pub mod Fits
+pub mod Keys
+pub mod Laws
+pub mod Params
+pub mod Reasons
+pub mod Refused
+pub mod Texts
+pub mod Unfit
+pub mod Written

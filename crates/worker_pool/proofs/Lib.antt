@@ -1,0 +1,4 @@
+pub mod Counting
+pub mod Settling
+pub mod Meeting
+pub mod Composing

@@ -1,0 +1,60 @@
+-- Which program is present once one was met.
+use Rattle.std.proofs.Common.{◌≡◌, ◌+◌, ◌==◌, ◌&&◌, ℕ, Bool, true, false, not, cond, List, ◌++◌, refl, sym, ap, ◌∙◌, append-nil}
+use Rattle.std.proofs.lemmas.Bool.Decides.{Decides-eqb}
+use Rattle.std.specs.Prelude.{IfOk}
+use Rattle.std.specs.declared.alloc.AllocError.{AllocError}
+use Rattle.std.specs.declared.result.Result.{Result}
+use Rattle.std.specs.declared.result.Result.TheVariants.{Ok, Err}
+use Rattle.shape_data.specs.declared.program.Program.{Program}
+use Rattle.component_keys.specs.Tests.{program_test}
+use Rattle.claim_laws.specs.World.{Event, World, after, happened, may_happen}
+use Rattle.claim_laws.specs.Logs.{replay}
+use Rattle.claim_laws.proofs.Push.{replay_push}
+use Rattle.summary_book.specs.declared.answers.Met.{Met}
+use Rattle.summary_book.specs.declared.answers.Met.TheVariants.{Same, Revised}
+use Rattle.summary_book.specs.Book.{met_by, met_events}
+
+abbrev revision_of : Met → ℕ
+revision_of Same = 0
+revision_of (Revised revision) = revision
+
+abbrev is_revised : Met → Bool
+is_revised Same = false
+is_revised (Revised revision) = true
+
+-- where it is the same, it was present
+pub same_is_present : (world : World) (program : Program) → Same ≡ met_by world program → world.program ≡ program
+same_is_present world program is = by_test (program_test.0 program world.program) refl is
+  where
+    by_test : (b : Bool) → program_test.0 program world.program ≡ b → Same ≡ cond b Same (Revised (world.revision + 1)) →
+        world.program ≡ program
+    by_test true e same = sym ((program_test.1 program world.program).0 e)
+    by_test false e same = absurd (let never : false ≡ true = ap is_revised same in cc)
+
+-- where it is another one, it is present from then on
+revised_is_present : (world : World) (program : Program) (revision : ℕ) → Revised revision ≡ met_by world program →
+    (after world (Event.Revise revision program)).program ≡ program
+revised_is_present world program revision is = by_test (program_test.0 program world.program) refl is
+  where
+    by_test : (b : Bool) → program_test.0 program world.program ≡ b → Revised revision ≡ cond b Same (Revised (world.revision + 1)) →
+        (after world (Event.Revise revision program)).program ≡ program
+    by_test true e revised = absurd (let never : true ≡ false = ap is_revised revised in cc)
+    by_test false e revised =
+        let may : may_happen world (Event.Revise revision program) ≡ true =
+        ap (λ b. not b && (revision == world.revision + 1)) e ∙ (Decides-eqb revision (world.revision + 1)).1 (ap revision_of revised) in
+        ap (λ b. (cond b (happened world (Event.Revise revision program)) world).program) may
+
+pub met_is_present : (old new : List Event) (program : Program) (met : Met) → met ≡ met_by (replay old) program →
+    new ≡ old ++ met_events program met → (replay new).program ≡ program
+met_is_present old new program Same is log = let same : new ≡ old = log ∙ append-nil old in ap (λ l. (replay l).program) same ∙
+    same_is_present (replay old) program is
+met_is_present old new program (Revised revision) is log =
+    let now : replay new ≡ after (replay old) (Event.Revise revision program) = ap replay log ∙
+    replay_push old (Event.Revise revision program) in
+    ap (λ (w : World). w.program) now ∙ revised_is_present (replay old) program revision is
+
+pub is_present_after : (r : Result Met AllocError) (old new : List Event) (program : Program) →
+    IfOk r (λ met. met ≡ met_by (replay old) program) → IfOk r (λ met. new ≡ old ++ met_events program met) →
+    IfOk r (λ met. (replay new).program ≡ program)
+is_present_after (Ok met) old new program is log = met_is_present old new program met is log
+is_present_after (Err e) old new program is log = tt

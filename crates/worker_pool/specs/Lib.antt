@@ -1,0 +1,4 @@
+pub mod Entries
+pub mod Composed
+pub mod Turns
+pub mod Ended
