@@ -1,12 +1,12 @@
 -- Whether a text is a line, and whether a command stands first in a stream, is decided.
-use Rattle.std.proofs.Common.{◌≡◌, ◌≢◌, ℕ, ◌+◌, ◌-◌, ◌<◌, ◌≤◌, Bool, true, false, Option, Some, None, List, [], ◌∷◌, ◌++◌, ◌⊎◌, inl, inr, suc, zero, length, take, drop, refl, sym, ap, ◌∙◌, subst, arith}
+use Rattle.std.proofs.Common.{◌≡◌, ◌≢◌, ℕ, ◌<◌, ◌≤◌, Bool, true, false, Option, Some, None, List, [], ◌∷◌, ◌++◌, ◌⊎◌, inl, inr, suc, zero, length, take, drop, refl, sym, ap, ◌∙◌, subst, arith}
 use Rattle.std.proofs.lemmas.Bool.{cases_lt}
 use Rattle.std.specs.Prelude.{codes, IsTrue, slice_index}
 use Rattle.std.specs.Fmt.{decimal}
 use Rattle.std.specs.List.{list_all}
 use Rattle.std.proofs.lemmas.List.{take-append-drop, length-append, length-take-le}
 use Rattle.std.proofs.Math.Seq.{take-append_seam}
-use Rattle.shape_data.specs.Names.{IsCName, is_name_byte, is_name_start}
+use Rattle.shape_data.specs.Names.{is_name_byte, is_name_start}
 use Rattle.session_lines.specs.declared.command.Command.{Command}
 use Rattle.session_lines.specs.declared.command.Line.{Line}
 use Rattle.session_lines.specs.declared.command.Line.TheVariants as line
@@ -14,7 +14,7 @@ use Rattle.session_lines.specs.Lines.{IsFileName, IsFirst, IsFirstLine, IsLine, 
 use Rattle.session_lines.specs.Parts.{IsAbsent, IsLineIn}
 use Rattle.session_lines.specs.Sessions.{BeginsWithNone}
 use Rattle.session_lines.proofs.FirstLemmas.{none_begins, short_begins}
-use Rattle.session_lines.proofs.LineLemmas.{IsPutArgument, gen_argument, put_argument, put_text}
+use Rattle.session_lines.proofs.LineLemmas.{put_text}
 use Rattle.std.proofs.lemmas.List.Elements.{All-nil, All-cons}
 
 abbrev pub Decided : Type 0 → Type 0

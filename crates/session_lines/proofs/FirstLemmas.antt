@@ -1,22 +1,20 @@
 -- What stands first in a stream, and why nothing does.
-use Rattle.std.proofs.Common.{◌≡◌, ◌≢◌, ℕ, ◌+◌, ◌-◌, ◌<◌, ◌≤◌, Bool, true, false, Option, Some, None, Result, List, [], ◌∷◌, ◌++◌, ◌⊎◌, inl, inr, suc, length, take, drop, refl, sym, ap, ◌∙◌, subst, arith, append_assoc, length-append}
+use Rattle.std.proofs.Common.{◌≡◌, ◌≢◌, ℕ, ◌+◌, ◌-◌, ◌<◌, ◌≤◌, Bool, true, false, Option, Some, None, List, [], ◌∷◌, ◌++◌, inl, inr, suc, length, take, drop, refl, sym, ap, ◌∙◌, subst, arith, append_assoc, length-append}
 use Rattle.std.specs.Prelude.{IfSome, if◌then◌else◌, nat_le}
 use Rattle.std.proofs.lemmas.Bool.Decides.{nat_tests}
 use Rattle.std.proofs.lemmas.List.{append-nil, length-drop, take-append-le}
 use Rattle.std.proofs.Math.Seq.{take-append-add}
 use Rattle.io_ports.specs.Bytes.{before_left, IsNothingLeft}
-use Rattle.session_lines.specs.declared.command.Command.{Command}
 use Rattle.session_lines.specs.declared.command.Command.TheVariants as command
 use Rattle.session_lines.specs.declared.command.Line.{Line}
 use Rattle.session_lines.specs.declared.command.Line.TheVariants as line
 use Rattle.session_lines.specs.declared.command.Taken.{Taken}
 use Rattle.session_lines.specs.declared.command.Taken.TheVariants as taken
-use Rattle.session_lines.specs.Lines.{IsCommand, IsEnded, IsFirst, IsFirstLine, IsLast, IsLine, MOST_FILE_BYTES, body_size, command_of, line_text}
+use Rattle.session_lines.specs.Lines.{IsCommand, IsEnded, IsFirstLine, IsLine, MOST_FILE_BYTES, body_size, command_of, line_text}
 use Rattle.session_lines.specs.Parts.{IsAbsent, IsFirstAt, IsLineIn, IsNoCommand, TakesLine}
 use Rattle.session_lines.specs.Reading.{IsCounted, Reading, Takes}
 use Rattle.session_lines.specs.Sessions.{BeginsWithNone, MOST_COMMANDS}
 use Rattle.session_lines.proofs.LineLemmas.{line_once, line_short, not_absent, on_one_line, part_once}
-use Rattle.session_lines.proofs.Streams.{absent_front}
 
 -- what is shown of each told stream
 pub if_told : (told : Option (List ℕ)) (P : List ℕ → Type 0) → ((stream : List ℕ) → told ≡ Some stream → P stream) → IfSome told P
@@ -84,7 +82,7 @@ pub line_takes : (found : Option Line) (size : ℕ) (old mid new : Reading) (bef
     → mid.taken ≡ old.taken → mid.offset ≡ old.offset → old.taken < MOST_COMMANDS
     → IsLineIn text found → IsFirstLine stream text behind → IsAbsent 10 text → before ≡ Some behind → length stream ≡ size + length behind → stream ≢ []
     → TakesLine found size mid new before after answer → Takes old new stream after answer
-line_takes None size old mid new before after answer stream text behind same_taken same_offset few none cut absent told whole some is =
+line_takes None size old mid new before after answer stream text behind same_taken same_offset few none cut absent told whole some (is, none_more) =
     subst (Takes old new stream after) (sym is) (record {
       some = some;
       few = few;
@@ -113,7 +111,7 @@ line_takes (Some one) size old mid new before after (taken.Command command) stre
         offset = omega (arith, one_more.offset, same_offset, whole, all);
       };
     }
-line_takes (Some one) size old mid new before after (taken.Malformed number offset) stream text behind same_taken same_offset few (allowed, is_text) cut absent told whole some (short, is_number, is_offset) =
+line_takes (Some one) size old mid new before after (taken.Malformed number offset) stream text behind same_taken same_offset few (allowed, is_text) cut absent told whole some (short, is_number, is_offset, none_more) =
     record {
       some = some;
       few = few;
@@ -142,23 +140,25 @@ command_fits (line.Gen n) body allowed whole = allowed
 command_fits line.Quit body allowed whole = tt
 
 -- where no command was taken, none is counted
-pub none_counted : (old new : Reading) (answer : Taken) → IsNoCommand answer → IsCounted old new answer
-none_counted old new (taken.Command command) none = absurd none
-none_counted old new taken.End none = tt
-none_counted old new (taken.Malformed number offset) none = tt
-none_counted old new taken.Full none = tt
-none_counted old new taken.ReadFault none = tt
+pub none_counted : (old new : Reading) → new.taken ≡ old.taken → new.offset ≡ old.offset → (answer : Taken) → IsNoCommand answer → IsCounted old new answer
+none_counted old new same_taken same_offset (taken.Command command) none = absurd none
+none_counted old new same_taken same_offset taken.End none = (same_taken, same_offset)
+none_counted old new same_taken same_offset (taken.Malformed number offset) none = (same_taken, same_offset)
+none_counted old new same_taken same_offset taken.Full none = (same_taken, same_offset)
+none_counted old new same_taken same_offset taken.ReadFault none = (same_taken, same_offset)
 
--- a command that was taken is counted
+-- a command that was taken is counted, and nothing else is
 pub line_counted : (found : Option Line) (size : ℕ) (old mid new : Reading) (before after : Option (List ℕ)) (answer : Taken) (text : List ℕ)
-    → mid.taken ≡ old.taken → old.taken < MOST_COMMANDS → IsLineIn text found → TakesLine found size mid new before after answer → IsCounted old new answer
-line_counted None size old mid new before after answer text same few none is = subst (IsCounted old new) (sym is) tt
-line_counted (Some one) size old mid new before after (taken.Command command) text same few (allowed, is_text) ((bytes, moved, all, means), one_more) =
-    (few, one_more.taken ∙ ap (λ n. n + 1) same, subst IsCommand (sym means) (command_fits one bytes allowed all))
-line_counted (Some one) size old mid new before after (taken.Malformed number offset) text same few is_line is = tt
-line_counted (Some one) size old mid new before after taken.ReadFault text same few is_line is = tt
-line_counted (Some one) size old mid new before after taken.End text same few is_line is = tt
-line_counted (Some one) size old mid new before after taken.Full text same few is_line is = tt
+    → mid.taken ≡ old.taken → mid.offset ≡ old.offset → old.taken < MOST_COMMANDS → IsLineIn text found → TakesLine found size mid new before after answer → IsCounted old new answer
+line_counted None size old mid new before after answer text same_taken same_offset few none (is, (more_taken, more_offset)) =
+    subst (IsCounted old new) (sym is) (more_taken ∙ same_taken, more_offset ∙ same_offset)
+line_counted (Some one) size old mid new before after (taken.Command command) text same_taken same_offset few (allowed, is_text) ((bytes, moved, all, means), one_more) =
+    (few, one_more.taken ∙ ap (λ n. n + 1) same_taken, subst IsCommand (sym means) (command_fits one bytes allowed all))
+line_counted (Some one) size old mid new before after (taken.Malformed number offset) text same_taken same_offset few is_line (short, is_number, is_offset, (more_taken, more_offset)) =
+    (more_taken ∙ same_taken, more_offset ∙ same_offset)
+line_counted (Some one) size old mid new before after taken.ReadFault text same_taken same_offset few is_line (more_taken, more_offset) = (more_taken ∙ same_taken, more_offset ∙ same_offset)
+line_counted (Some one) size old mid new before after taken.End text same_taken same_offset few is_line is = absurd is
+line_counted (Some one) size old mid new before after taken.Full text same_taken same_offset few is_line is = absurd is
 
 -- the first line of a stream ends where a line feed stands ahead
 pub record IsCutAt (stream ahead : List ℕ) (place : ℕ) (left : Option (List ℕ)) : Type 0 where

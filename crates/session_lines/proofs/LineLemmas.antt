@@ -1,13 +1,12 @@
 -- A line is one text, and a text is at most one line.
-use Rattle.std.proofs.Common.{◌≡◌, ◌≢◌, ℕ, ◌+◌, ◌<◌, ◌≤◌, ◌^◌, Bool, true, false, if◌then◌else◌, List, [], ◌∷◌, ◌++◌, length, refl, sym, ap, subst, ◌∙◌, arith, append_assoc, length-append}
-use Rattle.std.specs.Prelude.{codes, ◌&&◌, ◌==◌, not, Option, Some, None}
+use Rattle.std.proofs.Common.{◌≡◌, ◌≢◌, ℕ, ◌<◌, ◌≤◌, ◌^◌, Bool, true, false, if◌then◌else◌, List, [], ◌∷◌, ◌++◌, length, refl, sym, ap, subst, ◌∙◌, arith, append_assoc, length-append}
+use Rattle.std.specs.Prelude.{codes, ◌&&◌, ◌==◌, not, None}
 use Rattle.std.specs.Fmt.{decimal}
 use Rattle.std.specs.List.{list_all}
-use Rattle.std.proofs.lemmas.Bool.{eq-eqb}
 use Rattle.std.proofs.lemmas.Fmt.{decimal_is_IsNumeral, decimal_injective, length-decimal-le}
 use Rattle.std.proofs.lemmas.Str.Parse.{digit_at}
 use Rattle.std.proofs.lemmas.List.Elements.{All-head, All-tail, All-nil, All-cons, All-append, All-from_get_or}
-use Rattle.shape_data.specs.Names.{IsCName, is_name_byte}
+use Rattle.shape_data.specs.Names.{is_name_byte}
 use Rattle.session_lines.specs.declared.command.Line.{Line}
 use Rattle.session_lines.specs.declared.command.Line.TheVariants as line
 use Rattle.session_lines.specs.Lines.{IsFileName, IsLine, IsProcName, body_size, is_file_byte, line_text}

@@ -1,11 +1,11 @@
 -- Lemmas on what is left of a stream.
-use Rattle.std.proofs.Common.{◌≡◌, ◌≢◌, ℕ, ◌+◌, ◌-◌, ◌<◌, ◌≤◌, Option, Some, None, List, [], ◌∷◌, ◌++◌, length, take, drop, refl, sym, ap, ◌∙◌, subst, arith, append_assoc, length-append}
-use Rattle.std.proofs.lemmas.List.{take_all, take-append-drop}
+use Rattle.std.proofs.Common.{◌≡◌, ◌≢◌, ℕ, ◌+◌, ◌<◌, ◌≤◌, Option, Some, None, List, [], ◌++◌, length, take, drop, refl, sym, ap, ◌∙◌, subst, arith, append_assoc, length-append}
+use Rattle.std.proofs.lemmas.List.{take-append-drop}
 use Rattle.std.proofs.lemmas.List.Elements.{All-take}
 use Rattle.std.proofs.lemmas.Grind.{common_steps}
 use Rattle.std.specs.Prelude.{IfSome}
-use Rattle.io_ports.specs.Bytes.{before_left, IsNothingLeft}
-use Rattle.session_lines.specs.Parts.{IsAbsent, IsFirstAt}
+use Rattle.io_ports.specs.Bytes.{before_left}
+use Rattle.session_lines.specs.Parts.{IsAbsent}
 
 -- two pieces, one after the other
 pub before_left-append : (first second : List ℕ) (left : Option (List ℕ)) → before_left first (before_left second left) ≡ before_left (first ++ second) left

@@ -12,7 +12,7 @@ use Rattle.session_lines.specs.declared.reading.FirstLine.{FirstLine}
 use Rattle.session_lines.specs.declared.reading.FirstLine.TheVariants as first
 use Rattle.session_lines.specs.declared.reading.Passed.{Passed}
 use Rattle.session_lines.specs.declared.reading.Passed.TheVariants as passed
-use Rattle.session_lines.specs.Reading.{Reading, IsOneMore}
+use Rattle.session_lines.specs.Reading.{Reading, IsNoneMore, IsOneMore}
 use Rattle.session_lines.specs.Lines.{IsLine, body_size, command_of, line_text}
 
 -- the byte stands nowhere in the bytes
@@ -73,11 +73,11 @@ IsBehind line old new (behind.Command command) =
 IsBehind line old new behind.Short = IfSome old (λ bytes. length bytes < body_size line)
 IsBehind line old new behind.Failed = Unit {0}
 
--- the command that a line is, with the line's so many bytes, was taken; or the line is none, or its bytes are too few
+-- the command that a line is, with the line's so many bytes, was taken; or the line is none, or its bytes are too few, and none is counted
 abbrev pub TakesLine : Option Line → ℕ → Reading → Reading → Option (List ℕ) → Option (List ℕ) → Taken → Type 0
-TakesLine None size old new before after answer = answer ≡ taken.Malformed (old.taken + 1) old.offset
+TakesLine None size old new before after answer = (answer ≡ taken.Malformed (old.taken + 1) old.offset) × IsNoneMore old new
 TakesLine (Some line) size old new before after (taken.Command command) = IsBehind line before after (behind.Command command) × IsOneMore old new (size + body_size line)
-TakesLine (Some line) size old new before after (taken.Malformed number offset) = IsBehind line before after behind.Short × (number ≡ old.taken + 1) × (offset ≡ old.offset)
-TakesLine (Some line) size old new before after taken.ReadFault = Unit {0}
+TakesLine (Some line) size old new before after (taken.Malformed number offset) = IsBehind line before after behind.Short × (number ≡ old.taken + 1) × (offset ≡ old.offset) × IsNoneMore old new
+TakesLine (Some line) size old new before after taken.ReadFault = IsNoneMore old new
 TakesLine (Some line) size old new before after taken.End = ⊥
 TakesLine (Some line) size old new before after taken.Full = ⊥

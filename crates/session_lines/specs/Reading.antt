@@ -1,5 +1,5 @@
 -- What callers see of a reader of commands, and what one call of it does.
-use Rattle.std.specs.Prelude.{◌≡◌, ◌≢◌, ℕ, ◌+◌, ◌-◌, ◌<◌, ◌≤◌, Option, Some, None, List, [], length}
+use Rattle.std.specs.Prelude.{◌≡◌, ◌≢◌, ℕ, ◌+◌, ◌-◌, ◌<◌, ◌≤◌, Option, Some, List, [], length}
 use Rattle.io_ports.specs.Bytes.{before_left}
 use Rattle.session_lines.specs.declared.command.Command.{Command}
 use Rattle.session_lines.specs.declared.command.Taken.{Taken}
@@ -46,7 +46,11 @@ Takes old new stream left (taken.Malformed number offset) = IsMalformed old stre
 Takes old new stream left taken.Full = (stream ≢ []) × (MOST_COMMANDS ≤ old.taken)
 Takes old new stream left taken.ReadFault = Unit {0}
 
--- a command that is taken is counted, is none too many, and says what it may
+-- no command was taken: as many commands, of as many bytes, are counted as before
+abbrev pub IsNoneMore : Reading → Reading → Type 0
+IsNoneMore old new = (new.taken ≡ old.taken) × (new.offset ≡ old.offset)
+
+-- a command that is taken is counted, is none too many, and says what it may; where none is taken, none is counted
 abbrev pub IsCounted : Reading → Reading → Taken → Type 0
 IsCounted old new (taken.Command command) = (old.taken < MOST_COMMANDS) × (new.taken ≡ old.taken + 1) × IsCommand command
-IsCounted old new _ = Unit {0}
+IsCounted old new _ = IsNoneMore old new

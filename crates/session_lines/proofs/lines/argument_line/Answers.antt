@@ -1,5 +1,5 @@
 -- A word that has no argument.
-use Rattle.std.proofs.Common.{◌≡◌, ap, nat_eq}
+use Rattle.std.proofs.Common.{ap, nat_eq}
 use Rattle.std.specs.Prelude.{codes}
 use Rattle.std.specs.Cmp.Lexicographic.{pointwise}
 use Rattle.session_lines.proofs.LineLemmas.{no_such_word}

@@ -1,5 +1,5 @@
 -- A text that is none of the words.
-use Rattle.std.proofs.Common.{◌≡◌, ap, nat_eq, length}
+use Rattle.std.proofs.Common.{ap, nat_eq, length}
 use Rattle.std.specs.Prelude.{codes, ◌==◌}
 use Rattle.std.specs.Cmp.Lexicographic.{pointwise}
 use Rattle.session_lines.proofs.LineLemmas.{no_word}

@@ -1,5 +1,5 @@
 -- A piece more was passed over.
-use Rattle.std.proofs.Common.{◌∙◌, ◌+◌, ◌++◌, ◌≤◌, sym, ap, arith, length, take, drop, subst, length-drop}
+use Rattle.std.proofs.Common.{◌∙◌, ◌+◌, ◌++◌, ◌≤◌, sym, ap, arith, length, take, length-drop}
 use Rattle.io_ports.specs.Bytes.{before_left}
 use Rattle.session_lines.proofs.Streams.{length_taken, more_taken}
 use Rattle.session_lines.proofs.reading.pass_over.Goals as goal

@@ -1,5 +1,5 @@
 -- A piece more was taken.
-use Rattle.std.proofs.Common.{◌≡◌, ◌∙◌, ◌+◌, ◌++◌, ◌≤◌, sym, ap, arith, length, take, drop, length-drop}
+use Rattle.std.proofs.Common.{◌≡◌, ◌∙◌, ◌++◌, ◌≤◌, sym, ap, arith, length, take, length-drop}
 use Rattle.std.proofs.lemmas.Grind.{common_steps}
 use Rattle.io_ports.specs.Bytes.{before_left}
 use Rattle.session_lines.proofs.Streams.{length_taken, more_taken}

@@ -1,5 +1,5 @@
 -- A byte stands ahead.
-use Rattle.std.proofs.Common.{◌≡◌, ◌≢◌, List, ℕ, [], Option, sym, subst}
+use Rattle.std.proofs.Common.{◌≢◌, List, ℕ, [], Option, sym, subst}
 use Rattle.std.specs.Prelude.{IfSome}
 use Rattle.session_lines.proofs.Streams.{not_empty}
 use Rattle.session_lines.proofs.session.end_or_full.Goals as goal

@@ -1,5 +1,5 @@
 -- What stands first in the stream was taken, or is no command; and where all of it stood ahead, nothing was read.
-use Rattle.std.proofs.Common.{◌≡◌, ◌≢◌, ◌∙◌, ◌+◌, ◌<◌, ◌≤◌, List, ℕ, [], ◌++◌, Option, Some, sym, ap, arith, refl, inr, length, take, drop, subst}
+use Rattle.std.proofs.Common.{◌≡◌, ◌≢◌, ◌∙◌, ◌+◌, ◌<◌, List, ℕ, [], ◌++◌, Option, Some, sym, ap, arith, refl, inr, length, take, drop, subst}
 use Rattle.std.proofs.lemmas.Result.{IfOk-weaker}
 use Rattle.std.specs.Prelude.{IfSome}
 use Rattle.io_ports.specs.Bytes.{before_left}
@@ -119,7 +119,7 @@ returns-in_ok-line-in-Ended-clause-counted g c =
     let few : c.args.commands.now.taken < 65536 = omega (arith, c.commands.invariant) in
     let is_found : IsLineIn (take place ahead) found = subst (λ (xs : List ℕ). IsLineIn (take place xs) found) c.bytes.ensures.value c.in_ok-line-in-Ended.ensures in
     IfOk-weaker c.take_line.result (TakesLine found (place + 1) _ c.take_line.new.commands _ _) (IsCounted c.args.commands.now c.take_line.new.commands)
-    (λ answer takes. line_counted found (place + 1) c.args.commands.now _ c.take_line.new.commands _ _ answer (take place ahead) taken few is_found takes)
+    (λ answer takes. line_counted found (place + 1) c.args.commands.now _ c.take_line.new.commands _ _ answer (take place ahead) taken (ap (λ (r : Reading). r.offset) c.commands.view_is) few is_found takes)
     c.take_line.ensures.takes
 
 pub returns-in_ok-line-in-Last-clause-counted : goal.returns-in_ok-line-in-Last-clause-counted
@@ -131,7 +131,7 @@ returns-in_ok-line-in-Last-clause-counted g c =
     let few : c.args.commands.now.taken < 65536 = omega (arith, c.commands.invariant) in
     let is_found : IsLineIn ahead found = subst (λ (xs : List ℕ). IsLineIn xs found) c.bytes-in-Last.ensures.value c.in_ok-line-in-Last.ensures in
     IfOk-weaker c.take_line-in-Last.result (TakesLine found size _ c.take_line-in-Last.new.commands _ _) (IsCounted c.args.commands.now c.take_line-in-Last.new.commands)
-    (λ answer takes. line_counted found size c.args.commands.now _ c.take_line-in-Last.new.commands _ _ answer ahead taken few is_found takes)
+    (λ answer takes. line_counted found size c.args.commands.now _ c.take_line-in-Last.new.commands _ _ answer ahead taken (ap (λ (r : Reading). r.offset) c.commands.view_is) few is_found takes)
     c.take_line-in-Last.ensures.takes
 
 pub returns-in_err-place-clause-unread : goal.returns-in_err-place-clause-unread
@@ -157,4 +157,5 @@ returns-in_err-line-in-Last-clause-unread g c = λ line body rest allowed whole 
 pub returns-then-commands-eq-MOST_COMMANDS-clause-counted : goal.returns-then-commands-eq-MOST_COMMANDS-clause-counted
 returns-then-commands-eq-MOST_COMMANDS-clause-counted g c =
     let new : Reading = record { ahead = c.end_or_full.new.ahead; taken = c.commands.inside.taken; offset = c.commands.inside.offset } in
-    IfOk-weaker c.end_or_full.result IsNoCommand (IsCounted c.args.commands.now new) (none_counted c.args.commands.now new) c.end_or_full.ensures.no_command
+    IfOk-weaker c.end_or_full.result IsNoCommand (IsCounted c.args.commands.now new)
+    (none_counted c.args.commands.now new (ap (λ (r : Reading). r.taken) c.commands.view_is) (ap (λ (r : Reading). r.offset) c.commands.view_is)) c.end_or_full.ensures.no_command
