@@ -1,6 +1,8 @@
 pub mod Marking
 pub mod Walk
 pub mod Naming
+pub mod Sorting
+pub mod Grouped
 pub mod Graphs
 pub mod Searched
 pub mod Turns

@@ -1,7 +1,7 @@
 -- The turns of a search in the words of the loop: what it keeps, and that less is left to do.
-use Rattle.std.proofs.Common.{◌≡◌, ◌≢◌, ℕ, zero, suc, ◌+◌, ◌-◌, ◌<◌, ◌≤◌, ◌==◌, Bool, true, false, ◌||◌, List, [], ◌∷◌, ◌++◌, length, map, replicate, take, drop, slice_get, get_or, set, Some, None, refl, sym, ap, ◌∙◌, subst, ⊎_elim, ◌⊎◌, inl, inr, arith, true≢false, Result, Ok, Err, OnOk}
+use Rattle.std.proofs.Common.{◌≡◌, ◌≢◌, ℕ, zero, suc, ◌+◌, ◌-◌, ◌<◌, ◌≤◌, ◌==◌, Bool, true, false, ◌||◌, List, [], ◌∷◌, ◌++◌, length, map, replicate, take, drop, slice_get, get_or, set, Some, None, refl, sym, ap, ◌∙◌, subst, ⊎_elim, ◌⊎◌, inl, inr, arith, true≢false, Result, Ok, Err, OnOk, All}
 use Rattle.std.specs.Prelude.{if◌then◌else◌}
-use Rattle.std.proofs.lemmas.List.{length_push, length-append, take_more, length-replicate, length-map, get_or_default}
+use Rattle.std.proofs.lemmas.List.{length_push, length-append, take_more, length-replicate, length-map, get_or-map, get_or_default}
 use Rattle.call_components.proofs.Marking.{holds_push}
 use Rattle.std.proofs.lemmas.Bool.{cases_lt}
 use Rattle.std.proofs.lemmas.Bool.Decides.{Decides-eqb}
@@ -202,6 +202,25 @@ first_search calls marks stack entries todo is_marks is_stack is_entries is_todo
 
     not_done : {A : Type 0} {c : ℕ} → New ≡ Done c → A
     not_done e = cc
+
+-- where all were met and none is open, kinds are below the number of classes
+pub kinds_few : (calls : List (List ℕ)) (marks : List Mark) (stack : List ℕ) (entries : List Entry) (todo : List ℕ) (count : ℕ) → IsSearching calls marks stack entries todo count → entries ≡ [] →
+    ((number : ℕ) → number < length calls → mark_of marks number ≢ New) → All (λ kind. kind < count) (map kind_of_mark marks)
+kinds_few calls marks stack entries todo count old none met = λ k d lt.
+    let less : k < length marks = subst (λ n. k < n) (length-map marks kind_of_mark) lt in
+    let lengths : length marks ≡ length calls = old.lengths in
+    subst (λ kind. kind < count) (sym (get_or-map kind_of_mark marks k New d less)) (by_mark k (omega (arith, less, lengths)) (mark_of marks k) refl)
+  where
+    no_stack : (place number : ℕ) → slice_get stack place ≡ Some number → ⊥
+    no_stack place number at =
+        let within = slice_get_within stack place number at in
+        let first = old.bottom (omega (arith, within)) in
+        not_none (sym (ap (λ l. slice_get l 0) none) ∙ first.1)
+
+    by_mark : (number : ℕ) → number < length calls → (mark : Mark) → mark_of marks number ≡ mark → kind_of_mark mark < count
+    by_mark number lt New e = absurd (met number lt e)
+    by_mark number lt (Open place) e = absurd (no_stack place number (old.stacked place number e))
+    by_mark number lt (Done class) e = old.counted number class e
 
 -- where all were met and none is open, the marks tell the kinds
 pub kinds_right : (calls : List (List ℕ)) (defined : (number callee : ℕ) → holds (calls_of calls number) callee ≡ true → callee < length calls) (marks : List Mark) (stack : List ℕ) (entries : List Entry) (todo : List ℕ) (count : ℕ) →

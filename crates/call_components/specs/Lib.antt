@@ -1,4 +1,5 @@
 pub mod Graphs
 pub mod Reaching
 pub mod Searching
+pub mod Sorting
 pub mod Tables

@@ -1,6 +1,6 @@
 -- What a search for classes keeps (Gabow 2000; Purdom and Munro 1968): the open numbers stand on a stack, in sets that call one another
 -- and of which each reaches the next one; whom a class that is done calls is of it or of one done before.
-use Rattle.std.specs.Prelude.{◌≡◌, ℕ, ◌<◌, ◌≤◌, ◌+◌, true, List, [], ◌∷◌, ◌++◌, length, slice_get, slice_index_or, drop, ◌⊎◌, if◌then◌else◌}
+use Rattle.std.specs.Prelude.{◌≡◌, ◌≢◌, ℕ, ◌<◌, ◌≤◌, ◌+◌, true, List, [], ◌∷◌, ◌++◌, length, slice_get, slice_index_or, drop, ◌⊎◌, if◌then◌else◌}
 use Rattle.std.specs.declared.option.Option.TheVariants.{Some}
 use Rattle.component_keys.specs.Components.{holds, calls_of, reached}
 use Rattle.call_components.specs.declared.marks.Entry.{Entry}
@@ -88,3 +88,9 @@ abbrev pub kind_of_mark : Mark → ℕ
 kind_of_mark New = 0
 kind_of_mark (Open place) = 0
 kind_of_mark (Done class) = class
+
+-- all numbers are searched
+pub record IsSearched (calls : List (List ℕ)) (state : Search) : Type 0 where
+  pub search : IsSearch calls state
+  pub closed : state.entries.items ≡ []
+  pub met : (number : ℕ) → number < length calls → mark_of state.marks.items number ≢ New

@@ -1,7 +1,7 @@
 -- Classes by a table of who reaches whom.
 use Rattle.std.specs.declared.option.Option.{Option}
 use Rattle.std.specs.declared.option.Option.TheVariants.{None, Some}
-use Rattle.std.specs.Prelude.{slice_get, ◌≡◌, ℕ, ◌<◌, ◌==◌, Bool, ◌&&◌, ◌||◌, not, List, map, length, slice_index_or}
+use Rattle.std.specs.Prelude.{slice_get, slice_set, ◌≡◌, ℕ, ◌<◌, ◌==◌, Bool, ◌&&◌, ◌||◌, not, List, [], ◌∷◌, ◌++◌, map, length, slice_index_or}
 use Rattle.std.specs.List.{filter, list_any, list_all}
 use Rattle.component_keys.specs.Components.{holds, calls_of, are_mutual, is_first}
 use Rattle.call_components.specs.Reaching.{marked}
@@ -20,6 +20,16 @@ class_in kinds order number = filter (same_kind kinds number) order
 
 abbrev pub classes_in : List ℕ → List ℕ → List (List ℕ)
 classes_in kinds order = map (class_in kinds order) (filter (λ number. is_first number (class_in kinds order number)) order)
+
+-- a number put into the class at a place, or a class begun with it
+abbrev pub put_list : Option ℕ → ℕ → List (List ℕ) → List (List ℕ)
+put_list None number lists = lists ++ (number ∷ []) ∷ []
+put_list (Some place) number lists = slice_set lists place (slice_index_or lists place [] ++ number ∷ [])
+
+-- where the class of a kind stands, if it is begun there
+abbrev pub put_slot : Option ℕ → ℕ → ℕ → List (Option ℕ) → List (Option ℕ)
+put_slot None kind place slots = slice_set slots kind (Some place)
+put_slot (Some old) kind place slots = slots
 
 -- no member is listed, and each that one of them calls is of its kind or listed
 abbrev pub is_next_in : List ℕ → List (List ℕ) → List Bool → List ℕ → Bool

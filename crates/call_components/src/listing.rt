@@ -7,10 +7,10 @@ ghost use Rattle.component_keys.specs.Components.{by_name, calls_of, components}
 ghost use Rattle.component_keys.specs.Laws.{IsCallGraph};
 
 use crate::calls::callees_of;
-use crate::classes::{are_of_kind, classes};
+use crate::classes::{are_of_kind, classes_of_kinds};
 use crate::order::in_order;
 use crate::reach::is_marked;
-use crate::search::kinds_of;
+use crate::search::kinds_below;
 use shape_data::Name;
 use std::alloc::{AllocError, Global};
 
@@ -102,6 +102,23 @@ fn in_call_order(
     Ok(listed)
 }
 
+/// The same as `components`, where the numbers are given in order of their names.
+pub fn ordered_components(
+    alloc: Global,
+    names: &[Name],
+    calls: &[Vec<u32>],
+    order: &[u32],
+) -> Result<Vec<Vec<u32>>, AllocError>
+    requires small { length names.now < 4294967296 }
+    requires graph { IsCallGraph names.now (rows calls.now) }
+    requires order { order.now ≡ by_name names.now (length names.now) }
+    ensures { IfOk result (λ all. rows all.items ≡ components names.now (rows calls.now)) }
+{
+    let (kinds, count) = kinds_below(alloc, calls)?;
+    let all = classes_of_kinds(alloc, &kinds, count, order)?;
+    in_call_order(alloc, names, calls, &kinds, &all)
+}
+
 /// The components of the procedures of these names: the classes of those that call one another, each in order of its members' names.
 /// `calls` has a row for each procedure, with the numbers of those that it calls. Next in the list is always, among the classes whose
 /// callees are all listed, the one whose least member name is least by bytes.
@@ -115,7 +132,5 @@ pub fn components(
     ensures { IfOk result (λ all. rows all.items ≡ components names.now (rows calls.now)) }
 {
     let order = in_order(alloc, names)?;
-    let kinds = kinds_of(alloc, calls)?;
-    let all = classes(alloc, &kinds, &order)?;
-    in_call_order(alloc, names, calls, &kinds, &all)
+    ordered_components(alloc, names, calls, &order)
 }

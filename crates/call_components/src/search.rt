@@ -3,7 +3,7 @@
 ghost use Rattle.std.specs.Prelude.{◌≡◌, ◌≢◌, ℕ, ◌+◌, ◌-◌, ◌<◌, ◌≤◌, ◌++◌, ◌∷◌, [], if◌then◌else◌, length, map, take, All, IfOk, OnOk, slice_get, slice_set};
 ghost use Rattle.std.specs.declared.option.Option.TheVariants.{Some};
 ghost use Rattle.call_components.specs.declared.marks.Entry.{Entry as Set};
-ghost use Rattle.call_components.specs.Searching.{AreClassed, AreMerged, AreMet, AreRising, IsLast, IsSearch, kind_of_mark, mark_of, work_left};
+ghost use Rattle.call_components.specs.Searching.{AreClassed, AreMerged, AreMet, AreRising, IsLast, IsSearch, IsSearched, kind_of_mark, mark_of, work_left};
 ghost use Rattle.call_components.specs.Reaching.{AreDefined, rows};
 ghost use Rattle.call_components.specs.Tables.{AreKinds};
 ghost use Rattle.component_keys.specs.Components.{calls_of, holds};
@@ -149,11 +149,11 @@ fn read_kinds(alloc: Global, marks: &[Mark]) -> Result<Vec<usize>, AllocError>
     marks.iter().map(kind_of).collect(alloc)
 }
 
-/// The kind of each number, the same for those that reach each other. `calls` has a row for each number.
-pub fn kinds_of(alloc: Global, calls: &[Vec<u32>]) -> Result<Vec<usize>, AllocError>
+/// Searches all numbers. `calls` has a row for each number.
+fn searched(alloc: Global, calls: &[Vec<u32>]) -> Result<Search, AllocError>
     requires small { length calls.now < 4294967296 }
     requires defined { AreDefined (rows calls.now) }
-    ensures { IfOk result (λ kinds. AreKinds (rows calls.now) kinds.items) }
+    ensures { IfOk result (IsSearched (rows calls.now)) }
 {
     let mut search = Search {
         marks: vec![in alloc; Mark::New; calls.len()]?,
@@ -169,5 +169,17 @@ pub fn kinds_of(alloc: Global, calls: &[Vec<u32>]) -> Result<Vec<usize>, AllocEr
             Mark::Done(_) => {}
         }
     }
-    read_kinds(alloc, &search.marks)
+    Ok(search)
+}
+
+/// The kind of each number, the same for those that reach each other, and a number above all of them.
+pub fn kinds_below(alloc: Global, calls: &[Vec<u32>]) -> Result<(Vec<usize>, usize), AllocError>
+    requires small { length calls.now < 4294967296 }
+    requires defined { AreDefined (rows calls.now) }
+    ensures kinds { IfOk result (λ found. AreKinds (rows calls.now) found.0.items) }
+    ensures below { IfOk result (λ found. All (λ kind. kind < found.1) found.0.items) }
+{
+    let search = searched(alloc, calls)?;
+    let kinds = read_kinds(alloc, &search.marks)?;
+    Ok((kinds, search.done.len()))
 }

@@ -1,12 +1,11 @@
 -- Calls by the places of procedures are the calls by name.
-use Rattle.std.proofs.Common.{◌≡◌, ◌≢◌, ℕ, zero, suc, ◌+◌, ◌<◌, ◌≤◌, nat_eq, nat_lt, Bool, true, false, cond, not, List, [], ◌∷◌, length, map, slice_get, get_or, Some, None, Option, refl, sym, ap, ◌∙◌, subst, ⊎_elim, arith, All, AllPairs, le_refl}
+use Rattle.std.proofs.Common.{◌≡◌, ℕ, zero, suc, ◌<◌, nat_eq, nat_lt, Bool, true, false, cond, not, List, [], ◌∷◌, length, map, slice_get, Some, None, Option, refl, sym, ap, ◌∙◌, subst}
 use Rattle.std.specs.Prelude.{position, slice_index_or}
 use Rattle.std.specs.List.{filter_map, cons_option, prefix_len, position_or_len}
 use Rattle.std.specs.Cmp.Lexicographic.{pointwise}
-use Rattle.std.proofs.lemmas.Bool.{cases_lt}
 use Rattle.std.proofs.lemmas.Bool.Decides.{Decides-ltb}
 use Rattle.std.proofs.lemmas.List.{length-map}
-use Rattle.std.proofs.lemmas.Option.{get_or_from_slice_get, slice_get_within, slice_get-get_or}
+use Rattle.std.proofs.lemmas.Option.{get_or_from_slice_get}
 use Rattle.shape_data.specs.declared.program.Cmd.{Cmd}
 use Rattle.shape_data.specs.declared.program.Cmd.TheVariants as cmd
 use Rattle.shape_data.specs.declared.program.Flow.{Flow}
@@ -48,25 +47,25 @@ position_within p xs i e = by_test (nat_lt (position_or_len p xs) (length xs)) r
 abbrev pub flow_of : Proc → Flow
 flow_of proc = proc.flow
 
-pub number_same : (procs : List Proc) (name : List ℕ) → number_of (map flow_of procs) name ≡ number_in procs name
-number_same procs name = position_map (λ flow. pointwise nat_eq flow.name name) flow_of procs
+number_same : (flows : List Flow) (name : List ℕ) → number_of flows name ≡ number_in (names_of flows) name
+number_same flows name = sym (position_map (λ (other : List ℕ). pointwise nat_eq other name) (λ (flow : Flow). flow.name) flows)
 
 -- the number of what may have a name
 abbrev number_at : List Flow → Option (List ℕ) → Option ℕ
 number_at flows None = None
 number_at flows (Some name) = number_of flows name
 
-command_same : (procs : List Proc) (command : Cmd) → number_at (map flow_of procs) (callee_of command) ≡ number_called procs command
-command_same procs (cmd.Copy to from next) = refl
-command_same procs (cmd.Arith to op left right next) = refl
-command_same procs (cmd.Any to ty next) = refl
-command_same procs (cmd.Load to base kind field next) = refl
-command_same procs (cmd.Store base kind field from next) = refl
-command_same procs (cmd.New to kind next) = refl
-command_same procs (cmd.Free base kind next) = refl
-command_same procs (cmd.Call to callee args next) = number_same procs callee
-command_same procs (cmd.Branch op pointers left right on_true on_false) = refl
-command_same procs (cmd.Return value) = refl
+command_same : (flows : List Flow) (command : Cmd) → number_at flows (callee_of command) ≡ number_called (names_of flows) command
+command_same flows (cmd.Copy to from next) = refl
+command_same flows (cmd.Arith to op left right next) = refl
+command_same flows (cmd.Any to ty next) = refl
+command_same flows (cmd.Load to base kind field next) = refl
+command_same flows (cmd.Store base kind field from next) = refl
+command_same flows (cmd.New to kind next) = refl
+command_same flows (cmd.Free base kind next) = refl
+command_same flows (cmd.Call to callee args next) = number_same flows callee
+command_same flows (cmd.Branch op pointers left right on_true on_false) = refl
+command_same flows (cmd.Return value) = refl
 
 mapped_twice : (flows : List Flow) (nodes : List Node) → filter_map (number_of flows) (filter_map (λ (node : Node). callee_of node.cmd) nodes) ≡ filter_map (λ (node : Node). number_at flows (callee_of node.cmd)) nodes
 mapped_twice flows [] = refl
@@ -81,17 +80,17 @@ filter_map_agree : {X Y : Type 0} (f g : X → Option Y) (xs : List X) → ((x :
 filter_map_agree f g [] same = refl
 filter_map_agree f g (x ∷ xs) same = rw (same x, filter_map_agree f g xs same) refl
 
-calls_same : (procs : List Proc) (nodes : List Node) → filter_map (number_of (map flow_of procs)) (filter_map (λ (node : Node). callee_of node.cmd) nodes) ≡ filter_map (called_in procs) nodes
-calls_same procs nodes =
-    mapped_twice (map flow_of procs) nodes ∙
-    filter_map_agree (λ (node : Node). number_at (map flow_of procs) (callee_of node.cmd)) (called_in procs) nodes (λ node. command_same procs node.cmd)
+calls_same : (flows : List Flow) (nodes : List Node) → filter_map (number_of flows) (filter_map (λ (node : Node). callee_of node.cmd) nodes) ≡ filter_map (called_in (names_of flows)) nodes
+calls_same flows nodes =
+    mapped_twice flows nodes ∙
+    filter_map_agree (λ (node : Node). number_at flows (callee_of node.cmd)) (called_in (names_of flows)) nodes (λ node. command_same flows node.cmd)
 
 -- who calls whom
-pub graph_same : (program : Program) → map (λ (proc : Proc). filter_map (called_in program.procs) proc.flow.nodes) program.procs ≡ calls_in (flows_of program)
+pub graph_same : (program : Program) → map (λ (proc : Proc). filter_map (called_in (names_of (flows_of program))) proc.flow.nodes) program.procs ≡ calls_in (flows_of program)
 graph_same program =
     sym (map_map (λ flow. filter_map (number_of (map flow_of program.procs)) (called_by flow)) flow_of program.procs ∙
-    map_agree (λ (proc : Proc). filter_map (number_of (map flow_of program.procs)) (called_by proc.flow)) (λ (proc : Proc). filter_map (called_in program.procs) proc.flow.nodes) program.procs
-    (λ proc. calls_same program.procs proc.flow.nodes))
+    map_agree (λ (proc : Proc). filter_map (number_of (map flow_of program.procs)) (called_by proc.flow)) (λ (proc : Proc). filter_map (called_in (names_of (map flow_of program.procs))) proc.flow.nodes) program.procs
+    (λ proc. calls_same (map flow_of program.procs) proc.flow.nodes))
 
 pub names_are : (program : Program) → map (λ (proc : Proc). proc.flow.name) program.procs ≡ names_of (flows_of program)
 names_are program = sym (map_map (λ (flow : Flow). flow.name) flow_of program.procs)
@@ -101,7 +100,7 @@ named_proc program i name at =
     mapped_some (λ (proc : Proc). proc.flow.name) (slice_get program.procs i) name
     (sym (at_map (λ (proc : Proc). proc.flow.name) program.procs i) ∙ ap (λ names. slice_get names i) (names_are program) ∙ at)
 
-names_differ : (program : Program) → IsProgram program → (i j : ℕ) (name : List ℕ) → slice_get (names_of (flows_of program)) i ≡ Some name → slice_get (names_of (flows_of program)) j ≡ Some name → i ≡ j
+pub names_differ : (program : Program) → IsProgram program → (i j : ℕ) (name : List ℕ) → slice_get (names_of (flows_of program)) i ≡ Some name → slice_get (names_of (flows_of program)) j ≡ Some name → i ≡ j
 names_differ program formed i j name at_i at_j =
     let one = named_proc program i name at_i in
     let other = named_proc program j name at_j in

@@ -1,5 +1,5 @@
 -- Procedures at places, compared one by one.
-use Rattle.std.proofs.Common.{◌≡◌, ℕ, zero, suc, ◌+◌, ◌<◌, Bool, List, [], ◌∷◌, ◌++◌, length, slice_get, get_or, take, map, Some, None, Option, refl, sym, ap, ◌∙◌, subst, arith, All}
+use Rattle.std.proofs.Common.{◌≡◌, ℕ, zero, suc, ◌+◌, ◌<◌, List, [], ◌∷◌, ◌++◌, length, slice_get, get_or, take, Some, None, Option, refl, sym, ap, ◌∙◌, subst, arith, All}
 use Rattle.std.specs.List.{filter_map, cons_option}
 use Rattle.std.specs.Option.{option_map}
 use Rattle.std.proofs.lemmas.List.{length-map, take_more}
@@ -12,7 +12,7 @@ use Rattle.component_keys.specs.Structures.{structs_used}
 use Rattle.shape_data.specs.declared.program.StructDef.{StructDef}
 use Rattle.composed_keys.proofs.Noted.{more_at}
 use Rattle.std.proofs.lemmas.List.Elements.{All-head, All-tail}
-use Rattle.std.proofs.lemmas.Option.{slice_get-get_or, get_or_from_slice_get, slice_get_within}
+use Rattle.std.proofs.lemmas.Option.{slice_get-get_or}
 use Rattle.component_keys.proofs.Basics.{not_none, some_same, at_map}
 
 -- as many as places, where there is something at each

@@ -1,5 +1,6 @@
 pub mod Calls
 pub mod Placed
+pub mod Called
 pub mod Noted
 pub mod Recursion
 pub mod Components

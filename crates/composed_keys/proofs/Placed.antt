@@ -1,21 +1,16 @@
 -- The places of components, and whom they call outside.
-use Rattle.std.proofs.Common.{◌≡◌, ℕ, zero, suc, ◌+◌, ◌<◌, ◌==◌, Bool, true, false, cond, ◌&&◌, ◌||◌, not, List, [], ◌∷◌, ◌++◌, length, map, take, drop, slice_get, get_or, set, Some, None, Option, refl, sym, ap, ◌∙◌, subst, ⊎_elim, arith, All, filter, replicate, le_refl}
-use Rattle.std.specs.Prelude.{if◌then◌else◌, slice_index_or}
-use Rattle.std.specs.Option.{option_map}
-use Rattle.std.specs.List.{filter_map, cons_option, list_any}
+use Rattle.std.proofs.Common.{◌≡◌, ℕ, suc, ◌+◌, ◌<◌, ◌==◌, Bool, true, false, cond, ◌||◌, List, [], ◌∷◌, ◌++◌, length, map, take, drop, slice_get, get_or, set, refl, sym, ap, ◌∙◌, arith, All, filter, replicate, le_refl}
+use Rattle.std.specs.Prelude.{if◌then◌else◌}
+use Rattle.std.specs.List.{filter_map}
 use Rattle.std.proofs.lemmas.Bool.Decides.{Decides-eqb}
-use Rattle.std.proofs.lemmas.List.{take_more, length-set, length-map, get_or-set_same, get_or-set_other, length-replicate, drop_all, get_or-replicate}
-use Rattle.std.proofs.lemmas.List.Elements.{All-nil, All-cons, All-head, All-tail, All-filter, All-weaker}
-use Rattle.std.proofs.lemmas.List.Folds.{list_any-append}
-use Rattle.std.proofs.lemmas.Option.{get_or_from_slice_get, slice_get_within, slice_get-get_or}
+use Rattle.std.proofs.lemmas.List.{take_more, get_or-set_same, get_or-set_other, length-replicate, drop_all, get_or-replicate}
+use Rattle.std.proofs.lemmas.List.Elements.{All-head, All-tail, All-filter}
 use Rattle.std.proofs.Math.Seq.{drop-cons}
 use Rattle.shape_data.specs.declared.program.Flow.{Flow}
-use Rattle.call_components.specs.Reaching.{marked}
-use Rattle.call_components.proofs.Marking.{holds_push, or_or, or_false}
-use Rattle.component_keys.specs.Components.{holds, calls_of, by_name}
-use Rattle.component_keys.specs.Keys.{Component, Outer, is_outer, place_of, outer_at, component_of, components_over}
+use Rattle.call_components.proofs.Marking.{holds_push}
+use Rattle.component_keys.specs.Components.{holds, by_name}
+use Rattle.component_keys.specs.Keys.{is_outer, place_of, outer_at, component_of}
 use Rattle.composed_keys.specs.declared.rows.Component.{Component as Row}
-use Rattle.composed_keys.specs.declared.rows.Outer.{Outer as OuterRow}
 use Rattle.composed_keys.specs.Programs.{ArePut, ArePlaces}
 use Rattle.composed_keys.specs.Rows.{outer_value, component_value, outer_row, outer_in}
 
@@ -67,18 +62,6 @@ places_more count all place before places lt later lengths put = record {
     by_test number false e old =
         let same : drop (place + 1) all ≡ drop (suc place) all = ap (λ n. drop n all) (let f : place + 1 ≡ suc place = omega arith in f) in
         rw (drop-cons all place [] lt, e) (old ∙ ap (λ l. place + 1 + place_of number l) same ∙ omega arith)
-
--- ---- whom members call
-
-pub more_called : (calls : List (List ℕ)) (members : List ℕ) (i : ℕ) (first before after : List Bool) → ((number : ℕ) → marked before number ≡ (marked first number || list_any (λ member. holds (calls_of calls member) number) (take i members))) →
-    i < length members → ((number : ℕ) → marked after number ≡ (marked before number || holds (calls_of calls (get_or members i 0)) number)) →
-    (number : ℕ) → marked after number ≡ (marked first number || list_any (λ member. holds (calls_of calls member) number) (take (i + 1) members))
-more_called calls members i first before after so_far lt more number =
-    let one : ℕ = get_or members i 0 in
-    more number ∙ ap (λ b. b || holds (calls_of calls one) number) (so_far number) ∙ or_or (marked first number) _ _ ∙
-    ap (λ b. marked first number || b)
-    (sym (ap (λ l. list_any (λ member. holds (calls_of calls member) number) l) (take_more members i 0 lt) ∙ list_any-append (λ member. holds (calls_of calls member) number) (take i members) (one ∷ []) ∙
-    ap (λ b. list_any (λ member. holds (calls_of calls member) number) (take i members) || b) (or_false (holds (calls_of calls one) number))))
 
 -- ---- procedures outside
 

@@ -1,4 +1,5 @@
 pub mod Programs
 pub mod Rows
+pub mod Outside
 pub mod Used
 pub mod Calling

@@ -6,21 +6,20 @@ use Rattle.std.specs.declared.option.Option.TheVariants.{None}
 use Rattle.shape_data.specs.declared.program.Cmd.{Cmd}
 use Rattle.shape_data.specs.declared.program.Cmd.TheVariants as cmd
 use Rattle.shape_data.specs.declared.program.Node.{Node}
-use Rattle.shape_data.specs.declared.program.Proc.{Proc}
 use Rattle.component_keys.specs.Components.{holds}
 use Rattle.component_keys.specs.Keys.{place_of}
 
--- the place of the procedure of a name
-abbrev pub number_in : List Proc → List ℕ → Option ℕ
-number_in procs name = position (λ (proc : Proc). pointwise nat_eq proc.flow.name name) procs
+-- the place of a name
+abbrev pub number_in : List (List ℕ) → List ℕ → Option ℕ
+number_in names name = position (λ (other : List ℕ). pointwise nat_eq other name) names
 
--- the place of the procedure that a command calls
-abbrev pub number_called : List Proc → Cmd → Option ℕ
-number_called procs (cmd.Call to callee args next) = number_in procs callee
-number_called procs _ = None
+-- the place of the name of the procedure that a command calls
+abbrev pub number_called : List (List ℕ) → Cmd → Option ℕ
+number_called names (cmd.Call to callee args next) = number_in names callee
+number_called names _ = None
 
-abbrev pub called_in : List Proc → Node → Option ℕ
-called_in procs node = number_called procs node.cmd
+abbrev pub called_in : List (List ℕ) → Node → Option ℕ
+called_in names node = number_called names node.cmd
 
 -- the value stands at each of the places, and elsewhere what stood there
 abbrev pub ArePut : List ℕ → ℕ → List ℕ → List ℕ → Type 0

@@ -7,7 +7,9 @@ use Rattle.std.specs.declared.option.Option.TheVariants.{Some}
 use Rattle.shape_data.specs.declared.program.Flow.{Flow}
 use Rattle.composed_keys.specs.declared.rows.Component.{Component as Row}
 use Rattle.composed_keys.specs.declared.rows.Outer.{Outer as OuterRow}
+use Rattle.component_keys.specs.Components.{by_name, components}
 use Rattle.component_keys.specs.Keys.{Component, Outer, is_outer}
+use Rattle.composed_keys.specs.Programs.{ArePlaces}
 
 -- the procedure outside of a row
 abbrev pub outer_value : List Flow → OuterRow → Option Outer
@@ -34,3 +36,10 @@ outer_row places number = record { number = number; component = slice_index_or p
 -- the rows of the procedures outside of a class
 abbrev pub outer_in : List (List ℕ) → List ℕ → List ℕ → List ℕ → List OuterRow
 outer_in calls places order class = map (outer_row places) (filter (is_outer calls class) order)
+
+-- the rows of the components of a graph of calls, by the place of each procedure's component
+pub record AreRowsOf (names calls : List (List ℕ)) (made : List Row) : Type 0 where
+  pub members : map (λ (row : Row). row.members.items) made ≡ components names calls
+  pub places : List ℕ
+  pub placing : ArePlaces (length calls) (components names calls) 0 places
+  pub outer : map (λ (row : Row). row.outer.items) made ≡ map (outer_in calls places (by_name names (length names))) (components names calls)

@@ -3,6 +3,7 @@
 #![tactic(auto)]
 
 pub mod keys;
+pub mod outside;
 pub mod programs;
 pub mod rows;
 pub mod structures;

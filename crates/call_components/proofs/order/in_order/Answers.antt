@@ -1,11 +1,13 @@
--- The numbers so far are below the next one.
-use Rattle.std.proofs.Common.{◌<◌, ◌∙◌, All, length, arith, sym, subst}
-use Rattle.std.proofs.lemmas.List.Elements.{All-weaker}
-use Rattle.call_components.proofs.Naming.{by_name_below}
+-- What is sorted is the order of the definition.
+use Rattle.std.proofs.Common.{rules, length, ap, ◌∙◌, ◌≡◌}
+use Rattle.std.proofs.lemmas.Fn.{always_returns_same}
+use Rattle.std.specs.Ordering.{is_lt}
+use Rattle.call_components.specs.Sorting.{name_rank, below}
+use Rattle.call_components.proofs.Sorting.{ranks_numbers, sorted_is}
 use Rattle.call_components.proofs.order.in_order.Goals as goal
 
-pub place_in-place-requires-clause-order : goal.place_in-place-requires-clause-order
-place_in-place-requires-clause-order c =
-    let less : c.loop-number.number < length c.args.names.now = c.loop-number-test.true in
-    All-weaker (λ k. k < c.loop-number.number) (λ k. k < length c.args.names.now) (λ k lt. omega (arith, lt, less)) c.deref.result.now
-    (subst (All (λ k. k < c.loop-number.number)) (sym (c.deref.ensures.value ∙ c.loop-number.invariant)) (by_name_below c.args.names.now c.loop-number.number))
+pub returns : goal.returns
+returns c =
+    let all : c.loop-number.number ≡ length c.args.names.now = search rules in
+    sorted_is c.args.names.now (length c.args.names.now) c.loop-number.order.items _ (c.loop-number.invariant ∙ ap below all) c.sort_unstable_by.ensures.permutation
+    (c.sort_unstable_by.ensures.sorted (λ one other. is_lt (name_rank c.args.names.now one other)) (ranks_numbers c.args.names.now) (always_returns_same _ _ _ (λ a r f called. search rules)))

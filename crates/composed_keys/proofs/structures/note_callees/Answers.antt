@@ -1,4 +1,4 @@
-use Rattle.component_keys.specs.Structures.{type_struct, command_struct, atom_struct, named_by_heap, named_by_spec, named_by_flow, named_by_callee}
+use Rattle.component_keys.specs.Structures.{named_by_callee}
 use Rattle.composed_keys.proofs.Noted.{more_names}
 use Rattle.composed_keys.proofs.structures.note_callees.Goals as goal
 

@@ -1,13 +1,12 @@
 -- The walk goes from the structures that are named along those that fields point to.
 use Rattle.std.proofs.Common.{◌≡◌, ◌<◌, ◌∙◌, All, length, map, sym, ap, subst}
 use Rattle.std.proofs.lemmas.List.{length-map}
-use Rattle.std.proofs.lemmas.List.Elements.{All-weaker}
 use Rattle.std.proofs.lemmas.Result.{IfOk-weaker}
-use Rattle.component_keys.specs.Structures.{named_numbers, pointed_by, pointed_rows}
+use Rattle.component_keys.specs.Structures.{pointed_by}
 use Rattle.call_components.specs.Reaching.{AreDefined, rows}
 use Rattle.call_components.proofs.Naming.{by_name_below}
 use Rattle.shape_data.specs.declared.program.StructDef.{StructDef}
-use Rattle.std.specs.List.{filter_map, flat_map}
+use Rattle.std.specs.List.{flat_map}
 use Rattle.std.proofs.Common.{◌++◌}
 use Rattle.component_keys.specs.Structures.{named_by_callee, named_by_flow}
 use Rattle.composed_keys.proofs.Noted.{numbers_below, pointed_defined, used_are, shown_at}
