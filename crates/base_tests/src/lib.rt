@@ -6,6 +6,8 @@ mod flow_json_tests;
 #[cfg(test)]
 mod io_ports_tests;
 #[cfg(test)]
+mod keepers_tests;
+#[cfg(test)]
 mod reporters_tests;
 #[cfg(test)]
 mod session_generator_tests;

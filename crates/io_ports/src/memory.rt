@@ -1,11 +1,15 @@
-//! A source and a sink in memory of which given calls fail, for tests of faults in mid-stream. Each is the steady
-//! one beside the numbers of those calls; calls are numbered from 0.
-ghost use Rattle.std.specs.Prelude.{◌≡◌, ◌≢◌, ◌≤◌, ◌<◌, ◌↔◌, [], ◌++◌, length, take, min, if◌then◌else◌, is_err, IfOk, OnErr, IsErr, Contains};
+//! A source, a sink and a keeper in memory of which given calls fail, for tests of faults in mid-stream. Each is the
+//! steady one beside the numbers of those calls; calls are numbered from 0.
+ghost use Rattle.std.specs.Prelude.{◌≡◌, ◌≢◌, ◌≤◌, ◌<◌, ◌↔◌, ℕ, List, [], ◌++◌, length, take, min, if◌then◌else◌, is_err, IfOk, OnOk, OnErr, IsErr, Contains};
+ghost use Rattle.std.specs.declared.option.Option.TheVariants.{Some, None};
+ghost use Rattle.std.specs.Option.{option_map};
 ghost use Rattle.io_ports.specs.Counts.{next_count};
+ghost use Rattle.io_ports.specs.Places.{found, IsHeld, IsWithin};
 
+use crate::keeper::{Held, KeepFault, Keeper};
 use crate::sink::{Sink, SinkFault};
 use crate::source::{ReadFailed, Source};
-use crate::steady::{SteadySink, SteadySource};
+use crate::steady::{SteadyKeeper, SteadySink, SteadySource};
 use std::alloc::{AllocError, Global};
 use std::marker::Model;
 
@@ -142,5 +146,96 @@ impl Sink for MemorySink {
             return Err(SinkFault::Failed);
         }
         self.bytes.write(alloc, bytes)
+    }
+}
+
+/// Bytes in memory under paths, of which some readings and replacements fail. Both kinds of call are numbered in one
+/// row.
+#[derive(Drop, Debug)]
+pub struct MemoryKeeper {
+    files: SteadyKeeper,
+    fail_at: Vec<u64>,
+    calls: u64,
+    faults: u64,
+}
+
+impl Model for MemoryKeeper {
+    ghost use Rattle.io_ports.specs.Scripts.{KeeperScript};
+
+    ghost Value = { KeeperScript };
+
+    ghost view = { λ s. record { files = s.files; fail_at = s.fail_at.items; calls = s.calls; faults = s.faults } };
+}
+
+impl MemoryKeeper {
+    /// A keeper that has no path, whose calls of these numbers fail.
+    pub fn new(alloc: Global, fail_at: Vec<u64>) -> Result<Self, AllocError>
+        ensures { IfOk result (λ keeper.
+            keeper ≡ record { files = []; fail_at = fail_at.items; calls = 0; faults = 0 }) }
+    {
+        Ok(MemoryKeeper {
+            files: SteadyKeeper::new(alloc)?,
+            fail_at,
+            calls: 0,
+            faults: 0,
+        })
+    }
+
+    /// The bytes under a path.
+    pub fn get(&self, path: &str) -> Option<&[u8]>
+        ensures { option_map (λ bytes. bytes.now) result ≡ found self.now.files path.now }
+    {
+        self.files.get(path)
+    }
+}
+
+impl Keeper for MemoryKeeper {
+    ghost kept = { λ s path. Some (found s.files path) };
+
+    ghost faults = { λ s. s.faults };
+
+    fn read_all(&mut self, alloc: Global, path: &str) -> Result<Held, KeepFault>
+        ensures held { IfOk result (λ held. IsHeld (found self.old.files path.now) held) }
+        ensures within { IfOk result (λ held. IsWithin held) }
+        ensures same { self.new.files ≡ self.old.files }
+
+        // Which calls fail, and how they are counted.
+        ensures fails { (result ≡ Err KeepFault.Failed) ↔ Contains self.old.fail_at self.old.calls }
+        ensures fail_at { self.new.fail_at ≡ self.old.fail_at }
+        ensures calls { self.new.calls ≡ next_count self.old.calls }
+        ensures counted { result ≡ Err KeepFault.Failed → self.new.faults ≡ next_count self.old.faults }
+        ensures not_counted { result ≢ Err KeepFault.Failed → self.new.faults ≡ self.old.faults }
+        ensures never_falls { self.old.faults ≤ self.new.faults }
+    {
+        let fails = self.fail_at.contains(&self.calls);
+        self.calls = self.calls.saturating_add(1);
+        if fails {
+            self.faults = self.faults.saturating_add(1);
+            return Err(KeepFault::Failed);
+        }
+        self.files.read_all(alloc, path)
+    }
+
+    fn replace(&mut self, alloc: Global, path: &str, bytes: &[u8]) -> Result<(), KeepFault>
+        ensures replaced { OnOk result (found self.new.files path.now ≡ Some bytes.now) }
+        ensures others { (other : List ℕ) → other ≢ path.now →
+            found self.new.files other ≡ found self.old.files other }
+        ensures kept { OnErr result (found self.new.files path.now ≡ found self.old.files path.now) }
+
+        // Which calls fail, and how they are counted.
+        ensures fails { (result ≡ Err KeepFault.Failed) ↔ Contains self.old.fail_at self.old.calls }
+        ensures fail_at { self.new.fail_at ≡ self.old.fail_at }
+        ensures calls { self.new.calls ≡ next_count self.old.calls }
+        ensures counted { result ≡ Err KeepFault.Failed → self.new.faults ≡ next_count self.old.faults }
+        ensures not_counted { result ≢ Err KeepFault.Failed → self.new.faults ≡ self.old.faults }
+        ensures never_falls { self.old.faults ≤ self.new.faults }
+    {
+        let fails = self.fail_at.contains(&self.calls);
+        self.calls = self.calls.saturating_add(1);
+        if fails {
+            self.faults = self.faults.saturating_add(1);
+            return Err(KeepFault::Failed);
+        }
+        self.files.replace(alloc, path, bytes)
     }
 }

@@ -1,10 +1,15 @@
-//! A source and a sink in memory that never fail for another cause than want of memory: their counts of faults are
-//! the constant 0, so a caller knows that no fault came from them.
-ghost use Rattle.std.specs.Prelude.{◌≡◌, ◌<◌, [], ◌++◌, length, take, drop, min, IsOk, IfOk, IfErr, OnErr};
+//! A source, a sink and a keeper in memory that never fail for another cause than want of memory: their counts of
+//! faults are the constant 0, so a caller knows that no fault came from them.
+ghost use Rattle.std.specs.Prelude.{◌≡◌, ◌≢◌, ◌<◌, ℕ, List, [], ◌++◌, length, take, drop, min, IsOk, IfOk, IfErr, OnOk, OnErr};
+ghost use Rattle.std.specs.declared.option.Option.TheVariants.{Some, None};
+ghost use Rattle.std.specs.Option.{option_map};
+ghost use Rattle.io_ports.specs.Places.{found, IsHeld, IsWithin};
 
+use crate::keeper::{Held, KeepFault, Keeper, MOST_HELD};
 use crate::sink::{Sink, SinkFault};
 use crate::source::{ReadFailed, Source};
 use std::alloc::{AllocError, Global};
+use std::collections::BTreeMap;
 use std::marker::Model;
 
 /// Bytes in memory, which contracts see as those that are left.
@@ -115,6 +120,82 @@ impl Sink for SteadySink {
         match self.bytes.extend_from_slice(bytes) {
             Ok(()) => Ok(bytes.len()),
             Err(_) => Err(SinkFault::OutOfMemory),
+        }
+    }
+}
+
+/// Bytes in memory under paths, which contracts see as the map from the paths.
+#[derive(Drop, Debug)]
+pub struct SteadyKeeper {
+    files: BTreeMap<String, Vec<u8>>,
+}
+
+impl Model for SteadyKeeper {
+    ghost use Rattle.std.specs.Prelude.{List, map};
+    ghost use Rattle.io_ports.specs.Places.{Stored, stored};
+
+    ghost Value = { List Stored };
+
+    ghost view = { λ s. map stored s.files.entries };
+}
+
+impl SteadyKeeper {
+    /// A keeper that has no path.
+    pub fn new(alloc: Global) -> Result<Self, AllocError>
+        ensures { IfOk result (λ keeper. keeper ≡ []) }
+    {
+        Ok(SteadyKeeper {
+            files: BTreeMap::new(alloc),
+        })
+    }
+
+    /// The bytes under a path.
+    pub fn get(&self, path: &str) -> Option<&[u8]>
+        ensures { option_map (λ bytes. bytes.now) result ≡ found self.now path.now }
+    {
+        match self.files.get(path) {
+            Some(bytes) => Some(bytes.as_slice()),
+            None => None,
+        }
+    }
+}
+
+impl Keeper for SteadyKeeper {
+    ghost kept = { λ s path. Some (found s path) };
+
+    ghost faults = { λ _. 0 };
+
+    fn read_all(&mut self, alloc: Global, path: &str) -> Result<Held, KeepFault>
+        ensures held { IfOk result (λ held. IsHeld (found self.old path.now) held) }
+        ensures within { IfOk result (λ held. IsWithin held) }
+        ensures memory { IfErr result (λ fault. fault ≡ KeepFault.OutOfMemory) }
+        ensures same { self.new ≡ self.old }
+    {
+        match self.get(path) {
+            None => Ok(Held::Absent),
+            Some(bytes) if MOST_HELD < bytes.len() => Ok(Held::TooLong),
+            Some(bytes) => match Vec::from_slice(alloc, bytes) {
+                Ok(copy) => Ok(Held::Bytes(copy)),
+                Err(_) => Err(KeepFault::OutOfMemory),
+            },
+        }
+    }
+
+    fn replace(&mut self, alloc: Global, path: &str, bytes: &[u8]) -> Result<(), KeepFault>
+        ensures replaced { OnOk result (found self.new path.now ≡ Some bytes.now) }
+        ensures others { (other : List ℕ) → other ≢ path.now → found self.new other ≡ found self.old other }
+        ensures memory { IfErr result (λ fault. fault ≡ KeepFault.OutOfMemory) }
+        ensures kept { OnErr result (found self.new path.now ≡ found self.old path.now) }
+    {
+        let Ok(path) = String::from_str(alloc, path) else {
+            return Err(KeepFault::OutOfMemory);
+        };
+        let Ok(bytes) = Vec::from_slice(alloc, bytes) else {
+            return Err(KeepFault::OutOfMemory);
+        };
+        match self.files.insert(path, bytes) {
+            Ok(_) => Ok(()),
+            Err(_) => Err(KeepFault::OutOfMemory),
         }
     }
 }

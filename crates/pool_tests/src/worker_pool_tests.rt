@@ -3,6 +3,7 @@ mod toy;
 
 use crate::worker_pool_tests::toy::{Asks, Meeting, Sketch, Toy, Yields, program, wide};
 use claim_core::Event;
+use io_ports::{Gate, OpenGate};
 use shape_data::Name;
 use std::alloc::{AllocError, Global};
 use std::process::Abort;
@@ -11,7 +12,6 @@ use std::sync::atomic::{AtomicU64, Ordering};
 use std::test::*;
 use std::thread::Threads;
 use summary_book::{Aim, Book};
-use worker_pool::gate::{Gate, OpenGate};
 use worker_pool::pool::{Joined, run_pool};
 
 /// How many events of each kind a log has.

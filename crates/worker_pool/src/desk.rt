@@ -10,11 +10,11 @@ ghost use Rattle.shape_data.specs.Sizes.{HasProgramSizes};
 ghost use Rattle.shape_data.specs.WellFormed.{IsProgram};
 ghost use Rattle.worker_pool.specs.Entries.{AreEntries};
 
-use crate::gate::Gate;
 use crate::locked::Locked;
 use crate::shares::{Hands, SolveShare};
 use crate::turn::Turn;
 use claim_core::{Claim, Job, Tally};
+use io_ports::Gate;
 use shape_data::answer::Kept;
 use shape_data::program::Program;
 use std::alloc::{AllocError, Global};

@@ -8,13 +8,12 @@ mod counted;
 pub mod desk;
 mod ended;
 pub mod entries;
-pub mod gate;
 mod locked;
 pub mod pool;
 pub mod shares;
 mod turn;
 
 pub use desk::Desk;
-pub use gate::{Gate, OpenGate};
+pub use io_ports::{Gate, OpenGate};
 pub use pool::{Joined, Leader, run_pool};
 pub use shares::Hands;

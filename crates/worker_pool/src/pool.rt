@@ -4,10 +4,10 @@ ghost use Rattle.claim_laws.specs.Logs.{IsLegal, published, replay};
 
 use crate::counted::Counted;
 use crate::desk::Desk;
-use crate::gate::Gate;
 use crate::locked::Locked;
 use crate::shares::{Hands, SolveShare};
 use claim_core::Job;
+use io_ports::Gate;
 use std::alloc::{AllocError, Global};
 use std::marker::Brand;
 use std::sync::Wait;

@@ -2,6 +2,7 @@
 ghost use Rattle.std.specs.Prelude.{◌≡◌, ◌≤◌, IfOk, vec_len};
 
 use claim_core::{Job, Meaning, Solved, Tally, has_program_sizes};
+use io_ports::Gate;
 use shape_data::answer::{Answer, Kept, Key, ProcSummary, Reason};
 use shape_data::program::{Cmd, Flow, Node, Operand, Proc, Program, Ty};
 use shape_data::symbolic::{Cert, Spec, SymState};
@@ -13,7 +14,6 @@ use std::sync::{Arc, Wait};
 use std::thread;
 use summary_book::Aim;
 use worker_pool::desk::Desk;
-use worker_pool::gate::Gate;
 use worker_pool::pool::Leader;
 use worker_pool::shares::Hands;
 
