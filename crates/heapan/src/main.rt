@@ -1,11 +1,12 @@
-//! The program. It hands the real words, standard input and standard output to the top call, and ends with the number
-//! of its status; what is promised of it is that call's contract.
+//! The program. It hands the real words, standard input and standard output to the top call, with a gate that is always open, and ends with the number of its status; what is promised of it is that call's contract.
 #![tactic(auto)]
 
 use heapan_top::run;
-use io_ports::{ReaderSource, WriterSink};
+use io_ports::{OpenGate, ReaderSource, WriterSink};
 use std::process::ExitCode;
 use std::rt::Env;
+use std::sync::Wait;
+use std::thread::Threads;
 use std::{env, io};
 
 /// What the process ends with where memory for the words is refused; nothing is written then.
@@ -22,13 +23,14 @@ fn words<R: Env + AllocGlobal>(rt: &R) -> io::Result<Vec<String>> {
 
 /// Runs the top call on the process's own words and streams. Where a word, or the program's own name, is not text, the
 /// words are other words than those that the program takes, as no words are.
-fn status<R: Env + AllocGlobal + Input + Print>(rt: &R) -> u8 {
+fn status<R: Env + AllocGlobal + Input + Print + Threads + Wait + Sync>(rt: &R) -> u8 {
+    let alloc = rt.alloc();
     let texts = match words(rt) {
         Ok(texts) => texts,
         Err(fault) if fault.kind() == io::ErrorKind::OutOfMemory => return NO_MEMORY,
-        Err(_) => Vec::new(rt.alloc()),
+        Err(_) => Vec::new(alloc),
     };
-    let mut words = Vec::new(rt.alloc());
+    let mut words = Vec::new(alloc);
     for text in &texts {
         if words.push(text.as_str()).is_err() {
             return NO_MEMORY;
@@ -36,9 +38,16 @@ fn status<R: Env + AllocGlobal + Input + Print>(rt: &R) -> u8 {
     }
     let mut source = ReaderSource::new(rt.reader());
     let mut sink = WriterSink::new(io::writer(rt));
-    run(rt.alloc(), words.as_slice(), &mut source, &mut sink)
-        .status
-        .code()
+    run(
+        rt,
+        alloc,
+        words.as_slice(),
+        &mut source,
+        &mut sink,
+        &OpenGate,
+    )
+    .status
+    .code()
 }
 
 fn main(rt: HostRuntime) -> ExitCode {

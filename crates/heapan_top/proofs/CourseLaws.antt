@@ -258,3 +258,7 @@ reads_through one two three (xs, is) (ys, also) = (xs ++ ys, is ∙ ap (before_l
 
 pub reads_source : (told left : Option (List ℕ)) (ahead : List ℕ) → ReadsFront told (before_left ahead left) → ReadsFront told left
 reads_source told left ahead reads = reads_through told (before_left ahead left) left reads (ahead, refl)
+
+pub reads_none : (told : Option (List ℕ)) → ReadsFront told told
+reads_none None = ([], refl)
+reads_none (Some bytes) = ([], refl)

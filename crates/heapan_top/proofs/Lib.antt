@@ -3,5 +3,4 @@ pub mod Completing
 pub mod CourseLaws
 pub mod Printing
 pub mod ReplyLaws
-pub mod Words
 pub mod WorkLaws

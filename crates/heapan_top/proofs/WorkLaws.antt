@@ -3,8 +3,6 @@ use Rattle.std.proofs.Common.{◌≡◌, ◌≢◌, ℕ, ◌+◌, ◌-◌, ◌�
 use Rattle.std.specs.Prelude.{IfSome}
 use Rattle.std.proofs.lemmas.List.{append_cancel_left, length-take}
 use Rattle.io_ports.specs.Bytes.{after_held}
-use Rattle.claim_laws.specs.Logs.{published}
-use Rattle.claim_laws.specs.World.{Event}
 use Rattle.summary_book.specs.declared.aims.Aim.{Aim}
 use Rattle.shape_data.specs.declared.program.Program.{Program}
 use Rattle.session_lines.specs.declared.command.Command.{Command}
@@ -14,8 +12,7 @@ use Rattle.session_lines.specs.Lines.{IsFirst}
 use Rattle.session_lines.specs.Reading.{IsMalformed, IsTaken, Reading}
 use Rattle.session_replies.specs.Answers.{Answers, Present}
 use Rattle.session_replies.specs.Laws.{OneAnswer}
-use Rattle.session_replies.specs.Work.{Extends, IsWorked, Tells, count_reached}
-use Rattle.session_replies.proofs.Working.{grown}
+use Rattle.session_replies.specs.Work.{IsWorked, Tells, count_reached}
 use Rattle.heapan_top.specs.declared.status.Status.{Status}
 use Rattle.heapan_top.specs.Headline.{Appends}
 use Rattle.heapan_top.specs.Parts.{Ends, EndsCounted, GoesOn, IsAt, IsDone, IsReplyWork, IsWork, course_of}
@@ -42,8 +39,8 @@ nothing_before (x ∷ text) more is = cc
 pub none_counted : (course : Course) (stream : List ℕ) (solves : ℕ) → AreCounted course stream [] solves
 none_counted course stream solves text count prints (more, is) = absurd (not_empty course stream text count prints (nothing_before text more is))
 
-pub nothing_counted : (course : Course) (stream : List ℕ) (held : Option (List ℕ)) (log : List Event) → EndsCounted course stream held held log
-nothing_counted course stream held log = ([], sym (held-nil held), λ solves enough. none_counted course stream solves)
+pub nothing_counted : (course : Course) (stream : List ℕ) (held : Option (List ℕ)) (seen : ℕ) → EndsCounted course stream held held seen
+nothing_counted course stream held seen = ([], sym (held-nil held), λ solves enough. none_counted course stream solves)
 
 -- so it is from the beginning
 pub none_appended : (told held : Option (List ℕ)) (solves : ℕ) → IfSome told (λ stream. AppendsCounted stream held held solves)
@@ -51,9 +48,9 @@ none_appended None held solves = tt
 none_appended (Some stream) held solves = ([], sym (held-nil held), none_counted beginning stream solves)
 
 -- of a stream that is told, or not
-pub nothing_told : (told held : Option (List ℕ)) (course : Course) (log : List Event) → IfSome told (λ stream. EndsCounted course stream held held log)
-nothing_told None held course log = tt
-nothing_told (Some stream) held course log = nothing_counted course stream held log
+pub nothing_told : (told held : Option (List ℕ)) (course : Course) (seen : ℕ) → IfSome told (λ stream. EndsCounted course stream held held seen)
+nothing_told None held course seen = tt
+nothing_told (Some stream) held course seen = nothing_counted course stream held seen
 
 -- ---- a line that refuses
 
@@ -71,23 +68,23 @@ refusal_counted course stream written solves none _ _ (Prints.here _ _ rest aske
 refusal_counted course stream written solves none _ _ (Prints.behind _ _ rest asked text more after count few first answers prints) begins =
     absurd (none asked rest text course.present after first answers)
 
-line_counted : (course : Course) (stream line : List ℕ) (old new : Option (List ℕ)) (log : List Event) (planned ended : Status) → AnswersNone stream → Ends old new line planned ended →
-    EndsCounted course stream old new log
-line_counted course stream line old new log planned ended none ends =
+line_counted : (course : Course) (stream line : List ℕ) (old new : Option (List ℕ)) (seen : ℕ) (planned ended : Status) → AnswersNone stream → Ends old new line planned ended →
+    EndsCounted course stream old new seen
+line_counted course stream line old new seen planned ended none ends =
     let own = refusal_written old new line planned ended ends in
     (own.0, own.1, λ solves enough. refusal_counted course stream own.0 solves none)
 
-pub breaks_counted : (told old new : Option (List ℕ)) (reading : Reading) (present : Present) (log : List Event) (number offset : ℕ) (line : List ℕ) (planned ended : Status) →
-    IfSome told (λ stream. IsMalformed reading stream number offset) → Ends old new line planned ended → IfSome told (λ stream. EndsCounted (course_of reading present) stream old new log)
-breaks_counted None old new reading present log number offset line planned ended malformed ends = tt
-breaks_counted (Some stream) old new reading present log number offset line planned ended malformed ends =
-    line_counted (course_of reading present) stream line old new log planned ended (λ asked rest text before after first answers. malformed.none asked rest first) ends
+pub breaks_counted : (told old new : Option (List ℕ)) (reading : Reading) (present : Present) (seen : ℕ) (number offset : ℕ) (line : List ℕ) (planned ended : Status) →
+    IfSome told (λ stream. IsMalformed reading stream number offset) → Ends old new line planned ended → IfSome told (λ stream. EndsCounted (course_of reading present) stream old new seen)
+breaks_counted None old new reading present seen number offset line planned ended malformed ends = tt
+breaks_counted (Some stream) old new reading present seen number offset line planned ended malformed ends =
+    line_counted (course_of reading present) stream line old new seen planned ended (λ asked rest text before after first answers. malformed.none asked rest first) ends
 
 module _ (one_first : OneFirst) where
-  pub saves_counted : (course : Course) (stream rest line : List ℕ) (asked : Command) (old new : Option (List ℕ)) (log : List Event) (planned ended : Status) → IsFirst stream asked rest → asked ≡ command.Save →
-      Ends old new line planned ended → EndsCounted course stream old new log
-  saves_counted course stream rest line asked old new log planned ended first is ends =
-      line_counted course stream line old new log planned ended
+  pub saves_counted : (course : Course) (stream rest line : List ℕ) (asked : Command) (old new : Option (List ℕ)) (seen : ℕ) (planned ended : Status) → IsFirst stream asked rest → asked ≡ command.Save →
+      Ends old new line planned ended → EndsCounted course stream old new seen
+  saves_counted course stream rest line asked old new seen planned ended first is ends =
+      line_counted course stream line old new seen planned ended
       (λ other later text before after first' answers.
       let same = one_first stream later rest other asked first' first in
       never text before after (subst (λ one. Answers before one text after) (same.0 ∙ is) answers)) ends
@@ -96,7 +93,7 @@ module _ (one_first : OneFirst) where
       never text before after answers = elim answers [ ]
 
   module _ (one_answer : OneAnswer) (course : Course) (stream rest : List ℕ) (asked : Command) (first : IsFirst stream asked rest) (text : List ℕ) (after : Present)
-      (answers : Answers course.present asked text after) (log : List Event) (worked : IsWorked course.present asked log) (solves : ℕ) (enough : published log ≤ solves) where
+      (answers : Answers course.present asked text after) (seen : ℕ) (worked : IsWorked course.present asked seen) (solves : ℕ) (enough : seen ≤ solves) where
     -- the first command and its answer are these
     record IsSame (rest' : List ℕ) (asked' : Command) (text' : List ℕ) (after' : Present) : Type 0 where
       asked_is : asked' ≡ asked
@@ -150,50 +147,50 @@ module _ (one_first : OneFirst) where
 -- ---- a command
 
 module _ (one_first : OneFirst) (one_answer : OneAnswer) where
-  replied_work : (course : Course) (stream rest : List ℕ) (asked : Command) (after : Present) (old new : Option (List ℕ)) (log : List Event) (result : Option Status) → IsFirst stream asked rest →
-      IsReplyWork course.present asked old after new log result → IsWork course stream old (one_behind course (length stream - length rest) after) (Some rest) new log result
-  replied_work course stream rest asked after old new log None first (text, answers, all, worked) = record {
+  replied_work : (course : Course) (stream rest : List ℕ) (asked : Command) (after : Present) (old new : Option (List ℕ)) (seen : ℕ) (result : Option Status) → IsFirst stream asked rest →
+      IsReplyWork course.present asked old after new seen result → IsWork course stream old (one_behind course (length stream - length rest) after) (Some rest) new seen result
+  replied_work course stream rest asked after old new seen None first (text, answers, all, worked) = record {
     text = text;
     rest = rest;
     is_left = refl;
     appends = all;
-    carries = λ written solves enough again. reply_counted one_first one_answer course stream rest asked first text after answers log worked solves enough written again;
+    carries = λ written solves enough again. reply_counted one_first one_answer course stream rest asked first text after answers seen worked solves enough written again;
   }
-  replied_work course stream rest asked after old new log (Some ended) first (inl is) =
-      subst (λ held. EndsCounted course stream old held log) (sym is) (nothing_counted course stream old log)
-  replied_work course stream rest asked after old new log (Some ended) first (inr (text, later, answers, (size, some), worked)) =
-      (take size text, some, λ solves enough. front_counted one_first one_answer course stream rest asked first text later answers log worked solves enough size)
+  replied_work course stream rest asked after old new seen (Some ended) first (inl is) =
+      subst (λ held. EndsCounted course stream old held seen) (sym is) (nothing_counted course stream old seen)
+  replied_work course stream rest asked after old new seen (Some ended) first (inr (text, later, answers, (size, some), worked)) =
+      (take size text, some, λ solves enough. front_counted one_first one_answer course stream rest asked first text later answers seen worked solves enough size)
 
-  pub turned_work : (course : Course) (present : Present) (number offset : ℕ) (stream rest : List ℕ) (asked : Command) (after : Present) (old new : Option (List ℕ)) (log : List Event) (result : Option Status) →
-      IsAt course present number offset → IsFirst stream asked rest → IsReplyWork present asked old after new log result →
-      IsWork course stream old (one_behind course (length stream - length rest) after) (Some rest) new log result
-  turned_work course present number offset stream rest asked after old new log result at first work =
-      replied_work course stream rest asked after old new log result first (subst (λ (p : Present). IsReplyWork p asked old after new log result) (sym at.present_is) work)
+  pub turned_work : (course : Course) (present : Present) (number offset : ℕ) (stream rest : List ℕ) (asked : Command) (after : Present) (old new : Option (List ℕ)) (seen : ℕ) (result : Option Status) →
+      IsAt course present number offset → IsFirst stream asked rest → IsReplyWork present asked old after new seen result →
+      IsWork course stream old (one_behind course (length stream - length rest) after) (Some rest) new seen result
+  turned_work course present number offset stream rest asked after old new seen result at first work =
+      replied_work course stream rest asked after old new seen result first (subst (λ (p : Present). IsReplyWork p asked old after new seen result) (sym at.present_is) work)
 
 -- what follows a command, for any course and stream
-abbrev pub FollowsWork : Present → Command → ℕ → ℕ → Option (List ℕ) → Present → Option (List ℕ) → List Event → Option Status → Type 0
-FollowsWork present asked number offset old after new log result =
+abbrev pub FollowsWork : Present → Command → ℕ → ℕ → Option (List ℕ) → Present → Option (List ℕ) → ℕ → Option Status → Type 0
+FollowsWork present asked number offset old after new seen result =
     (course : Course) (stream rest : List ℕ) → IsAt course present number offset → IsFirst stream asked rest →
-    IsWork course stream old (one_behind course (length stream - length rest) after) (Some rest) new log result
+    IsWork course stream old (one_behind course (length stream - length rest) after) (Some rest) new seen result
 
 -- a command was taken, and followed
-pub takes_work : (told left old new : Option (List ℕ)) (reading later : Reading) (present after : Present) (asked : Command) (number offset : ℕ) (log : List Event) (result : Option Status) →
-    number ≡ reading.taken + 1 → offset ≡ reading.offset → IfSome told (λ stream. IsTaken reading later stream left asked) → FollowsWork present asked number offset old after new log result →
-    IfSome told (λ stream. IsWork (course_of reading present) stream old (course_of later after) left new log result)
-takes_work None left old new reading later present after asked number offset log result is_number is_offset taken follows = tt
-takes_work (Some stream) left old new reading later present after asked number offset log result is_number is_offset taken follows =
+pub takes_work : (told left old new : Option (List ℕ)) (reading later : Reading) (present after : Present) (asked : Command) (number offset : ℕ) (seen : ℕ) (result : Option Status) →
+    number ≡ reading.taken + 1 → offset ≡ reading.offset → IfSome told (λ stream. IsTaken reading later stream left asked) → FollowsWork present asked number offset old after new seen result →
+    IfSome told (λ stream. IsWork (course_of reading present) stream old (course_of later after) left new seen result)
+takes_work None left old new reading later present after asked number offset seen result is_number is_offset taken follows = tt
+takes_work (Some stream) left old new reading later present after asked number offset seen result is_number is_offset taken follows =
     let work = follows (course_of reading present) stream taken.rest (record { present_is = refl; number_is = is_number; offset_is = is_offset; few = taken.counted.few }) taken.first in
     let same : one_behind (course_of reading present) (length stream - length taken.rest) after ≡ course_of later after =
     ap (λ n. record { taken = n; offset = reading.offset + (length stream - length taken.rest); present = after }) (sym taken.counted.taken) ∙ ap (λ o. record { taken = later.taken; offset = o; present = after }) (sym taken.counted.offset) in
-    subst (λ (o : Option (List ℕ)). IsWork (course_of reading present) stream old (course_of later after) o new log result) (sym taken.is_left)
-    (subst (λ (course : Course). IsWork (course_of reading present) stream old course (Some taken.rest) new log result) same work)
+    subst (λ (o : Option (List ℕ)). IsWork (course_of reading present) stream old (course_of later after) o new seen result) (sym taken.is_left)
+    (subst (λ (course : Course). IsWork (course_of reading present) stream old course (Some taken.rest) new seen result) same work)
 
 -- ---- one after another
 
 -- nothing was done
-pub none_done : (told held : Option (List ℕ)) (log : List Event) → IsDone told held beginning told held log
-none_done None held log = tt
-none_done (Some stream) held log = record {
+pub none_done : (told held : Option (List ℕ)) (seen : ℕ) → IsDone told held beginning told held seen
+none_done None held seen = tt
+none_done (Some stream) held seen = record {
   text = [];
   rest = stream;
   is_left = refl;
@@ -201,14 +198,14 @@ none_done (Some stream) held log = record {
   carries = λ written solves enough counted. counted;
 }
 
-module _ (before log : List Event) (more : Extends before log) where
-  fewer : (solves : ℕ) → published log ≤ solves → published before ≤ solves
-  fewer solves enough = let less = grown before log more in omega (arith, less, enough)
+module _ (before seen : ℕ) (more : before ≤ seen) where
+  fewer : (solves : ℕ) → seen ≤ solves → before ≤ solves
+  fewer solves enough = omega (arith, more, enough)
 
   work_behind : (course mid after : Course) (stream : List ℕ) (old between new : Option (List ℕ)) (left left' : Option (List ℕ)) → GoesOn course stream old mid left between before →
-      IfSome left (λ rest. GoesOn mid rest between after left' new log) → GoesOn course stream old after left' new log
+      IfSome left (λ rest. GoesOn mid rest between after left' new seen) → GoesOn course stream old after left' new seen
   work_behind course mid after stream old between new left left' one two =
-      let other : GoesOn mid one.rest between after left' new log = subst (λ (o : Option (List ℕ)). IfSome o (λ rest. GoesOn mid rest between after left' new log)) one.is_left two in
+      let other : GoesOn mid one.rest between after left' new seen = subst (λ (o : Option (List ℕ)). IfSome o (λ rest. GoesOn mid rest between after left' new seen)) one.is_left two in
       record {
         text = one.text ++ other.text;
         rest = other.rest;
@@ -220,18 +217,24 @@ module _ (before log : List Event) (more : Extends before log) where
       }
 
   pub done_more : (told left left' old between new : Option (List ℕ)) (mid after : Course) (result : Option Status) → result ≡ None → IsDone told old mid left between before →
-      IfSome left (λ rest. IsWork mid rest between after left' new log result) → IsDone told old after left' new log
+      IfSome left (λ rest. IsWork mid rest between after left' new seen result) → IsDone told old after left' new seen
   done_more None left left' old between new mid after result is done work = tt
   done_more (Some stream) left left' old between new mid after result is done work =
-      work_behind beginning mid after stream old between new left left' done (subst (λ (r : Option Status). IfSome left (λ rest. IsWork mid rest between after left' new log r)) is work)
+      work_behind beginning mid after stream old between new left left' done (subst (λ (r : Option Status). IfSome left (λ rest. IsWork mid rest between after left' new seen r)) is work)
 
   pub all_done : (told left left' old between new : Option (List ℕ)) (mid after : Course) (result : Option Status) (ended : Status) → result ≡ Some ended → IsDone told old mid left between before →
-      IfSome left (λ rest. IsWork mid rest between after left' new log result) → IfSome told (λ stream. AppendsCounted stream old new (published log))
+      IfSome left (λ rest. IsWork mid rest between after left' new seen result) → IfSome told (λ stream. AppendsCounted stream old new seen)
   all_done None left left' old between new mid after result ended is done work = tt
   all_done (Some stream) left left' old between new mid after result ended is done work =
-      let ends : IfSome left (λ rest. EndsCounted mid rest between new log) = subst (λ (r : Option Status). IfSome left (λ rest. IsWork mid rest between after left' new log r)) is work in
-      let own : EndsCounted mid done.rest between new log = subst (λ (o : Option (List ℕ)). IfSome o (λ rest. EndsCounted mid rest between new log)) done.is_left ends in (
+      let ends : IfSome left (λ rest. EndsCounted mid rest between new seen) = subst (λ (r : Option Status). IfSome left (λ rest. IsWork mid rest between after left' new seen r)) is work in
+      let own : EndsCounted mid done.rest between new seen = subst (λ (o : Option (List ℕ)). IfSome o (λ rest. EndsCounted mid rest between new seen)) done.is_left ends in (
         done.text ++ own.0,
         own.1 ∙ ap (λ held. after_held held own.0) done.appends ∙ held-append old done.text own.0,
-        done.carries own.0 (published log) (let less = grown before log more in less) (own.2 (published log) (omega arith)),
+        done.carries own.0 seen more (own.2 seen (omega arith)),
       )
+
+-- more publishes are enough, too
+pub counted_more : (told old new : Option (List ℕ)) (seen solves : ℕ) → seen ≤ solves → IfSome told (λ stream. AppendsCounted stream old new seen) → IfSome told (λ stream. AppendsCounted stream old new solves)
+counted_more None old new seen solves enough counted = tt
+counted_more (Some stream) old new seen solves enough (written, all, counted) =
+    (written, all, λ text count prints begins. let few = counted text count prints begins in omega (arith, few, enough))

@@ -1,7 +1,8 @@
 -- What the one call that does everything promises: which bytes are written, and which status comes when.
-use Rattle.std.specs.Prelude.{◌≡◌, ℕ, List, [], ◌∷◌, ◌⊎◌, codes, map, take}
+use Rattle.std.specs.Prelude.{◌≡◌, ℕ, true, List, ◌⊎◌, codes, is_some, map, take}
 use Rattle.std.specs.Borrow.{Bor}
 use Rattle.std.specs.declared.option.Option.{Option}
+use Rattle.command_words.specs.Words.{workers_asked}
 use Rattle.io_ports.specs.Bytes.{after_held, before_left}
 use Rattle.report_text.specs.Report.{line_of}
 use Rattle.heapan_top.specs.declared.status.Status.{Status}
@@ -12,13 +13,13 @@ use Rattle.heapan_top.specs.Replies.{Course, Replies, beginning}
 abbrev pub word_bytes : List (Bor (List ℕ)) → List (List ℕ)
 word_bytes words = map (λ (word : Bor (List ℕ)). word.now) words
 
--- the one word that the program takes
+-- the words are of the form that the program takes: they ask for some number of workers
 abbrev pub AreRightWords : List (List ℕ) → Type 0
-AreRightWords words = words ≡ codes "session" ∷ []
+AreRightWords words = is_some (workers_asked words) ≡ true
 
 -- what is written for other words
 abbrev pub usage_line : List ℕ
-usage_line = line_of (codes "usage: heapan session")
+usage_line = line_of (codes "usage: heapan session [--workers N]")
 
 -- all of the bytes were appended to what was held, where that is told
 abbrev pub Appends : Option (List ℕ) → Option (List ℕ) → List ℕ → Type 0

@@ -1,16 +1,15 @@
 -- What the parts of the program promise one another. No contract of a call that other crates see cites it.
-use Rattle.std.specs.Prelude.{◌≡◌, ℕ, ◌+◌, ◌<◌, ◌≤◌, Option, Some, None, IfSome, List, ◌++◌, ◌⊎◌}
-use Rattle.claim_laws.specs.Logs.{published}
-use Rattle.claim_laws.specs.World.{Event}
+use Rattle.std.specs.Prelude.{◌≡◌, ◌≢◌, ℕ, ◌+◌, ◌<◌, ◌≤◌, Option, Some, None, IfSome, List, ◌++◌, ◌⊎◌}
+use Rattle.io_ports.specs.Counts.{Rose}
 use Rattle.session_lines.specs.declared.command.Command.{Command}
 use Rattle.session_lines.specs.Reading.{Reading}
 use Rattle.session_replies.specs.Answers.{Answers as AnswersCommand, Present}
 use Rattle.session_replies.specs.Work.{IsWorked}
 use Rattle.heapan_top.specs.declared.status.Status.{Status}
 use Rattle.heapan_top.specs.declared.status.Status.TheVariants as status
-use Rattle.heapan_top.specs.Headline.{Answers, Appends, AppendsSome}
+use Rattle.heapan_top.specs.Headline.{Answers, AnswersSession, Appends, AppendsSome, ReadsFront}
 use Rattle.heapan_top.specs.Replies.{Course, Replies, beginning}
-use Rattle.heapan_top.specs.Work.{AreCounted}
+use Rattle.heapan_top.specs.Work.{AppendsCounted, AreCounted}
 
 -- how far a session came, by its reader and by what is present
 abbrev pub course_of : Reading → Present → Course
@@ -66,28 +65,39 @@ IsOneMore old new = (old < 65536) × (new ≡ old + 1)
 
 -- WORK
 
--- the answer to a command was written, and its work is done; or a front of it
-abbrev pub IsReplyWork : Present → Command → Option (List ℕ) → Present → Option (List ℕ) → List Event → Option Status → Type 0
-IsReplyWork present asked old after new log None = (text : List ℕ) × AnswersCommand present asked text after × Appends old new text × IsWorked present asked log
-IsReplyWork present asked old after new log (Some ended) =
-    (new ≡ old) ⊎ ((text : List ℕ) × (later : Present) × AnswersCommand present asked text later × AppendsSome old new text × IsWorked present asked log)
+-- the answer to a command was written, and so many publishes were seen by then; or a front of it
+abbrev pub IsReplyWork : Present → Command → Option (List ℕ) → Present → Option (List ℕ) → ℕ → Option Status → Type 0
+IsReplyWork present asked old after new seen None = (text : List ℕ) × AnswersCommand present asked text after × Appends old new text × IsWorked present asked seen
+IsReplyWork present asked old after new seen (Some ended) =
+    (new ≡ old) ⊎ ((text : List ℕ) × (later : Present) × AnswersCommand present asked text later × AppendsSome old new text × IsWorked present asked seen)
 
--- from one course over a stream a session came, with these bytes written and this work done, to another course over what is left
-pub record GoesOn (course : Course) (stream : List ℕ) (old : Option (List ℕ)) (after : Course) (left new : Option (List ℕ)) (log : List Event) : Type 0 where
+-- from one course over a stream a session came, with these bytes written and so many publishes seen, to another course over what is left
+pub record GoesOn (course : Course) (stream : List ℕ) (old : Option (List ℕ)) (after : Course) (left new : Option (List ℕ)) (seen : ℕ) : Type 0 where
   pub text : List ℕ
   pub rest : List ℕ
   pub is_left : left ≡ Some rest
   pub appends : Appends old new text
-  pub carries : (written : List ℕ) (solves : ℕ) → published log ≤ solves → AreCounted after rest written solves → AreCounted course stream (text ++ written) solves
+  pub carries : (written : List ℕ) (solves : ℕ) → seen ≤ solves → AreCounted after rest written solves → AreCounted course stream (text ++ written) solves
 
 -- this was written last
-abbrev pub EndsCounted : Course → List ℕ → Option (List ℕ) → Option (List ℕ) → List Event → Type 0
-EndsCounted course stream old new log = (written : List ℕ) × Appends old new written × ((solves : ℕ) → published log ≤ solves → AreCounted course stream written solves)
+abbrev pub EndsCounted : Course → List ℕ → Option (List ℕ) → Option (List ℕ) → ℕ → Type 0
+EndsCounted course stream old new seen = (written : List ℕ) × Appends old new written × ((solves : ℕ) → seen ≤ solves → AreCounted course stream written solves)
 
-abbrev pub IsWork : Course → List ℕ → Option (List ℕ) → Course → Option (List ℕ) → Option (List ℕ) → List Event → Option Status → Type 0
-IsWork course stream old after left new log None = GoesOn course stream old after left new log
-IsWork course stream old after left new log (Some ended) = EndsCounted course stream old new log
+abbrev pub IsWork : Course → List ℕ → Option (List ℕ) → Course → Option (List ℕ) → Option (List ℕ) → ℕ → Option Status → Type 0
+IsWork course stream old after left new seen None = GoesOn course stream old after left new seen
+IsWork course stream old after left new seen (Some ended) = EndsCounted course stream old new seen
 
 -- the work was done from the beginning
-abbrev pub IsDone : Option (List ℕ) → Option (List ℕ) → Course → Option (List ℕ) → Option (List ℕ) → List Event → Type 0
-IsDone told old course left new log = IfSome told (λ stream. GoesOn beginning stream old course left new log)
+abbrev pub IsDone : Option (List ℕ) → Option (List ℕ) → Course → Option (List ℕ) → Option (List ℕ) → ℕ → Type 0
+IsDone told old course left new seen = IfSome told (λ stream. GoesOn beginning stream old course left new seen)
+
+-- LEADING
+
+-- what a leader does at a desk: the stream that its source has is answered, and it has seen so many publishes
+pub record IsLed (told left old new : Option (List ℕ)) (read_faults read_faults' write_faults write_faults' : ℕ) (ended : Status) (seen : ℕ) : Type 0 where
+  pub answers : IfSome told (λ stream. AnswersSession stream old new ended)
+  pub work : IfSome told (λ stream. AppendsCounted stream old new seen)
+  pub reads : ReadsFront told left
+  pub usage : ended ≢ status.Usage
+  pub read_fault : ended ≡ status.ReadFault → Rose read_faults read_faults'
+  pub write_fault : ended ≡ status.WriteFault → Rose write_faults write_faults'

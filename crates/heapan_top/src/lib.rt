@@ -2,12 +2,12 @@
 #![tactic(auto)]
 
 pub mod laws;
+mod leading;
 mod session;
 mod status;
 #[cfg(test)]
 mod tests;
 mod turns;
-mod work;
 
 pub use session::run;
 pub use status::{Outcome, Status};

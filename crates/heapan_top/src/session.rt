@@ -1,88 +1,63 @@
-//! The top call: words, a source and a sink in, and the replies and a status out. Its contract is the headline:
-//! the bytes written answer the bytes read, and each status has its cause.
-ghost use Rattle.std.specs.Prelude.{◌≡◌, ◌≢◌, ◌↔◌, ℕ, List, [], IsTrue, IfSome};
+//! The top call: words, a source, a sink and a gate in, and the replies and a status out. Its contract is the headline:
+//! the bytes written answer the bytes read, whatever the threads did, and each status has its cause.
+ghost use Rattle.std.specs.Prelude.{◌≡◌, ◌≢◌, ℕ, List, [], IfSome};
 ghost use Rattle.claim_core.specs.Told.{events_of};
 ghost use Rattle.claim_laws.specs.Logs.{IsLegal, published, replay};
 ghost use Rattle.io_ports.specs.Counts.{Rose};
 ghost use Rattle.heapan_top.specs.Headline.{AnswersOtherWords, AnswersSession, AreRightWords, Completes, ReadsFront, word_bytes};
 ghost use Rattle.heapan_top.specs.Laws.{PrintsValid};
 ghost use Rattle.heapan_top.specs.Work.{AppendsCounted, IsClaimedOnce};
-ghost use Rattle.session_replies.specs.Answers.{nothing_present};
 ghost use Rattle.solve_laws.specs.Solving.{solve};
 
-use crate::laws::{one_reply, printed_is_valid, some_reply};
+use crate::laws::{one_reply, printed_is_valid};
+use crate::leading::Answering;
 use crate::status::{Outcome, Status};
-use crate::turns::{turn, written};
-use crate::work::published;
-use claim_core::Event;
+use crate::turns::written;
 use claim_laws::claims_hold;
-use io_ports::{Sink, Source};
-use session_lines::Commands;
-use session_replies::Session;
+use command_words::asked_workers;
+use io_ports::{Gate, Sink, Source};
 use solve_job::SolveJob;
 use std::alloc::Global;
-
-/// Whether the words are those that the program takes.
-fn are_right_words(words: &[&str]) -> bool
-    ensures { IsTrue result ↔ AreRightWords (word_bytes words.now) }
-{
-    match words {
-        [word] => *word == "session",
-        _ => false,
-    }
-}
+use std::sync::Wait;
+use std::thread::Threads;
+use summary_book::Book;
+use worker_pool::pool::{Joined, run_pool};
 
 /// Answers words that the program does not take.
 fn answer_other_words<K: Sink>(alloc: Global, sink: &mut K) -> Status
     ensures answers { AnswersOtherWords (K.held sink.old) (K.held sink.new) result }
     ensures write_fault { result ≡ Status.WriteFault → Rose (K.faults sink.old) (K.faults sink.new) }
 {
-    written(alloc, sink, b"usage: heapan session\n", Status::Usage)
+    written(
+        alloc,
+        sink,
+        b"usage: heapan session [--workers N]\n",
+        Status::Usage,
+    )
 }
 
-/// How the call ended, with what was done.
-fn outcome(status: Status, log: Vec<Event>) -> Outcome
+/// How a call ended in which nothing was analysed.
+fn nothing_done(alloc: Global, status: Status) -> Outcome
     ensures status { result.status ≡ status }
-    ensures log { result.log.items ≡ log.items }
-    ensures solves { result.solves ≡ published (events_of log.items) }
+    ensures log { result.log.items ≡ [] }
+    ensures solves { result.solves ≡ 0 }
 {
-    let solves = published(&log);
     Outcome {
         status,
-        log,
-        solves,
+        log: Vec::new(alloc),
+        solves: 0,
     }
 }
 
-/// Answers commands of the stream that the source holds, one after the other, until the session ends. A reply is written before the next
-/// command is read.
-fn answer_commands<S: Source, K: Sink>(
+/// Answers the stream that the source holds, with so many workers beside the leader.
+fn answer_stream<R: Threads + Wait + Sync, S: Source, K: Sink, G: Gate + Sync>(
+    rt: &R,
     alloc: Global,
-    session: &mut Session,
+    workers: u32,
     source: &mut S,
     sink: &mut K,
-) -> Status
-    requires present { session.old.present ≡ nothing_present }
-    requires log { session.old.log ≡ [] }
-    ensures answers { IfSome (S.left source.old) (λ stream. AnswersSession stream (K.held sink.old) (K.held sink.new) result) }
-    ensures work { IfSome (S.left source.old) (λ stream. AppendsCounted stream (K.held sink.old) (K.held sink.new) (published session.new.log)) }
-    ensures reads { ReadsFront (S.left source.old) (S.left source.new) }
-    ensures usage { result ≢ Status.Usage }
-    ensures read_fault { result ≡ Status.ReadFault → Rose (S.faults source.old) (S.faults source.new) }
-    ensures write_fault { result ≡ Status.WriteFault → Rose (K.faults sink.old) (K.faults sink.new) }
-{
-    one_reply();
-    some_reply();
-    let mut commands = Commands::new(alloc);
-    loop {
-        if let Some(status) = turn(alloc, session, &mut commands, source, sink) {
-            return status;
-        }
-    }
-}
-
-/// Answers the stream that the source holds.
-fn answer_stream<S: Source, K: Sink>(alloc: Global, source: &mut S, sink: &mut K) -> Outcome
+    gate: &G,
+) -> Outcome
     ensures answers { IfSome (S.left source.old) (λ stream. AnswersSession stream (K.held sink.old) (K.held sink.new) result.status) }
     ensures reads { ReadsFront (S.left source.old) (S.left source.new) }
     ensures usage { result.status ≢ Status.Usage }
@@ -93,19 +68,41 @@ fn answer_stream<S: Source, K: Sink>(alloc: Global, source: &mut S, sink: &mut K
     ensures solves { result.solves ≡ published (events_of result.log.items) }
     ensures counted { IfSome (S.left source.old) (λ stream. AppendsCounted stream (K.held sink.old) (K.held sink.new) result.solves) }
 {
-    let Ok(mut session) = Session::new(alloc) else {
-        return outcome(Status::NoMemory, Vec::new(alloc));
+    let Ok(book) = Book::new(alloc) else {
+        return nothing_done(alloc, Status::NoMemory);
     };
-    let status = answer_commands(alloc, &mut session, source, sink);
-    outcome(status, session.into_log())
+    let mut leader = Answering::new(source, sink);
+    let joined = run_pool(rt, alloc, workers, SolveJob, gate, book, &mut leader);
+    let Answering {
+        source: _,
+        sink: _,
+        status,
+    } = leader;
+    match joined {
+        Ok(
+            Joined {
+                book,
+                solves,
+                seen: _,
+            },
+        ) => Outcome {
+            status,
+            log: book.into_log(),
+            solves,
+        },
+        Err(_) => nothing_done(alloc, Status::NoMemory),
+    }
 }
 
-/// Reads commands from the source, and writes the replies to the sink.
-pub fn run<S: Source, K: Sink>(
+/// Reads commands from the source, and writes the replies to the sink. Components are analysed by as many workers as the words ask for,
+/// beside the thread that calls; each enters the gate between a claim and its solving.
+pub fn run<R: Threads + Wait + Sync, S: Source, K: Sink, G: Gate + Sync>(
+    rt: &R,
     alloc: Global,
     words: &[&str],
     source: &mut S,
     sink: &mut K,
+    gate: &G,
 ) -> Outcome
     ensures replies { AreRightWords (word_bytes words.now)
         → IfSome (S.left source.old) (λ stream. AnswersSession stream (K.held sink.old) (K.held sink.new) result.status) }
@@ -134,8 +131,9 @@ pub fn run<S: Source, K: Sink>(
     one_reply();
     printed_is_valid();
     claims_hold::<SolveJob>();
-    if !are_right_words(words) {
-        return outcome(answer_other_words(alloc, sink), Vec::new(alloc));
+    match asked_workers(alloc, words) {
+        Ok(Some(workers)) => answer_stream(rt, alloc, workers, source, sink, gate),
+        Ok(None) => nothing_done(alloc, answer_other_words(alloc, sink)),
+        Err(_) => nothing_done(alloc, Status::NoMemory),
     }
-    answer_stream(alloc, source, sink)
 }

@@ -5,17 +5,21 @@ mod stack;
 mod tables;
 mod work;
 mod worked;
+mod workers;
 
 use crate::{Outcome, Status, run};
 use claim_core::Event;
 use io_ports::{
-    InPieces, MemorySink, MemorySource, ReadEnd, Sink, Source, SteadySink, SteadySource, read_up_to,
+    InPieces, MemorySink, MemorySource, OpenGate, ReadEnd, Sink, Source, SteadySink, SteadySource,
+    read_up_to,
 };
 use sessions::{MALFORMED, SESSIONS};
 use stack::STACK;
 use std::alloc::{AllocError, Global};
 use std::process::Abort;
+use std::sync::Wait;
 use std::test::Fail;
+use std::thread::Threads;
 use tables::{ANALYSED, REFUSED, REFUSED_BELOW, REPORTED, REPORTED_TOGETHER};
 use work::WORK;
 use worked::{STACK_REPLY, WORKED};
@@ -29,7 +33,7 @@ const IDENTITY_REPLY: &[u8] = b"ok\nid a.c 1\n pre emp\n post emp ret=a\ntotal 1
 const EMPTY: &[u8] = b"ok\ntotal 0 0 0\n";
 
 /// What other words are answered.
-const USAGE: &[u8] = b"usage: heapan session\n";
+const USAGE: &[u8] = b"usage: heapan session [--workers N]\n";
 
 /// A refusal of the first command, at the first byte.
 const FIRST_REFUSED: Status = Status::Refused {
@@ -42,15 +46,30 @@ fn steady(alloc: Global, bytes: &[u8]) -> Result<SteadySource, AllocError> {
     SteadySource::new(alloc, Vec::from_slice(alloc, bytes)?)
 }
 
-/// Runs the right words over any source and sink.
-fn session<S: Source, K: Sink>(alloc: Global, source: &mut S, sink: &mut K) -> Status {
-    let Outcome { status, .. } = run(alloc, &["session"], source, sink);
-    status
+/// Runs the top call with these words over any source and sink.
+fn called<R: Threads + Wait + Sync, S: Source, K: Sink>(
+    rt: &R,
+    alloc: Global,
+    words: &[&str],
+    source: &mut S,
+    sink: &mut K,
+) -> Outcome {
+    run(rt, alloc, words, source, sink, &OpenGate)
+}
+
+/// Runs the word `session` over any source and sink.
+fn session<R: Threads + Wait + Sync, S: Source, K: Sink>(
+    rt: &R,
+    alloc: Global,
+    source: &mut S,
+    sink: &mut K,
+) -> Status {
+    called(rt, alloc, &["session"], source, sink).status
 }
 
 /// The stream is answered with these bytes and this status.
-fn answers(
-    rt: &impl Abort,
+fn answers<R: Threads + Wait + Sync + Abort>(
+    rt: &R,
     alloc: Global,
     stream: &[u8],
     want: &[u8],
@@ -60,7 +79,7 @@ fn answers(
     let mut sink = SteadySink::new(alloc)?;
     let shown = &stream[..stream.len().min(80)];
     assert_eq!(rt;
-        session(alloc, &mut source, &mut sink),
+        session(rt, alloc, &mut source, &mut sink),
         status,
         "the status at {shown:?}"
     );
@@ -89,14 +108,18 @@ fn the_example_is_answered_whatever_the_pieces(rt: HostRuntime) -> Result<(), Fa
     for size in [1, 2, 7, 41, 4096] {
         let mut source = InPieces::new(steady(alloc, IDENTITY)?, size);
         let mut sink = InPieces::new(SteadySink::new(alloc)?, size);
-        assert_eq!(&rt; session(alloc, &mut source, &mut sink), Status::Done);
+        assert_eq!(&rt; session(&rt, alloc, &mut source, &mut sink), Status::Done);
         assert_eq!(&rt; sink.inner.held(), IDENTITY_REPLY, "in pieces of {size}");
     }
     Ok(())
 }
 
 /// Each file is answered with these bytes, and the call is Done.
-fn all_answer(rt: &impl Abort, alloc: Global, rows: &[(&str, &str)]) -> Result<(), Fail> {
+fn all_answer<R: Threads + Wait + Sync + Abort>(
+    rt: &R,
+    alloc: Global,
+    rows: &[(&str, &str)],
+) -> Result<(), Fail> {
     for row in rows {
         let (file, want) = *row;
         let stream = put(alloc, file.as_bytes())?;
@@ -106,7 +129,13 @@ fn all_answer(rt: &impl Abort, alloc: Global, rows: &[(&str, &str)]) -> Result<(
 }
 
 /// The file is refused on this line with this code.
-fn refuses(rt: &impl Abort, alloc: Global, file: &[u8], line: u32, code: u16) -> Result<(), Fail> {
+fn refuses<R: Threads + Wait + Sync + Abort>(
+    rt: &R,
+    alloc: Global,
+    file: &[u8],
+    line: u32,
+    code: u16,
+) -> Result<(), Fail> {
     let want = format!(in alloc; "ok\nrefused a.c {line} {code}\n")?;
     let stream = put(alloc, file)?;
     answers(rt, alloc, stream.as_slice(), want.as_bytes(), Status::Done)
@@ -203,8 +232,8 @@ const NOTHING: &[u8] = b"ok\nf a.c 1\n pre emp\n post emp\ntotal 1 1 0\n";
 const ANY_NUMBER: &[u8] = b"ok\nf a.c 1\n pre emp\n post emp ret=?1\ntotal 1 1 0\n";
 
 /// A text with so many pieces is answered with these bytes, and with one more it is refused with this code.
-fn passes_up_to(
-    rt: &impl Abort,
+fn passes_up_to<R: Threads + Wait + Sync + Abort>(
+    rt: &R,
     alloc: Global,
     parts: [&[u8]; 3],
     most: usize,
@@ -291,7 +320,7 @@ fn a_procedure_too_many_is_refused_on_its_line(rt: HostRuntime) -> Result<(), Fa
     let stream = put(alloc, procedures(alloc, 1_024)?.as_slice())?;
     let mut source = steady(alloc, stream.as_slice())?;
     let mut sink = SteadySink::new(alloc)?;
-    assert_eq!(&rt; session(alloc, &mut source, &mut sink), Status::Done);
+    assert_eq!(&rt; session(&rt, alloc, &mut source, &mut sink), Status::Done);
     let held = sink.held();
     assert!(&rt; held.starts_with(b"ok\np0 a.c 1\n pre emp\n post emp\np1 a.c 2\n".as_slice()));
     assert!(&rt;
@@ -367,19 +396,33 @@ fn a_session_has_so_many_commands(rt: HostRuntime) -> Result<(), Fail> {
 #[test]
 fn other_words_meet_the_usage_line(rt: HostRuntime) -> Result<(), Fail> {
     let alloc = rt.alloc();
-    let rows: [&[&str]; 6] = [
+    let rows: [&[&str]; 20] = [
         &[],
         &["run"],
         &["session", "x"],
         &["session", "session"],
         &["Session"],
         &[""],
+        &["--workers", "3"],
+        &["session", "--workers"],
+        &["session", "--workers", "65"],
+        &["session", "--workers", "100"],
+        &["session", "--workers", ""],
+        &["session", "--workers", "-1"],
+        &["session", "--workers", "+1"],
+        &["session", "--workers", "x"],
+        &["session", "--workers", "1", "--workers", "1"],
+        &["session", "--store", "s"],
+        &["session", "--help"],
+        &["--help"],
+        &["session", "--", "--workers", "1"],
+        &["session", "-w", "1"],
     ];
     for words in rows {
         let mut source = steady(alloc, IDENTITY)?;
         let mut sink = SteadySink::new(alloc)?;
         assert_eq!(&rt;
-            run(alloc, words, &mut source, &mut sink).status,
+            called(&rt, alloc, words, &mut source, &mut sink).status,
             Status::Usage
         );
         assert_eq!(&rt; sink.held(), USAGE, "at {words:?}");
@@ -395,6 +438,33 @@ fn other_words_meet_the_usage_line(rt: HostRuntime) -> Result<(), Fail> {
 }
 
 #[test]
+fn workers_are_asked_for_as_words_are_taken(rt: HostRuntime) -> Result<(), Fail> {
+    let alloc = rt.alloc();
+    let rows: [&[&str]; 9] = [
+        &["session"],
+        &["session", "--workers", "0"],
+        &["session", "--workers", "1"],
+        &["session", "--workers=3"],
+        &["--workers", "08", "session"],
+        &["--workers=8", "--", "session"],
+        &["session", "--workers", "64"],
+        &["--", "session"],
+        &["session", "--workers=00"],
+    ];
+    for words in rows {
+        let mut source = steady(alloc, IDENTITY)?;
+        let mut sink = SteadySink::new(alloc)?;
+        assert_eq!(&rt;
+            called(&rt, alloc, words, &mut source, &mut sink).status,
+            Status::Done,
+            "at {words:?}"
+        );
+        assert_eq!(&rt; sink.held(), IDENTITY_REPLY, "at {words:?}");
+    }
+    Ok(())
+}
+
+#[test]
 fn a_failed_read_is_a_read_fault(rt: HostRuntime) -> Result<(), Fail> {
     let alloc = rt.alloc();
     for call in [0, 1, 20] {
@@ -403,7 +473,7 @@ fn a_failed_read_is_a_read_fault(rt: HostRuntime) -> Result<(), Fail> {
         let mut source = InPieces::new(inner, 1);
         let mut sink = SteadySink::new(alloc)?;
         assert_eq!(&rt;
-            session(alloc, &mut source, &mut sink),
+            session(&rt, alloc, &mut source, &mut sink),
             Status::ReadFault,
             "at {call}"
         );
@@ -421,7 +491,7 @@ fn a_failed_write_is_a_write_fault_and_leaves_a_front(rt: HostRuntime) -> Result
             let inner = MemorySink::new(alloc, Vec::from_slice(alloc, &[call as u64])?)?;
             let mut sink = InPieces::new(inner, size);
             let mut source = steady(alloc, IDENTITY)?;
-            let status = session(alloc, &mut source, &mut sink);
+            let status = session(&rt, alloc, &mut source, &mut sink);
             let held = sink.inner.held();
             if status == Status::Done {
                 assert!(&rt; call > 0);
@@ -443,7 +513,7 @@ fn want_of_memory_is_told_and_leaves_a_front(rt: HostRuntime) -> Result<(), Fail
     let alloc = rt.alloc();
     let mut source = steady(alloc, IDENTITY)?;
     let mut sink = InPieces::new(SteadySink::new(alloc)?, 16);
-    let status = session(alloc, &mut source, &mut sink);
+    let status = session(&rt, alloc, &mut source, &mut sink);
     let held = sink.inner.held();
     // `rt try --test --fail-alloc N` lets the Nth allocation fail.
     if status == Status::NoMemory {
@@ -482,11 +552,22 @@ fn letter(event: &Event) -> u8 {
     }
 }
 
+/// How many events are of this kind.
+fn count_letter(log: &[Event], wanted: u8) -> usize {
+    log.iter().filter(|event| letter(event) == wanted).count()
+}
+
 /// These events are what is done for the replies to a stream.
-fn works(rt: &impl Abort, alloc: Global, stream: &[u8], want: &[u8]) -> Result<(), Fail> {
+fn works<R: Threads + Wait + Sync + Abort>(
+    rt: &R,
+    alloc: Global,
+    stream: &[u8],
+    want: &[u8],
+) -> Result<(), Fail> {
     let mut source = steady(alloc, stream)?;
     let mut sink = SteadySink::new(alloc)?;
-    let Outcome { log, solves, .. } = run(alloc, &["session"], &mut source, &mut sink);
+    let words = ["session", "--workers", "0"];
+    let Outcome { log, solves, .. } = called(rt, alloc, &words, &mut source, &mut sink);
     let mut events = Vec::new(alloc);
     for event in log.as_slice() {
         events.push(letter(event))?;

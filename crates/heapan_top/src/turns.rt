@@ -4,20 +4,24 @@ ghost use Rattle.io_ports.specs.Counts.{Rose};
 ghost use Rattle.session_lines.specs.Lines.{IsCommand, IsFirst};
 ghost use Rattle.session_lines.specs.Reading.{stream_left};
 ghost use Rattle.session_replies.specs.Answers.{IsAnswered};
-ghost use Rattle.session_replies.specs.Work.{Extends};
 ghost use Rattle.heapan_top.specs.Headline.{ReadsFront};
 ghost use Rattle.heapan_top.specs.Parts.{Ends, IsAt, IsOneMore, IsReply, IsReplyWork, IsTurn, IsWork, course_of};
 ghost use Rattle.heapan_top.specs.Replies.{Course, malformed_line, one_behind, status_with};
 
 use crate::laws::{one_reply, some_reply};
 use crate::status::Status;
-use io_ports::{Sink, SinkFault, Source, write_all};
+use io_ports::{Gate, Sink, SinkFault, Source, write_all};
 use report_text::reasons::push_decimal;
 use session_lines::laws::one_first;
 use session_lines::{Command, Commands, Taken, next_command};
 use session_replies::Session;
 use session_replies::laws::one_answer;
+use solve_job::SolveJob;
 use std::alloc::{AllocError, Global};
+use std::sync::Wait;
+use std::sync::ledger::Ledger;
+use worker_pool::desk::Desk;
+use worker_pool::shares::Hands;
 
 /// How a call ends that has read all, where the last report told of so many procedures without a spec.
 fn status_with(missing: usize) -> Status
@@ -74,24 +78,28 @@ fn refuse<K: Sink>(alloc: Global, sink: &mut K, command: u32, offset: u64) -> St
 }
 
 /// Answers a command, or says how the session ends for a fault.
-fn reply<K: Sink>(
+fn reply<R: Wait, K: Sink, G: Gate, A: Ledger, B: Ledger>(
+    rt: &R,
     alloc: Global,
+    desk: &Desk<'_, SolveJob, G, A, B>,
+    hands: &mut Hands<B>,
     session: &mut Session,
     sink: &mut K,
     asked: Command,
 ) -> Option<Status>
+    requires parts { B.parts ≡ 1 }
     requires answered { IsAnswered asked }
     requires allowed { IsCommand asked }
-    ensures reply { IsReply session.old.present asked (K.held sink.old) session.new.present (K.held sink.new) result }
-    ensures work { IsReplyWork session.old.present asked (K.held sink.old) session.new.present (K.held sink.new) session.new.log result }
-    ensures more { Extends session.old.log session.new.log }
+    ensures reply { IsReply session.old asked (K.held sink.old) session.new (K.held sink.new) result }
+    ensures work { IsReplyWork session.old asked (K.held sink.old) session.new (K.held sink.new) hands.new.seen result }
+    ensures rises { hands.old.seen ≤ hands.new.seen }
     ensures write_fault { result ≡ Some Status.WriteFault → Rose (K.faults sink.old) (K.faults sink.new) }
     ensures never_falls { K.faults sink.old ≤ K.faults sink.new }
 {
-    let Ok(text) = session.reply(alloc, asked) else {
+    let Ok(reply) = session.reply(rt, alloc, desk, hands, asked) else {
         return Some(Status::NoMemory);
     };
-    match write_all(alloc, sink, text.as_slice()) {
+    match write_all(alloc, sink, reply.text.as_slice()) {
         Ok(()) => None,
         Err(SinkFault::Failed) => Some(Status::WriteFault),
         Err(SinkFault::OutOfMemory) => Some(Status::NoMemory),
@@ -100,20 +108,24 @@ fn reply<K: Sink>(
 
 /// What a command that was taken leads to: it is answered, or ends the session. Its number, from 1, and the offset of its first byte in
 /// the stream are shown where it is none that the program takes.
-fn follow<K: Sink>(
+fn follow<R: Wait, K: Sink, G: Gate, A: Ledger, B: Ledger>(
+    rt: &R,
     alloc: Global,
+    desk: &Desk<'_, SolveJob, G, A, B>,
+    hands: &mut Hands<B>,
     session: &mut Session,
     sink: &mut K,
     asked: Command,
     number: u32,
     offset: u64,
 ) -> Option<Status>
-    requires { IsCommand asked }
-    ensures turn { (course : Course) (stream rest : List ℕ) → IsAt course session.old.present number offset → IsFirst stream asked rest
-        → IsTurn course stream (K.held sink.old) (one_behind course (length stream - length rest) session.new.present) (Some rest) (K.held sink.new) result }
-    ensures work { (course : Course) (stream rest : List ℕ) → IsAt course session.old.present number offset → IsFirst stream asked rest
-        → IsWork course stream (K.held sink.old) (one_behind course (length stream - length rest) session.new.present) (Some rest) (K.held sink.new) session.new.log result }
-    ensures more { Extends session.old.log session.new.log }
+    requires parts { B.parts ≡ 1 }
+    requires allowed { IsCommand asked }
+    ensures turn { (course : Course) (stream rest : List ℕ) → IsAt course session.old number offset → IsFirst stream asked rest
+        → IsTurn course stream (K.held sink.old) (one_behind course (length stream - length rest) session.new) (Some rest) (K.held sink.new) result }
+    ensures work { (course : Course) (stream rest : List ℕ) → IsAt course session.old number offset → IsFirst stream asked rest
+        → IsWork course stream (K.held sink.old) (one_behind course (length stream - length rest) session.new) (Some rest) (K.held sink.new) hands.new.seen result }
+    ensures rises { hands.old.seen ≤ hands.new.seen }
     ensures not_read_fault { result ≢ Some Status.ReadFault }
     ensures not_usage { result ≢ Some Status.Usage }
     ensures write_fault { result ≡ Some Status.WriteFault → Rose (K.faults sink.old) (K.faults sink.new) }
@@ -126,25 +138,29 @@ fn follow<K: Sink>(
     match &asked {
         Command::Quit => Some(status_with(session.missing())),
         Command::Save => Some(refuse(alloc, sink, number, offset)),
-        _ => reply(alloc, session, sink, asked),
+        _ => reply(rt, alloc, desk, hands, session, sink, asked),
     }
 }
 
 /// Takes the next command from the stream and answers it, or says how the session ends.
-pub fn turn<S: Source, K: Sink>(
+pub fn turn<R: Wait, S: Source, K: Sink, G: Gate, A: Ledger, B: Ledger>(
+    rt: &R,
     alloc: Global,
+    desk: &Desk<'_, SolveJob, G, A, B>,
+    hands: &mut Hands<B>,
     session: &mut Session,
     commands: &mut Commands,
     source: &mut S,
     sink: &mut K,
 ) -> Option<Status>
+    requires parts { B.parts ≡ 1 }
     ensures turn { IfSome (stream_left commands.old (S.left source.old)) (λ stream.
-        IsTurn (course_of commands.old session.old.present) stream (K.held sink.old) (course_of commands.new session.new.present)
+        IsTurn (course_of commands.old session.old) stream (K.held sink.old) (course_of commands.new session.new)
         (stream_left commands.new (S.left source.new)) (K.held sink.new) result) }
     ensures work { IfSome (stream_left commands.old (S.left source.old)) (λ stream.
-        IsWork (course_of commands.old session.old.present) stream (K.held sink.old) (course_of commands.new session.new.present)
-        (stream_left commands.new (S.left source.new)) (K.held sink.new) session.new.log result) }
-    ensures more { Extends session.old.log session.new.log }
+        IsWork (course_of commands.old session.old) stream (K.held sink.old) (course_of commands.new session.new)
+        (stream_left commands.new (S.left source.new)) (K.held sink.new) hands.new.seen result) }
+    ensures rises { hands.old.seen ≤ hands.new.seen }
     ensures counted { IfNone result (IsOneMore commands.old.taken commands.new.taken) }
     ensures reads { ReadsFront (stream_left commands.old (S.left source.old)) (stream_left commands.new (S.left source.new)) }
     ensures not_usage { result ≢ Some Status.Usage }
@@ -157,7 +173,9 @@ pub fn turn<S: Source, K: Sink>(
     let number = commands.taken() + 1;
     let offset = commands.offset();
     match next_command(alloc, commands, source) {
-        Ok(Taken::Command(asked)) => follow(alloc, session, sink, asked, number, offset),
+        Ok(Taken::Command(asked)) => follow(
+            rt, alloc, desk, hands, session, sink, asked, number, offset,
+        ),
         Ok(Taken::Malformed { command, offset }) => Some(refuse(alloc, sink, command, offset)),
         Ok(Taken::End) => Some(status_with(session.missing())),
         Ok(Taken::Full) => Some(Status::Full),

@@ -1,7 +1,9 @@
 pub mod AnswerLaws
 pub mod Appending
+pub mod Entries
+pub mod FeedLaws
+pub mod Reached
 pub mod Replying
 pub mod Reporting
 pub mod Working
-pub mod Claims
 pub mod Shown

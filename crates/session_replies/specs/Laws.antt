@@ -7,7 +7,9 @@ use Rattle.bottom_up.specs.Laws.{AreReported}
 use Rattle.project_form.specs.Files.{AreFiles, SourceFile}
 use Rattle.project_form.specs.Reads.{Reads}
 use Rattle.session_lines.specs.declared.command.Command.{Command}
+use Rattle.reporters.specs.declared.reporter.Entry.{Entry}
 use Rattle.session_replies.specs.Answers.{Answers, IsAnswered, Present}
+use Rattle.session_replies.specs.Entries.{Feeds}
 
 -- a command has at most one answer, and at most one present behind it
 abbrev pub OneAnswer : Type 0
@@ -30,3 +32,11 @@ abbrev pub ReportedIsValid : Type 0
 ReportedIsValid =
     (files : List SourceFile) (program : Program) → AreFiles files → Reads files (Ok program) →
     IsProgram program × AreReported program (program_summaries program)
+
+-- behind a command one list of entries is fed at most
+abbrev pub OneFeed : Type 0
+OneFeed = (present : Present) (asked : Command) (one other : List Entry) → Feeds present asked one → Feeds present asked other → one ≡ other
+
+-- and there is one
+abbrev pub SomeFeed : Type 0
+SomeFeed = (present : Present) (asked : Command) → (entries : List Entry) × Feeds present asked entries

@@ -1,4 +1,5 @@
 pub mod Answers
+pub mod Entries
 pub mod Known
 pub mod Laws
 pub mod Parts

@@ -1,10 +1,8 @@
--- What a session did for its replies: which components were claimed and answered.
-use Rattle.std.specs.Prelude.{◌≡◌, ℕ, true, ◌≤◌, List, ◌++◌, None, Ok, is_some, length}
+-- How much was done for a reply: for how many components at least an answer was published.
+use Rattle.std.specs.Prelude.{◌≡◌, ℕ, true, ◌≤◌, None, Ok, is_some, length}
 use Rattle.std.specs.List.{count_by, position, range_with_len}
 use Rattle.shape_data.specs.declared.program.Program.{Program}
 use Rattle.component_keys.specs.Keys.{program_components}
-use Rattle.claim_laws.specs.Logs.{published}
-use Rattle.claim_laws.specs.World.{Event}
 use Rattle.summary_book.specs.declared.aims.Aim.{Aim}
 use Rattle.summary_book.specs.declared.aims.Aim.TheVariants.{All, One}
 use Rattle.summary_book.specs.Aims.{aimed}
@@ -15,15 +13,6 @@ use Rattle.project_form.specs.Files.{put_refusal, with_file}
 use Rattle.project_form.specs.Reads.{Reads}
 use Rattle.session_replies.specs.Answers.{GENERATED, Present}
 use Rattle.session_replies.specs.Texts.{is_named}
-
--- what is present, and all claims of components and their ends, in order
-pub record Contents : Type 0 where
-  pub present : Present
-  pub log : List Event
-
--- more was done
-abbrev pub Extends : List Event → List Event → Type 0
-Extends before after = (more : List Event) × (after ≡ before ++ more)
 
 -- how many components an aim reaches
 abbrev pub count_reached : Program → Aim → ℕ
@@ -38,5 +27,5 @@ Tells present (command.Gen n) program aim =
 Tells present _ program aim = ⊥
 
 -- where the reply to the command tells of components, at least so many answers were published
-abbrev pub IsWorked : Present → Command → List Event → Type 0
-IsWorked present asked log = (program : Program) (aim : Aim) → Tells present asked program aim → count_reached program aim ≤ published log
+abbrev pub IsWorked : Present → Command → ℕ → Type 0
+IsWorked present asked published = (program : Program) (aim : Aim) → Tells present asked program aim → count_reached program aim ≤ published

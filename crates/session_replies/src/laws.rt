@@ -1,5 +1,5 @@
 //! Laws that show the definition of replies usable: a command has an answer, and has it once; and what is reported is valid.
-ghost use Rattle.session_replies.specs.Laws.{AnswersKeepLimits, OneAnswer, ReportedIsValid, SomeAnswer};
+ghost use Rattle.session_replies.specs.Laws.{AnswersKeepLimits, OneAnswer, OneFeed, ReportedIsValid, SomeAnswer, SomeFeed};
 
 use bottom_up::laws::each_is_reported;
 use project_form::laws::{
@@ -17,6 +17,20 @@ pub fn one_answer()
 /// A command other than `save` and `quit` has an answer.
 pub fn some_answer()
     ensures { SomeAnswer }
+{
+    some_reading();
+}
+
+/// Behind a command one list of entries is fed at most.
+pub fn one_feed()
+    ensures { OneFeed }
+{
+    one_reading();
+}
+
+/// Behind a command some entries are fed, or none: which, is decided.
+pub fn some_feed()
+    ensures { SomeFeed }
 {
     some_reading();
 }

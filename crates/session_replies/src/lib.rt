@@ -1,12 +1,14 @@
 //! The reply to each command of a session, over the files that are present. The definition, in `specs/Answers`, goes by what the files
 //! are: a program, of which each component is analysed from nothing, or refused. It stands on the project, on the analysis of a whole
-//! program, and on the texts of reports.
+//! program at a desk, and on the texts of reports.
 #![tactic(auto)]
 
 pub mod found;
 pub mod known;
 pub mod laws;
+pub mod reply;
 pub mod session;
 pub mod texts;
 
+pub use reply::Reply;
 pub use session::Session;

@@ -1,22 +1,30 @@
 //! The lines of replies.
 ghost use Rattle.std.specs.Prelude.{◌≡◌, ◌≤◌, true, is_some, IfOk, OnOk};
 ghost use Rattle.std.specs.List.{position};
-ghost use Rattle.claim_laws.specs.Logs.{published};
 ghost use Rattle.shape_data.specs.Sizes.{HasProgramSizes};
 ghost use Rattle.shape_data.specs.WellFormed.{IsProgram};
+ghost use Rattle.session_replies.specs.Entries.{entries_over, entry_of, program_entries};
 ghost use Rattle.session_replies.specs.Texts.{block_named, drop_line, error_line, is_named, ok_line, program_missing, program_report, program_total, refused_line};
-ghost use Rattle.session_replies.specs.Work.{Extends, count_reached};
+ghost use Rattle.session_replies.specs.Work.{count_reached};
 ghost use Rattle.summary_book.specs.declared.aims.Aim.TheVariants as aim;
 
-use crate::known::Knowledge;
+use crate::known::{summaries, summary};
+use crate::reply::Reply;
+use io_ports::Gate;
 use project_form::Refused;
 use report_text::reasons::push_decimal;
 use report_text::totals::push_total;
 use report_text::{block, count_none, push_report};
-use shape_data::Name;
-use shape_data::program::Program;
+use reporters::Entry;
+use shape_data::answer::ProcSummary;
+use shape_data::program::{Proc, Program};
+use shape_data::{Name, Row, copy_of};
+use solve_job::SolveJob;
 use std::alloc::{AllocError, Global};
-use std::sync::Arc;
+use std::sync::ledger::Ledger;
+use std::sync::{Arc, Wait};
+use worker_pool::desk::Desk;
+use worker_pool::shares::Hands;
 
 /// The code of a name under which no file is present.
 const NO_FILE: u16 = 145;
@@ -80,22 +88,25 @@ fn place_of(program: &Program, name: &Name) -> Option<usize>
 }
 
 /// The block of the procedure of a name, or the error that the program defines none.
-pub fn block_text(
+pub fn block_text<R: Wait, G: Gate, A: Ledger, B: Ledger>(
+    rt: &R,
     alloc: Global,
-    known: &mut Knowledge,
+    desk: &Desk<'_, SolveJob, G, A, B>,
+    hands: &mut Hands<B>,
     program: &Arc<Program>,
     name: &Name,
 ) -> Result<Vec<u8>, AllocError>
     requires formed { IsProgram program.now.value }
     requires sizes { HasProgramSizes program.now.value }
+    requires parts { B.parts ≡ 1 }
     ensures text { IfOk result (λ text. text.items ≡ block_named name.now program.now.value) }
-    ensures worked { OnOk result (is_some (position (is_named name.now) program.now.value.procs) ≡ true → count_reached program.now.value (aim.One name.now) ≤ published known.new) }
-    ensures more { Extends known.old known.new }
+    ensures worked { OnOk result (is_some (position (is_named name.now) program.now.value.procs) ≡ true → count_reached program.now.value (aim.One name.now) ≤ hands.new.seen) }
+    ensures rises { hands.old.seen ≤ hands.new.seen }
 {
     let Some(place) = place_of(program, name) else {
         return error_text(alloc, NO_PROC);
     };
-    let summary = known.summary(alloc, program, name)?;
+    let summary = summary(rt, alloc, desk, hands, program, name)?;
     block(
         alloc,
         &program.procs[place],
@@ -105,44 +116,80 @@ pub fn block_text(
 }
 
 /// The total line of a program.
-pub fn total_text(
+pub fn total_text<R: Wait, G: Gate, A: Ledger, B: Ledger>(
+    rt: &R,
     alloc: Global,
-    known: &mut Knowledge,
+    desk: &Desk<'_, SolveJob, G, A, B>,
+    hands: &mut Hands<B>,
     program: &Arc<Program>,
 ) -> Result<Vec<u8>, AllocError>
     requires formed { IsProgram program.now.value }
     requires sizes { HasProgramSizes program.now.value }
+    requires parts { B.parts ≡ 1 }
     ensures text { IfOk result (λ text. text.items ≡ program_total program.now.value) }
-    ensures worked { OnOk result (count_reached program.now.value aim.All ≤ published known.new) }
-    ensures more { Extends known.old known.new }
+    ensures worked { OnOk result (count_reached program.now.value aim.All ≤ hands.new.seen) }
+    ensures rises { hands.old.seen ≤ hands.new.seen }
 {
-    let summaries = known.summaries(alloc, program)?;
+    let summaries = summaries(rt, alloc, desk, hands, program)?;
     let mut text = Vec::new(alloc);
     push_total(&mut text, summaries.as_slice())?;
     Ok(text)
 }
 
-/// A report on a program: its bytes, and how many procedures have no spec.
+/// What is said of a procedure to reporters.
+fn entry_of(proc: &Proc, summary: ProcSummary) -> Result<Entry, AllocError>
+    ensures { IfOk result (λ entry. entry ≡ entry_of proc.now summary) }
+{
+    Ok(Entry {
+        file: copy_of(&proc.file)?,
+        line: proc.line,
+        summary,
+    })
+}
+
+/// The entries of procedures with these summaries, in their order.
+fn entries_of(
+    alloc: Global,
+    procs: &Row<Proc>,
+    summaries: Row<ProcSummary>,
+) -> Result<Vec<Entry>, AllocError>
+    ensures { IfOk result (λ entries. entries.items ≡ entries_over procs.now summaries) }
+{
+    let mut entries = Vec::with_capacity(alloc, procs.len())?;
+    for summary in summaries.into_vec() {
+        match procs.get(entries.len()) {
+            Some(proc) => entries.push(entry_of(proc, summary)?)?,
+            None => {}
+        }
+    }
+    Ok(entries)
+}
+
+/// A report on a program: its bytes with its entries, and how many procedures have no spec.
 #[derive(Drop)]
 pub struct Report {
-    pub text: Vec<u8>,
+    pub reply: Reply,
     pub missing: usize,
 }
 
 /// The report on a program.
-pub fn make_report(
+pub fn make_report<R: Wait, G: Gate, A: Ledger, B: Ledger>(
+    rt: &R,
     alloc: Global,
-    known: &mut Knowledge,
+    desk: &Desk<'_, SolveJob, G, A, B>,
+    hands: &mut Hands<B>,
     program: &Arc<Program>,
 ) -> Result<Report, AllocError>
     requires formed { IsProgram program.now.value }
     requires sizes { HasProgramSizes program.now.value }
-    ensures text { IfOk result (λ report. report.text.items ≡ program_report program.now.value) }
+    requires parts { B.parts ≡ 1 }
+    ensures text { IfOk result (λ report. report.reply.text.items ≡ program_report program.now.value) }
+    ensures entries { IfOk result (λ report. report.reply.entries.items ≡ program_entries program.now.value) }
     ensures missing { IfOk result (λ report. report.missing ≡ program_missing program.now.value) }
-    ensures worked { OnOk result (count_reached program.now.value aim.All ≤ published known.new) }
-    ensures more { Extends known.old known.new }
+    ensures worked { OnOk result (count_reached program.now.value aim.All ≤ hands.new.seen) }
+    ensures rises { hands.old.seen ≤ hands.new.seen }
 {
-    let summaries = known.summaries(alloc, program)?;
+    let summaries = summaries(rt, alloc, desk, hands, program)?;
     let mut text = Vec::new(alloc);
     push_report(
         &mut text,
@@ -150,8 +197,8 @@ pub fn make_report(
         program.procs.as_slice(),
         summaries.as_slice(),
     )?;
-    Ok(Report {
-        text,
-        missing: count_none(summaries.as_slice()),
-    })
+    let missing = count_none(summaries.as_slice());
+    let entries = entries_of(alloc, &program.procs, summaries)?;
+    let reply = Reply { text, entries };
+    Ok(Report { reply, missing })
 }

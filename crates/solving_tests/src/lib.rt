@@ -8,8 +8,6 @@ mod post_gen_tests;
 #[cfg(test)]
 mod pre_gen_tests;
 #[cfg(test)]
-mod session_replies_tests;
-#[cfg(test)]
 mod solve_job_tests;
 #[cfg(test)]
 mod triple_check_tests;

@@ -1,8 +1,8 @@
 //! Streams, and what is done for their replies: `R` where another program is present, `C` where a component is claimed, `P` where it is
-//! answered. A comment changes no component, and where a callee is changed but its specs stay, its caller is not solved again. What is
-//! shown has its own component solved, and those that it calls.
+//! answered. A comment within a line changes no component, and where a callee is changed but its specs stay, its caller is not solved again. What is
+//! shown has its own component solved, and those that it calls. Procedures that call each other are one component.
 
-const PEEK_THRICE: (&[u8], &[u8]) = (
+pub const PEEK_THRICE: (&[u8], &[u8]) = (
     b"put a.c 134\nstruct node { int data; struct node *next; };\nint get(struct node *x) { return x->data; }\nint peek(struct node *x) { return get(x); }\nreport\nput a.c 142\nstruct node { int data; struct node *next; };\nint get(struct node *x) { /* c */ return x->data; }\nint peek(struct node *x) { return get(x); }\nreport\nput a.c 145\nstruct node { int data; struct node *next; };\nint get(struct node *x) { int d = x->data; return d; }\nint peek(struct node *x) { return get(x); }\nreport\n",
     b"RCPCPRCP",
 );
@@ -27,4 +27,16 @@ const NONE_SHOWN: (&[u8], &[u8]) = (
     b"",
 );
 
-pub const WORK: [(&[u8], &[u8]); 5] = [PEEK_THRICE, STARTED, SHOWN, SHOWN_TWICE, NONE_SHOWN];
+const PAIR_TWICE: (&[u8], &[u8]) = (
+    b"put a.c 134\nint g(int k);\nint f(int k) { if (k == 0) { return k; } return g(k - 1); }\nint g(int k) { if (k == 0) { return k; } return f(k - 1); }\nreport\nreport\n",
+    b"RCP",
+);
+
+pub const WORK: [(&[u8], &[u8]); 6] = [
+    PEEK_THRICE,
+    STARTED,
+    SHOWN,
+    SHOWN_TWICE,
+    NONE_SHOWN,
+    PAIR_TWICE,
+];

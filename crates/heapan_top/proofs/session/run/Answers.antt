@@ -1,12 +1,18 @@
 -- What was read is answered in full where nothing failed.
+use Rattle.std.proofs.Common.{◌≡◌, is_some, rules, true}
+use Rattle.command_words.specs.Words.{workers_asked}
 use Rattle.heapan_top.specs.Headline.{word_bytes}
 use Rattle.heapan_top.proofs.Completing.{completes_left}
+use Rattle.heapan_top.proofs.WorkLaws.{none_appended}
 use Rattle.heapan_top.proofs.session.run.Goals as goal
 
-pub returns-clause-complete : goal.returns-clause-complete
-returns-clause-complete g c no_read no_write =
-    let right = c.are_right_words.ensures.0 c.if-not-are_right_words.false in
+pub returns-in-Ok-Some-clause-complete : goal.returns-in-Ok-Some-clause-complete
+returns-in-Ok-Some-clause-complete g c no_read no_write =
+    let right : is_some (workers_asked (word_bytes c.args.words.now)) ≡ true = search rules in
     completes_left c.one_reply.ensures (g.K.Sink.held c.args.sink.now) (g.K.Sink.held c.answer_stream.new.sink) (word_bytes c.args.words.now) right
     (g.S.Source.left c.args.source.now) c.answer_stream.result.status c.answer_stream.ensures.answers
     (λ is. no_read (c.answer_stream.ensures.read_fault is))
     (λ is. no_write (c.answer_stream.ensures.write_fault is))
+
+pub returns-in-Err-clause-counted : goal.returns-in-Err-clause-counted
+returns-in-Err-clause-counted g c right = none_appended (g.S.Source.left c.args.source.now) (g.K.Sink.held c.args.sink.now) c.nothing_done-in-Err.result.solves

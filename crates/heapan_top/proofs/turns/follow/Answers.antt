@@ -8,32 +8,32 @@ use Rattle.heapan_top.proofs.turns.follow.Goals as goal
 
 pub returns-in-Quit-clause-turn : goal.returns-in-Quit-clause-turn
 returns-in-Quit-clause-turn g c = λ course stream rest at first.
-    quits course c.args.session.now.present c.args.number c.args.offset stream rest c.args.asked (g.K.Sink.held c.args.sink.now) c.status_with.result at first c.in-Quit.is
+    quits course c.args.session.now c.args.number c.args.offset stream rest c.args.asked (g.K.Sink.held c.args.sink.now) c.status_with.result at first c.in-Quit.is
     (c.status_with.ensures ∙ ap status_with c.missing.ensures)
 
 pub returns-in-Save-clause-turn : goal.returns-in-Save-clause-turn
 returns-in-Save-clause-turn g c = λ course stream rest at first.
-    saves c.one_reply.ensures course c.args.session.now.present c.args.number c.args.offset stream rest c.args.asked (g.K.Sink.held c.args.sink.now) (g.K.Sink.held c.refuse.new.sink) c.refuse.result
+    saves c.one_reply.ensures course c.args.session.now c.args.number c.args.offset stream rest c.args.asked (g.K.Sink.held c.args.sink.now) (g.K.Sink.held c.refuse.new.sink) c.refuse.result
     at first c.in-Save.is c.refuse.ensures.ends
 
 pub returns-in-Quit-clause-work : goal.returns-in-Quit-clause-work
-returns-in-Quit-clause-work g c = λ course stream rest at first. nothing_counted course stream (g.K.Sink.held c.args.sink.now) c.args.session.now.log
+returns-in-Quit-clause-work g c = λ course stream rest at first. nothing_counted course stream (g.K.Sink.held c.args.sink.now) c.args.hands.now.seen
 
 pub returns-in-Save-clause-work : goal.returns-in-Save-clause-work
 returns-in-Save-clause-work g c = λ course stream rest at first.
-    saves_counted c.one_first.ensures course stream rest (malformed_line c.args.number c.args.offset) c.args.asked (g.K.Sink.held c.args.sink.now) (g.K.Sink.held c.refuse.new.sink) c.args.session.now.log
+    saves_counted c.one_first.ensures course stream rest (malformed_line c.args.number c.args.offset) c.args.asked (g.K.Sink.held c.args.sink.now) (g.K.Sink.held c.refuse.new.sink) c.args.hands.now.seen
     (status.Refused c.args.number c.args.offset) c.refuse.result first c.in-Save.is c.refuse.ensures.ends
 
 pub returns-in_default : goal.returns-in_default
 returns-in_default g c =
-    let cut = reply_is_cut c.args.session.now.present c.reply.new.session.present c.args.asked (g.K.Sink.held c.args.sink.now) (g.K.Sink.held c.reply.new.sink) c.reply.result c.reply.ensures.reply in
+    let cut = reply_is_cut c.args.session.now c.reply.new.session c.args.asked (g.K.Sink.held c.args.sink.now) (g.K.Sink.held c.reply.new.sink) c.reply.result c.reply.ensures.reply in
     record {
       work = λ course stream rest at first.
-          turned_work c.one_first.ensures c.one_answer.ensures course c.args.session.now.present c.args.number c.args.offset stream rest c.args.asked c.reply.new.session.present
-          (g.K.Sink.held c.args.sink.now) (g.K.Sink.held c.reply.new.sink) c.reply.new.session.log c.reply.result at first c.reply.ensures.work;
-      more = c.reply.ensures.more;
+          turned_work c.one_first.ensures c.one_answer.ensures course c.args.session.now c.args.number c.args.offset stream rest c.args.asked c.reply.new.session
+          (g.K.Sink.held c.args.sink.now) (g.K.Sink.held c.reply.new.sink) c.reply.new.hands.seen c.reply.result at first c.reply.ensures.work;
+      rises = c.reply.ensures.rises;
       turn = λ course stream rest at first.
-          turned c.one_reply.ensures c.some_reply.ensures course c.args.session.now.present c.args.number c.args.offset stream rest c.args.asked c.reply.new.session.present
+          turned c.one_reply.ensures c.some_reply.ensures course c.args.session.now c.args.number c.args.offset stream rest c.args.asked c.reply.new.session
           (g.K.Sink.held c.args.sink.now) (g.K.Sink.held c.reply.new.sink) c.reply.result at first c.reply.ensures.reply;
       not_read_fault = cut.0;
       not_usage = cut.1;

@@ -13,7 +13,7 @@ pub returns-in-Ok-Command-clause-turn : goal.returns-in-Ok-Command-clause-turn
 returns-in-Ok-Command-clause-turn g c =
     let told = stream_left c.args.commands.now (g.S.Source.left c.args.source.now) in
     let left = stream_left c.next_command.new.commands (g.S.Source.left c.next_command.new.source) in
-    takes told left (g.K.Sink.held c.args.sink.now) (g.K.Sink.held c.follow.new.sink) c.args.commands.now c.next_command.new.commands c.args.session.now.present c.follow.new.session.present c.in-Ok-Command.asked _ _ c.follow.result
+    takes told left (g.K.Sink.held c.args.sink.now) (g.K.Sink.held c.follow.new.sink) c.args.commands.now c.next_command.new.commands c.args.session.now c.follow.new.session c.in-Ok-Command.asked _ _ c.follow.result
     (ap (λ n. n + 1) c.taken-number.ensures.value) c.offset-offset.ensures
     (told_takes told left c.args.commands.now c.next_command.new.commands c.next_command.result (taken.Command c.in-Ok-Command.asked) (c.in-Ok-Command.is ∙ ap Ok c.in-Ok-Command.field-0-is) c.next_command.ensures.takes)
     c.follow.ensures.turn
@@ -22,7 +22,7 @@ pub returns-in-Ok-Malformed-clause-turn : goal.returns-in-Ok-Malformed-clause-tu
 returns-in-Ok-Malformed-clause-turn g c =
     let told = stream_left c.args.commands.now (g.S.Source.left c.args.source.now) in
     let left = stream_left c.next_command.new.commands (g.S.Source.left c.next_command.new.source) in
-    breaks c.one_reply.ensures told (g.K.Sink.held c.args.sink.now) (g.K.Sink.held c.refuse.new.sink) c.args.commands.now c.args.session.now.present c.in-Ok-Malformed.command c.in-Ok-Malformed.offset c.refuse.result
+    breaks c.one_reply.ensures told (g.K.Sink.held c.args.sink.now) (g.K.Sink.held c.refuse.new.sink) c.args.commands.now c.args.session.now c.in-Ok-Malformed.command c.in-Ok-Malformed.offset c.refuse.result
     (told_takes told left c.args.commands.now c.next_command.new.commands c.next_command.result (taken.Malformed c.in-Ok-Malformed.command c.in-Ok-Malformed.offset) (c.in-Ok-Malformed.is ∙ ap Ok c.in-Ok-Malformed.field-0-is) c.next_command.ensures.takes)
     c.refuse.ensures.ends
 
@@ -30,7 +30,7 @@ pub returns-in-Ok-End-clause-turn : goal.returns-in-Ok-End-clause-turn
 returns-in-Ok-End-clause-turn g c =
     let told = stream_left c.args.commands.now (g.S.Source.left c.args.source.now) in
     let left = stream_left c.next_command.new.commands (g.S.Source.left c.next_command.new.source) in
-    ends told (g.K.Sink.held c.args.sink.now) (course_of c.args.commands.now c.args.session.now.present) c.status_with.result
+    ends told (g.K.Sink.held c.args.sink.now) (course_of c.args.commands.now c.args.session.now) c.status_with.result
     (told_takes told left c.args.commands.now c.next_command.new.commands c.next_command.result taken.End (c.in-Ok-End.is ∙ ap Ok c.in-Ok-End.field-0-is) c.next_command.ensures.takes)
     (c.status_with.ensures ∙ ap status_with c.missing.ensures)
 
@@ -38,7 +38,7 @@ pub returns-in-Ok-Full-clause-turn : goal.returns-in-Ok-Full-clause-turn
 returns-in-Ok-Full-clause-turn g c =
     let told = stream_left c.args.commands.now (g.S.Source.left c.args.source.now) in
     let left = stream_left c.next_command.new.commands (g.S.Source.left c.next_command.new.source) in
-    too_many told (g.K.Sink.held c.args.sink.now) (course_of c.args.commands.now c.args.session.now.present)
+    too_many told (g.K.Sink.held c.args.sink.now) (course_of c.args.commands.now c.args.session.now)
     (told_takes told left c.args.commands.now c.next_command.new.commands c.next_command.result taken.Full (c.in-Ok-Full.is ∙ ap Ok c.in-Ok-Full.field-0-is) c.next_command.ensures.takes)
 
 -- ---- the work
@@ -47,8 +47,8 @@ pub returns-in-Ok-Command-clause-work : goal.returns-in-Ok-Command-clause-work
 returns-in-Ok-Command-clause-work g c =
     let told = stream_left c.args.commands.now (g.S.Source.left c.args.source.now) in
     let left = stream_left c.next_command.new.commands (g.S.Source.left c.next_command.new.source) in
-    takes_work told left (g.K.Sink.held c.args.sink.now) (g.K.Sink.held c.follow.new.sink) c.args.commands.now c.next_command.new.commands c.args.session.now.present c.follow.new.session.present c.in-Ok-Command.asked _ _
-    c.follow.new.session.log c.follow.result (ap (λ n. n + 1) c.taken-number.ensures.value) c.offset-offset.ensures
+    takes_work told left (g.K.Sink.held c.args.sink.now) (g.K.Sink.held c.follow.new.sink) c.args.commands.now c.next_command.new.commands c.args.session.now c.follow.new.session c.in-Ok-Command.asked _ _
+    c.follow.new.hands.seen c.follow.result (ap (λ n. n + 1) c.taken-number.ensures.value) c.offset-offset.ensures
     (told_takes told left c.args.commands.now c.next_command.new.commands c.next_command.result (taken.Command c.in-Ok-Command.asked) (c.in-Ok-Command.is ∙ ap Ok c.in-Ok-Command.field-0-is) c.next_command.ensures.takes)
     c.follow.ensures.work
 
@@ -56,23 +56,23 @@ pub returns-in-Ok-Malformed-clause-work : goal.returns-in-Ok-Malformed-clause-wo
 returns-in-Ok-Malformed-clause-work g c =
     let told = stream_left c.args.commands.now (g.S.Source.left c.args.source.now) in
     let left = stream_left c.next_command.new.commands (g.S.Source.left c.next_command.new.source) in
-    breaks_counted told (g.K.Sink.held c.args.sink.now) (g.K.Sink.held c.refuse.new.sink) c.args.commands.now c.args.session.now.present c.args.session.now.log c.in-Ok-Malformed.command c.in-Ok-Malformed.offset
+    breaks_counted told (g.K.Sink.held c.args.sink.now) (g.K.Sink.held c.refuse.new.sink) c.args.commands.now c.args.session.now c.args.hands.now.seen c.in-Ok-Malformed.command c.in-Ok-Malformed.offset
     (malformed_line c.in-Ok-Malformed.command c.in-Ok-Malformed.offset) (status.Refused c.in-Ok-Malformed.command c.in-Ok-Malformed.offset) c.refuse.result
     (told_takes told left c.args.commands.now c.next_command.new.commands c.next_command.result (taken.Malformed c.in-Ok-Malformed.command c.in-Ok-Malformed.offset) (c.in-Ok-Malformed.is ∙ ap Ok c.in-Ok-Malformed.field-0-is) c.next_command.ensures.takes)
     c.refuse.ensures.ends
 
 pub returns-in-Ok-End-clause-work : goal.returns-in-Ok-End-clause-work
 returns-in-Ok-End-clause-work g c =
-    nothing_told (stream_left c.args.commands.now (g.S.Source.left c.args.source.now)) (g.K.Sink.held c.args.sink.now) (course_of c.args.commands.now c.args.session.now.present) c.args.session.now.log
+    nothing_told (stream_left c.args.commands.now (g.S.Source.left c.args.source.now)) (g.K.Sink.held c.args.sink.now) (course_of c.args.commands.now c.args.session.now) c.args.hands.now.seen
 
 pub returns-in-Ok-Full-clause-work : goal.returns-in-Ok-Full-clause-work
 returns-in-Ok-Full-clause-work g c =
-    nothing_told (stream_left c.args.commands.now (g.S.Source.left c.args.source.now)) (g.K.Sink.held c.args.sink.now) (course_of c.args.commands.now c.args.session.now.present) c.args.session.now.log
+    nothing_told (stream_left c.args.commands.now (g.S.Source.left c.args.source.now)) (g.K.Sink.held c.args.sink.now) (course_of c.args.commands.now c.args.session.now) c.args.hands.now.seen
 
 pub returns-in-Ok-ReadFault-clause-work : goal.returns-in-Ok-ReadFault-clause-work
 returns-in-Ok-ReadFault-clause-work g c =
-    nothing_told (stream_left c.args.commands.now (g.S.Source.left c.args.source.now)) (g.K.Sink.held c.args.sink.now) (course_of c.args.commands.now c.args.session.now.present) c.args.session.now.log
+    nothing_told (stream_left c.args.commands.now (g.S.Source.left c.args.source.now)) (g.K.Sink.held c.args.sink.now) (course_of c.args.commands.now c.args.session.now) c.args.hands.now.seen
 
 pub returns-in-Err-clause-work : goal.returns-in-Err-clause-work
 returns-in-Err-clause-work g c =
-    nothing_told (stream_left c.args.commands.now (g.S.Source.left c.args.source.now)) (g.K.Sink.held c.args.sink.now) (course_of c.args.commands.now c.args.session.now.present) c.args.session.now.log
+    nothing_told (stream_left c.args.commands.now (g.S.Source.left c.args.source.now)) (g.K.Sink.held c.args.sink.now) (course_of c.args.commands.now c.args.session.now) c.args.hands.now.seen

@@ -10,7 +10,7 @@ use Rattle.session_replies.proofs.Replying.{block_is}
 use Rattle.session_replies.proofs.texts.block_text.Goals as goal
 
 pub returns-clause-text : goal.returns-clause-text
-returns-clause-text c =
+returns-clause-text g c =
     let program : Program = c.args.program.now.value in
     let name = c.args.name.now in
     let proc : Proc = c.index-deref-place.result in

@@ -1,19 +1,19 @@
--- A file that is too long, and an empty line.
-use Rattle.std.proofs.Common.{◌≡◌, ℕ, List, sym, subst}
-use Rattle.std.proofs.lemmas.Result.{IfOk-weaker}
-use Rattle.session_lines.specs.declared.command.Command.TheVariants as command
+-- A report is fed, and no other reply.
+use Rattle.std.proofs.Common.{sym, subst}
+use Rattle.std.specs.Prelude.{OnOk}
 use Rattle.session_replies.specs.Answers.{Answers}
-use Rattle.session_replies.specs.Texts.{error_line}
+use Rattle.session_replies.specs.Entries.{Feeds}
+use Rattle.session_replies.specs.Work.{IsWorked}
 use Rattle.session_replies.proofs.session.Session.reply.Goals as goal
 
-pub returns-in-PutTooLong-clause-answers : goal.returns-in-PutTooLong-clause-answers
-returns-in-PutTooLong-clause-answers c =
-    IfOk-weaker c.error_text.result (λ text. text.items ≡ error_line 143) (λ text. Answers c.args.self.now.present c.args.asked text.items c.args.self.now.present)
-    (λ text says. subst (λ asked. Answers c.args.self.now.present asked text.items c.args.self.now.present) (sym c.in-PutTooLong.is)
-    (subst (λ (whole : List ℕ). Answers c.args.self.now.present (command.PutTooLong c.in-PutTooLong.name c.in-PutTooLong.size) whole c.args.self.now.present) (sym says) (Answers.put_too_long c.in-PutTooLong.name c.in-PutTooLong.size)))
-    c.error_text.ensures
+pub returns-in-Report-clause-worked : goal.returns-in-Report-clause-worked
+returns-in-Report-clause-worked g c =
+    subst (λ asked. OnOk c.report.result (IsWorked c.args.self.now asked c.report.new.hands.seen)) (sym c.in-Report.is) c.report.ensures.worked
 
-pub returns-in-Blank-clause-answers : goal.returns-in-Blank-clause-answers
-returns-in-Blank-clause-answers c =
-    subst (λ asked. Answers c.args.self.now.present asked c.new.result.items c.args.self.now.present) (sym c.in-Blank.is)
-    (subst (λ (whole : List ℕ). Answers c.args.self.now.present command.Blank whole c.args.self.now.present) (sym c.new.ensures.items) Answers.blank)
+pub returns-in_ok-text-in_default : goal.returns-in_ok-text-in_default
+returns-in_ok-text-in_default g c = record {
+  answers = subst (λ items. Answers c.args.self.now c.args.asked items c.text.new.self) (sym c.of.ensures.text) c.in_ok-text-in_default.ensures.answers;
+  feeds = subst (λ entries. Feeds c.args.self.now c.args.asked entries) (sym c.of.ensures.entries) (Feeds.other c.args.asked c.in_default.not-Report);
+  worked = c.in_ok-text-in_default.ensures.worked;
+  rises = c.text.ensures.rises;
+}

@@ -1,0 +1,43 @@
+-- Each command leads on, or answers the session.
+use Rattle.std.proofs.Common.{arith}
+use Rattle.session_lines.specs.Reading.{stream_left}
+use Rattle.heapan_top.specs.Parts.{course_of}
+use Rattle.heapan_top.proofs.CourseLaws.{all_answered, reads_source, reads_through, under_way}
+use Rattle.heapan_top.proofs.WorkLaws.{all_done, done_more}
+use Rattle.heapan_top.proofs.leading.answer_commands.Goals as goal
+
+pub returns-in-Some-clause-answers : goal.returns-in-Some-clause-answers
+returns-in-Some-clause-answers g c =
+    all_answered c.one_reply.ensures c.some_reply.ensures (g.S.Source.left c.args.source.now) (stream_left c.loop-status.commands (g.S.Source.left c.loop-status.source))
+    (stream_left c.turn.new.commands (g.S.Source.left c.turn.new.source)) (g.K.Sink.held c.args.sink.now) (g.K.Sink.held c.loop-status.sink) (g.K.Sink.held c.turn.new.sink)
+    (course_of c.loop-status.commands c.loop-status.session) (course_of c.turn.new.commands c.turn.new.session) c.turn.result c.in-Some.status c.in-Some.is c.loop-status.invariant.under_way c.turn.ensures.turn
+
+pub returns-in-Some-clause-work : goal.returns-in-Some-clause-work
+returns-in-Some-clause-work g c =
+    all_done c.loop-status.hands.seen c.turn.new.hands.seen c.turn.ensures.rises (g.S.Source.left c.args.source.now) (stream_left c.loop-status.commands (g.S.Source.left c.loop-status.source))
+    (stream_left c.turn.new.commands (g.S.Source.left c.turn.new.source)) (g.K.Sink.held c.args.sink.now) (g.K.Sink.held c.loop-status.sink) (g.K.Sink.held c.turn.new.sink)
+    (course_of c.loop-status.commands c.loop-status.session) (course_of c.turn.new.commands c.turn.new.session) c.turn.result c.in-Some.status c.in-Some.is c.loop-status.invariant.done c.turn.ensures.work
+
+pub returns-in-Some-clause-reads : goal.returns-in-Some-clause-reads
+returns-in-Some-clause-reads g c =
+    let told = g.S.Source.left c.args.source.now in
+    let left = g.S.Source.left c.turn.new.source in
+    reads_source told left c.turn.new.commands.ahead
+    (reads_through told (stream_left c.loop-status.commands (g.S.Source.left c.loop-status.source)) (stream_left c.turn.new.commands left) c.loop-status.invariant.reads c.turn.ensures.reads)
+
+pub loop-status-preserved : goal.loop-status-preserved
+loop-status-preserved g c =
+    let told = g.S.Source.left c.args.source.now in
+    let before = stream_left c.loop-status.commands (g.S.Source.left c.loop-status.source) in
+    let after = stream_left c.turn.new.commands (g.S.Source.left c.turn.new.source) in
+    record {
+      under_way =
+          under_way c.one_reply.ensures c.some_reply.ensures told before after (g.K.Sink.held c.args.sink.now) (g.K.Sink.held c.loop-status.sink) (g.K.Sink.held c.turn.new.sink)
+          (course_of c.loop-status.commands c.loop-status.session) (course_of c.turn.new.commands c.turn.new.session) c.turn.result c.in_default.is c.loop-status.invariant.under_way c.turn.ensures.turn;
+      done =
+          done_more c.loop-status.hands.seen c.turn.new.hands.seen c.turn.ensures.rises told before after (g.K.Sink.held c.args.sink.now) (g.K.Sink.held c.loop-status.sink) (g.K.Sink.held c.turn.new.sink)
+          (course_of c.loop-status.commands c.loop-status.session) (course_of c.turn.new.commands c.turn.new.session) c.turn.result c.in_default.is c.loop-status.invariant.done c.turn.ensures.work;
+      reads = reads_through told before after c.loop-status.invariant.reads c.turn.ensures.reads;
+      reads_never_fall = let one = c.loop-status.invariant.reads_never_fall in let two = c.turn.ensures.reads_never_fall in omega arith;
+      writes_never_fall = let one = c.loop-status.invariant.writes_never_fall in let two = c.turn.ensures.writes_never_fall in omega arith;
+    }

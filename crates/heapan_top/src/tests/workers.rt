@@ -1,0 +1,154 @@
+//! Workers beside the leader: whatever their number and whatever they do when, the bytes are the same.
+use super::stack::STACK;
+use super::work::PEEK_THRICE;
+use super::worked::STACK_REPLY;
+use super::{called, count_letter, put_as, steady};
+use crate::{Outcome, Status, run};
+use io_ports::{Gate, SteadySink};
+use std::alloc::{AllocError, Global};
+use std::sync::Wait;
+use std::sync::atomic::{AtomicU64, Ordering};
+use std::test::Fail;
+use std::thread;
+
+/// The words that ask for so many workers.
+const WORDS: [&[&str]; 5] = [
+    &["session", "--workers", "0"],
+    &["session", "--workers", "1"],
+    &["session"],
+    &["session", "--workers", "8"],
+    &["session", "--workers", "64"],
+];
+
+#[test]
+fn the_stack_module_is_reported_whatever_the_workers(rt: HostRuntime) -> Result<(), Fail> {
+    let alloc = rt.alloc();
+    let stream = put_as(alloc, "stack.c", STACK)?;
+    for words in WORDS {
+        let mut source = steady(alloc, stream.as_slice())?;
+        let mut sink = SteadySink::new(alloc)?;
+        let Outcome { status, solves, .. } = called(&rt, alloc, words, &mut source, &mut sink);
+        assert_eq!(&rt; status, Status::Done, "at {words:?}");
+        assert_eq!(&rt; sink.held(), STACK_REPLY.as_bytes(), "at {words:?}");
+        assert_eq!(&rt; solves, 8, "at {words:?}");
+    }
+    Ok(())
+}
+
+#[test]
+fn only_what_changed_is_solved_whatever_the_workers(rt: HostRuntime) -> Result<(), Fail> {
+    let alloc = rt.alloc();
+    let (stream, _) = PEEK_THRICE;
+    let mut alone = SteadySink::new(alloc)?;
+    let mut source = steady(alloc, stream)?;
+    let _outcome = called(&rt, alloc, WORDS[0], &mut source, &mut alone);
+    for words in WORDS {
+        let mut source = steady(alloc, stream)?;
+        let mut sink = SteadySink::new(alloc)?;
+        let Outcome { log, solves, .. } = called(&rt, alloc, words, &mut source, &mut sink);
+        assert_eq!(&rt; sink.held(), alone.held(), "at {words:?}");
+        assert_eq!(&rt; solves, 3, "at {words:?}");
+        assert_eq!(&rt; count_letter(log.as_slice(), b'C'), 3, "at {words:?}");
+    }
+    Ok(())
+}
+
+/// Makes claim 1 wait until claim 2 has entered, for at most so many turns, and notes who entered.
+#[derive(Drop)]
+struct Meeting {
+    first: AtomicU64,
+    second: AtomicU64,
+    late: AtomicU64,
+}
+
+const TURNS: u32 = 100_000_000;
+
+impl Gate for Meeting {
+    fn enter<R: Wait>(&self, _rt: &R, claim: u64) {
+        if claim == 2 {
+            self.second.store(1, Ordering::SeqCst);
+        }
+        if claim == 1 {
+            self.first.store(1, Ordering::SeqCst);
+            for _ in 0..TURNS {
+                if self.second.load(Ordering::SeqCst) == 1 {
+                    return;
+                }
+                thread::yield_now();
+            }
+            self.late.store(1, Ordering::SeqCst);
+        }
+    }
+}
+
+const TWO_FILES: &[u8] =
+    b"put a.c 27\nint a(int x) { return x; } \nput b.c 26\nint b(int x) { return x; }start\nreport\n";
+
+#[test]
+fn the_leader_and_a_worker_solve_at_once(rt: HostRuntime) -> Result<(), Fail> {
+    let alloc = rt.alloc();
+    let gate = Meeting {
+        first: AtomicU64::new(0),
+        second: AtomicU64::new(0),
+        late: AtomicU64::new(0),
+    };
+    let mut source = steady(alloc, TWO_FILES)?;
+    let mut sink = SteadySink::new(alloc)?;
+    let words = ["session", "--workers", "1"];
+    let Outcome { status, solves, .. } = run(&rt, alloc, &words, &mut source, &mut sink, &gate);
+    assert_eq!(&rt; status, Status::Done);
+    assert_eq!(&rt; solves, 2);
+    assert_eq!(&rt; gate.first.load(Ordering::SeqCst), 1);
+    assert_eq!(&rt; gate.second.load(Ordering::SeqCst), 1);
+    assert_eq!(&rt; gate.late.load(Ordering::SeqCst), 0);
+    Ok(())
+}
+
+/// Lets each claim wait for others, in another way each time.
+#[derive(Drop)]
+struct Yields {
+    turns: AtomicU64,
+}
+
+impl Gate for Yields {
+    fn enter<R: Wait>(&self, _rt: &R, _claim: u64) {
+        let turn = self.turns.fetch_add(1, Ordering::SeqCst);
+        for _ in 0..turn % 7 {
+            thread::yield_now();
+        }
+    }
+}
+
+/// A module that is put again and again with other numbers in it, and reported each time.
+fn edits(alloc: Global, count: usize) -> Result<Vec<u8>, AllocError> {
+    let mut stream = Vec::new(alloc);
+    for number in 0..count {
+        let file = format!(in alloc;
+            "struct n {{ struct n *next; int v; }};\nint a(struct n *x) {{ return x->v; }}\nint b(struct n *x) {{ int d = a(x); return d + {number}; }}\nint c(struct n *x) {{ while (x) x = x->next; return {number}; }}\nint d(int k) {{ return k * {number}; }}\nvoid e(struct n *x) {{ x->v = {number}; c(x); d(1); }}\n"
+        )?;
+        let line = format!(in alloc; "put m.c {}\n", file.len())?;
+        stream.extend_from_slice(line.as_bytes())?;
+        stream.extend_from_slice(file.as_bytes())?;
+        stream.extend_from_slice(b"start\nreport\n")?;
+    }
+    Ok(stream)
+}
+
+#[test]
+fn a_storm_of_workers_and_edits_is_answered_as_by_none(rt: HostRuntime) -> Result<(), Fail> {
+    let alloc = rt.alloc();
+    let stream = edits(alloc, 40)?;
+    let mut alone = SteadySink::new(alloc)?;
+    let mut source = steady(alloc, stream.as_slice())?;
+    let one = called(&rt, alloc, WORDS[0], &mut source, &mut alone);
+    let gate = Yields {
+        turns: AtomicU64::new(0),
+    };
+    let mut beside = SteadySink::new(alloc)?;
+    let mut source = steady(alloc, stream.as_slice())?;
+    let other = run(&rt, alloc, WORDS[4], &mut source, &mut beside, &gate);
+    assert_eq!(&rt; one.status, other.status);
+    assert!(&rt; alone.held() == beside.held());
+    assert!(&rt; alone.held().len() > 10_000);
+    Ok(())
+}
