@@ -554,7 +554,13 @@ fn letter(event: &Event) -> u8 {
 
 /// How many events are of this kind.
 fn count_letter(log: &[Event], wanted: u8) -> usize {
-    log.iter().filter(|event| letter(event) == wanted).count()
+    let mut count = 0usize;
+    for event in log {
+        if letter(event) == wanted {
+            count = count.wrapping_add(1);
+        }
+    }
+    count
 }
 
 /// These events are what is done for the replies to a stream.
