@@ -16,7 +16,7 @@ use Rattle.component_keys.proofs.Reach.{any_passes, holds_at}
 use Rattle.component_keys.proofs.Whole.{same_answers, left_or, reach_self, reach_through, reach_call, mutual_parts, mutual_of, in_class, same_class, in_listed, class_from}
 use Rattle.component_keys.proofs.Whole as Whole
 use Rattle.call_components.specs.Reaching.{marked, rows}
-use Rattle.call_components.specs.Tables.{AreKinds, same_kind, class_in, classes_in, is_next_in, AreAllMarked}
+use Rattle.call_components.specs.Tables.{AreKinds, AreListed, same_kind, class_in, classes_in, is_next_in, AreAllMarked}
 use Rattle.call_components.proofs.Marking.{marked_set, holds_push, or_or, or_false}
 use Rattle.call_components.proofs.Naming.{by_name_below}
 
@@ -59,6 +59,23 @@ more_marked numbers i before marks all lt within number =
     let one : ℕ = get_or numbers i 0 in
     marked_set marks one number within ∙ ap (λ b. b || (one == number)) (all number) ∙ or_or (marked before number) (holds (take i numbers) number) (one == number) ∙
     ap (λ b. marked before number || b) (sym (holds_push (take i numbers) one number)) ∙ ap (λ l. marked before number || holds l number) (sym (take_more numbers i 0 lt))
+
+or_true : (b : Bool) → (b || true) ≡ true
+or_true true = refl
+or_true false = refl
+
+any_next : (p q : ℕ → Bool) (x : ℕ) (xs : List ℕ) (here : Bool) → p x ≡ here → (p x ≡ true → q x ≡ true) → (list_any p xs ≡ true → list_any q xs ≡ true) → list_any p (x ∷ xs) ≡ true → list_any q (x ∷ xs) ≡ true
+any_next p q x xs true here more others is = ap (λ b. b || list_any q xs) (more here)
+any_next p q x xs false here more others is = ap (λ b. q x || b) (others (sym (ap (λ b. b || list_any p xs) here) ∙ is)) ∙ or_true (q x)
+
+any_more : (p q : ℕ → Bool) (xs : List ℕ) → ((n : ℕ) → p n ≡ true → q n ≡ true) → list_any p xs ≡ true → list_any q xs ≡ true
+any_more p q [] more is = is
+any_more p q (x ∷ xs) more is = any_next p q x xs (p x) refl (more x) (any_more p q xs more) is
+
+-- what is listed stays so where more is marked
+pub still_listed : (numbers : List ℕ) (before after : List Bool) (all : List (List ℕ)) (place : ℕ) → AreAllMarked numbers before after → AreListed before all place → AreListed after all place
+still_listed numbers before after all place more front k less =
+    any_more (marked before) (marked after) (get_or all k []) (λ n here. more n ∙ ap (λ b. b || holds numbers n) here) (front k less)
 
 -- marked are the members of the listed classes
 abbrev pub AreMarksOf : List (List ℕ) → List Bool → Type 0

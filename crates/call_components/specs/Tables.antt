@@ -1,7 +1,7 @@
 -- Classes by a table of who reaches whom.
 use Rattle.std.specs.declared.option.Option.{Option}
 use Rattle.std.specs.declared.option.Option.TheVariants.{None, Some}
-use Rattle.std.specs.Prelude.{slice_get, slice_set, ◌≡◌, ℕ, ◌<◌, ◌==◌, Bool, ◌&&◌, ◌||◌, not, List, [], ◌∷◌, ◌++◌, map, length, slice_index_or}
+use Rattle.std.specs.Prelude.{slice_get, slice_set, ◌≡◌, ℕ, ◌<◌, ◌==◌, Bool, true, ◌&&◌, ◌||◌, not, List, [], ◌∷◌, ◌++◌, map, length, slice_index_or}
 use Rattle.std.specs.List.{filter, list_any, list_all}
 use Rattle.component_keys.specs.Components.{holds, calls_of, are_mutual, is_first}
 use Rattle.call_components.specs.Reaching.{marked}
@@ -35,6 +35,10 @@ put_slot (Some old) kind place slots = slots
 abbrev pub is_next_in : List ℕ → List (List ℕ) → List Bool → List ℕ → Bool
 is_next_in kinds calls listed class =
     not (list_any (marked listed) class) && list_all (λ number. list_all (λ callee. same_kind kinds callee number || marked listed callee) (calls_of calls number)) class
+
+-- the classes before a place are listed: each has a member that is
+abbrev pub AreListed : List Bool → List (List ℕ) → ℕ → Type 0
+AreListed listed classes place = (k : ℕ) → k < place → list_any (marked listed) (slice_index_or classes k []) ≡ true
 
 -- what stands at a place that may be none
 abbrev pub at_place : {A : Type 0} → List A → Option ℕ → Option A

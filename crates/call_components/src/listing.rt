@@ -2,7 +2,7 @@
 ghost use Rattle.std.specs.Prelude.{◌≡◌, ◌<◌, ◌||◌, length, All, IfOk, IfSome};
 ghost use Rattle.std.specs.List.{find, list_all, list_any};
 ghost use Rattle.call_components.specs.Reaching.{marked, rows};
-ghost use Rattle.call_components.specs.Tables.{AreAllMarked, AreKinds, at_place, classes_in, is_next_in, same_kind};
+ghost use Rattle.call_components.specs.Tables.{AreAllMarked, AreKinds, AreListed, at_place, classes_in, is_next_in, same_kind};
 ghost use Rattle.component_keys.specs.Components.{by_name, calls_of, components};
 ghost use Rattle.component_keys.specs.Laws.{IsCallGraph};
 
@@ -45,18 +45,32 @@ fn is_next(calls: &[Vec<u32>], kinds: &[usize], listed: &[bool], class: &[u32]) 
     !is_listed(listed, class) && are_ready(calls, kinds, listed, class)
 }
 
-/// The place of the first class that may be listed next.
+/// The first place, from this one on, at which a class stands that is not listed, where those before are.
+fn first_waiting(listed: &[bool], classes: &[Vec<u32>], from: usize) -> usize
+    requires { AreListed listed.now (rows classes.now) from }
+    ensures { AreListed listed.now (rows classes.now) result }
+{
+    let mut place = from;
+    while place < classes.len() && is_listed(listed, &classes[place]) {
+        place += 1;
+    }
+    place
+}
+
+/// The place of the first class that may be listed next, where those before this place are listed.
 fn next_class(
     calls: &[Vec<u32>],
     kinds: &[usize],
     listed: &[bool],
     classes: &[Vec<u32>],
+    from: usize,
 ) -> Option<usize>
+    requires { AreListed listed.now (rows classes.now) from }
     ensures within { IfSome result (λ place. place < length classes.now) }
     ensures first { find (is_next_in kinds.now (rows calls.now) listed.now) (rows classes.now) ≡ at_place (rows classes.now) result }
 {
-    for (place, class) in classes.iter().enumerate() {
-        if is_next(calls, kinds, listed, class) {
+    for place in from..classes.len() {
+        if is_next(calls, kinds, listed, &classes[place]) {
             return Some(place);
         }
     }
@@ -91,8 +105,10 @@ fn in_call_order(
 {
     let mut marks = vec![in alloc; false; calls.len()]?;
     let mut listed: Vec<Vec<u32>> = Vec::with_capacity(alloc, all.len())?;
+    let mut from = 0;
     for _turn in 0..names.len() {
-        let Some(place) = next_class(calls, kinds, &marks, all) else {
+        from = first_waiting(&marks, all, from);
+        let Some(place) = next_class(calls, kinds, &marks, all, from) else {
             return Ok(listed);
         };
         let class = Vec::from_slice(alloc, &all[place])?;
