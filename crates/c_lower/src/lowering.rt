@@ -73,17 +73,17 @@ fn build<'a>(
 /// # Errors
 ///
 /// The first refusal of what is too large, by file, line, column and code: `unit` counts the files from 0. And want of memory.
-pub fn lower(alloc: Global, typed: &Typed, files: &[Name]) -> Result<Program, LowerFault>
-    requires names { length files.now ≡ length typed.now.units }
-    requires countable { length typed.now.units < 4294967296 }
-    requires numbers { All FileHasIntNumbers (files_of typed.now.units) }
-    requires fields { All HasCountableFields (files_of typed.now.units) }
-    ensures program { IfOk result (λ program. program ≡ program_of files.now (files_of typed.now.units)) }
-    ensures small { IfOk result (λ _. first_too_large (files_of typed.now.units) ≡ None) }
-    ensures fault { IfErr result (λ fault. IsLowerFault (files_of typed.now.units) fault) }
+pub fn lower(alloc: Global, typed: &Typed<'_>, files: &[Name]) -> Result<Program, LowerFault>
+    requires names { length files.now ≡ length typed.now.units.now }
+    requires countable { length typed.now.units.now < 4294967296 }
+    requires numbers { All FileHasIntNumbers (files_of typed.now.units.now) }
+    requires fields { All HasCountableFields (files_of typed.now.units.now) }
+    ensures program { IfOk result (λ program. program ≡ program_of files.now (files_of typed.now.units.now)) }
+    ensures small { IfOk result (λ _. first_too_large (files_of typed.now.units.now) ≡ None) }
+    ensures fault { IfErr result (λ fault. IsLowerFault (files_of typed.now.units.now) fault) }
 {
     first_refusal();
-    let units = typed.units.as_slice();
+    let units = typed.units;
     let mut context = Context::new(alloc, declared(alloc, units)?);
     let built = build(alloc, &mut context, units, files)?;
     let Building { first, procs } = built;

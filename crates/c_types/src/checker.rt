@@ -16,7 +16,6 @@ use c_types_names::first::First;
 use c_types_names::tables::Tables;
 use c_types_rules::laws::{first_refusal, types_are_known};
 use c_types_stmts::finding::Finding;
-use shape_data::Row;
 use std::alloc::{AllocError, Global};
 
 /// What the files declare.
@@ -52,31 +51,19 @@ fn find<'a>(alloc: Global, env: &mut Env<'a>, units: &'a [Unit]) -> Result<Findi
     Ok(found)
 }
 
-/// Copies of the files.
-fn copied(alloc: Global, units: &[Unit]) -> Result<Row<Unit>, AllocError>
-    ensures { IfOk result (λ copies. files_of copies ≡ files_of units.now) }
-{
-    let mut copies = Vec::new(alloc);
-    for unit in units {
-        copies.push(unit.clone()?)?;
-    }
-    Ok(Row::from_vec(copies))
-}
-
 /// The well typed program, with its structures and types.
 fn typed<'a>(
     alloc: Global,
     tables: &Tables<'a>,
     kinds: &Kinds<'a>,
-    units: &[Unit],
-) -> Result<Typed, AllocError>
+    units: &'a [Unit],
+) -> Result<Typed<'a>, AllocError>
     requires tables { tables.now ≡ program.tables_of (files_of units.now) }
     requires well_typed { program.IsWellTyped (files_of units.now) }
     requires kinds { kinds.now ≡ program.kinds_of (files_of units.now) }
-    ensures { IfOk result (λ typed. files_of typed.units ≡ files_of units.now) }
+    ensures { IfOk result (λ typed. typed.units.now ≡ units.now) }
 {
     types_are_known();
-    let units = copied(alloc, units)?;
     let structs = struct_defs(alloc, tables)?;
     let kinds = known_kinds(alloc, kinds.as_slice())?;
     Ok(Typed {
@@ -91,12 +78,12 @@ fn answer<'a>(
     alloc: Global,
     tables: &Tables<'a>,
     found: &Finding<'a>,
-    units: &[Unit],
-) -> Result<Typed, TypeFault>
+    units: &'a [Unit],
+) -> Result<Typed<'a>, TypeFault>
     requires tables { tables.now ≡ program.tables_of (files_of units.now) }
     requires refusal { found.now.first.found ≡ program.first_refusal (files_of units.now) }
     requires kinds { found.now.kinds ≡ program.kinds_of (files_of units.now) }
-    ensures units { IfOk result (λ typed. files_of typed.units ≡ files_of units.now) }
+    ensures units { IfOk result (λ typed. typed.units.now ≡ units.now) }
     ensures fault { IfErr result (λ fault. IsFault (files_of units.now) fault) }
 {
     first_refusal();
@@ -111,9 +98,9 @@ fn answer<'a>(
 /// # Errors
 ///
 /// The first refusal in the order of the text, by file, line, column and code, and want of memory.
-pub fn check(alloc: Global, units: &[Unit]) -> Result<Typed, TypeFault>
+pub fn check<'a>(alloc: Global, units: &'a [Unit]) -> Result<Typed<'a>, TypeFault>
     requires { length units.now < 4294967296 }
-    ensures units { IfOk result (λ typed. files_of typed.units ≡ files_of units.now) }
+    ensures units { IfOk result (λ typed. typed.units.now ≡ units.now) }
     ensures well_typed { IfOk result (λ _. program.IsWellTyped (files_of units.now)) }
     ensures fault { IfErr result (λ fault. IsFault (files_of units.now) fault) }
 {

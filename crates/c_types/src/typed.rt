@@ -7,14 +7,14 @@ use shape_data::Row;
 use shape_data::program::{StructDef, Ty};
 use std::alloc::{AllocError, AllocFailed};
 
-/// A program that keeps the typing rules: its files, its structures in the order of their first definitions, and the types of
-/// all its expressions in the order of the text. That the types are those is part of the type.
+/// A program that keeps the typing rules: its files, which are lent, its structures in the order of their first definitions, and the
+/// types of all its expressions in the order of the text. That the types are those is part of the type.
 #[derive(Drop)]
-pub struct Typed {
-    pub units: Row<Unit>,
+pub struct Typed<'a> {
+    pub units: &'a [Unit],
     pub structs: Row<StructDef>,
     pub kinds: Row<Ty>,
-    pub ghost typed: { IsTyped (files_of units) structs kinds },
+    pub ghost typed: { IsTyped (files_of units.now) structs kinds },
 }
 
 /// Why a program is not well typed: the first refusal in the order of the text. The codes are 121, a name that is not declared; 122,

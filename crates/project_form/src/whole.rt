@@ -82,10 +82,14 @@ fn procedure_too_many(alloc: Global, program: &Program) -> Result<Option<Refused
 }
 
 /// The files with these names, typed together, whose syntax trees are these.
-fn typed_files(alloc: Global, names: &[Name], units: &[Unit]) -> Result<Typed, ProgramFault>
+fn typed_files<'a>(
+    alloc: Global,
+    names: &[Name],
+    units: &'a [Unit],
+) -> Result<Typed<'a>, ProgramFault>
     requires one_each { length names.now ≡ length units.now }
     requires few { length units.now ≤ 256 }
-    ensures units { IfOk result (λ typed. files_of typed.units ≡ files_of units.now) }
+    ensures units { IfOk result (λ typed. typed.units.now ≡ units.now) }
     ensures typed { IfOk result (λ _. first_refusal (files_of units.now) ≡ None) }
     ensures fault { IfErr result (λ fault. IsFirstFault (option_map (refused_at names.now) (first_refusal (files_of units.now))) fault) }
 {
@@ -98,13 +102,13 @@ fn typed_files(alloc: Global, names: &[Name], units: &[Unit]) -> Result<Typed, P
 }
 
 /// The typed files with these names in flow form.
-fn lowered_files(alloc: Global, names: &[Name], typed: &Typed) -> Result<Program, ProgramFault>
-    requires one_each { length names.now ≡ length typed.now.units }
-    requires few { length typed.now.units ≤ 256 }
-    requires lowerable { All IsLowerable (files_of typed.now.units) }
-    ensures program { IfOk result (λ program. program ≡ lowered_program names.now (files_of typed.now.units)) }
-    ensures small { IfOk result (λ _. first_too_large (files_of typed.now.units) ≡ None) }
-    ensures fault { IfErr result (λ fault. IsFirstFault (option_map (refused_at names.now) (first_too_large (files_of typed.now.units))) fault) }
+fn lowered_files(alloc: Global, names: &[Name], typed: &Typed<'_>) -> Result<Program, ProgramFault>
+    requires one_each { length names.now ≡ length typed.now.units.now }
+    requires few { length typed.now.units.now ≤ 256 }
+    requires lowerable { All IsLowerable (files_of typed.now.units.now) }
+    ensures program { IfOk result (λ program. program ≡ lowered_program names.now (files_of typed.now.units.now)) }
+    ensures small { IfOk result (λ _. first_too_large (files_of typed.now.units.now) ≡ None) }
+    ensures fault { IfErr result (λ fault. IsFirstFault (option_map (refused_at names.now) (first_too_large (files_of typed.now.units.now))) fault) }
 {
     laws::first_refusal();
     match lower(alloc, typed, names) {
