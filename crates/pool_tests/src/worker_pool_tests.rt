@@ -1,7 +1,7 @@
 //! The pool over small programs, with a job that answers at once.
 mod toy;
 
-use crate::worker_pool_tests::toy::{Asks, Meeting, Sketch, Toy, Yields, program, wide};
+use crate::worker_pool_tests::toy::{Asks, Crowd, Meeting, Sketch, Toy, Wants, Yields, program, wide};
 use claim_core::Event;
 use io_ports::{Gate, OpenGate};
 use shape_data::Name;
@@ -50,6 +50,19 @@ struct Left {
 }
 
 /// Runs a pool over a new book.
+fn join<R: Threads + Wait + Sync + Abort, G: Gate + Sync>(
+    rt: &R,
+    alloc: Global,
+    workers: u32,
+    job: Toy,
+    gate: &G,
+    leader: &mut Asks,
+) -> Joined<Toy> {
+    let book = Book::new(alloc).expect(rt, "memory");
+    run_pool(rt, alloc, workers, job, gate, book, leader).expect(rt, "memory")
+}
+
+/// Runs a pool over a new book, and counts its events.
 fn run<R: Threads + Wait + Sync + Abort, G: Gate + Sync>(
     rt: &R,
     alloc: Global,
@@ -58,14 +71,56 @@ fn run<R: Threads + Wait + Sync + Abort, G: Gate + Sync>(
     gate: &G,
     leader: &mut Asks,
 ) -> Left {
-    let book = Book::new(alloc).expect(rt, "memory");
-    let joined = run_pool(rt, alloc, workers, job, gate, book, leader).expect(rt, "memory");
-    let Joined { book, solves, seen } = joined;
+    let Joined { book, solves, seen } = join(rt, alloc, workers, job, gate, leader);
     let log = book.into_log();
     Left {
         events: count_events(&log),
         solves,
         seen,
+    }
+}
+
+/// An event without its program, key and answer.
+#[derive(Clone, Copy, PartialEq, Eq, Debug)]
+enum Told {
+    Revise(u64),
+    Claim {
+        number: u64,
+        worker: u64,
+        component: u32,
+    },
+    Publish {
+        number: u64,
+        kept: bool,
+    },
+    GiveBack(u64),
+}
+
+fn told(event: &Event) -> Told {
+    match event {
+        Event::Revise {
+            revision,
+            program: _,
+        } => Told::Revise(*revision),
+        Event::Claim {
+            number,
+            worker,
+            component,
+            key: _,
+        } => Told::Claim {
+            number: *number,
+            worker: *worker,
+            component: *component,
+        },
+        Event::Publish {
+            number,
+            answer: _,
+            kept,
+        } => Told::Publish {
+            number: *number,
+            kept: *kept,
+        },
+        Event::GiveBack { number } => Told::GiveBack(*number),
     }
 }
 
@@ -111,7 +166,7 @@ fn only_what_changed_is_solved_for_every_number_of_workers(rt: HostRuntime) {
     let alloc = rt.alloc();
     for workers in [0u32, 1, 4, 8, 64] {
         let mut leader = changes(alloc, Aim::All).expect(&rt, "memory");
-        let left = run(&rt, alloc, workers, Toy::new(0), &OpenGate, &mut leader);
+        let left = run(&rt, alloc, workers, Toy::new(Wants::Never), &OpenGate, &mut leader);
         assert!(rt; !leader.wants);
         assert_eq!(rt; leader.letters.as_slice(), b"gfe.gfe.gfe.gfe.".as_slice());
         assert_eq!(rt; left.events.revisions, 3);
@@ -128,7 +183,7 @@ fn an_aim_at_one_procedure_has_whom_it_calls(rt: HostRuntime) {
     let alloc = rt.alloc();
     let name = Name::of(alloc, b"f").expect(&rt, "memory");
     let mut leader = changes(alloc, Aim::One(name)).expect(&rt, "memory");
-    let left = run(&rt, alloc, 0, Toy::new(0), &OpenGate, &mut leader);
+    let left = run(&rt, alloc, 0, Toy::new(Wants::Never), &OpenGate, &mut leader);
     assert!(rt; !leader.wants);
     assert_eq!(rt; leader.letters.as_slice(), b"gf.gf.gf.gf.".as_slice());
     assert_eq!(rt; left.solves, 4);
@@ -149,15 +204,10 @@ fn two_threads_solve_at_once(rt: HostRuntime) {
     ];
     let program = program(alloc, &two).expect(&rt, "memory");
     leader.programs.push(program).expect(&rt, "memory");
-    let gate = Meeting {
-        first: AtomicU64::new(0),
-        second: AtomicU64::new(0),
-        late: AtomicU64::new(0),
-    };
-    let left = run(&rt, alloc, 1, Toy::new(0), &gate, &mut leader);
+    let gate = Meeting::new(0, 2);
+    let left = run(&rt, alloc, 1, Toy::new(Wants::Never), &gate, &mut leader);
     assert_eq!(rt; left.solves, 2);
-    assert_eq!(rt; gate.first.load(Ordering::SeqCst), 1);
-    assert_eq!(rt; gate.second.load(Ordering::SeqCst), 1);
+    assert_eq!(rt; gate.met.load(Ordering::SeqCst), 1);
     assert_eq!(rt; gate.late.load(Ordering::SeqCst), 0);
 }
 
@@ -175,7 +225,7 @@ fn a_claim_that_wants_memory_is_given_back(rt: HostRuntime) {
                 &rt,
                 alloc,
                 workers,
-                Toy::new(wants_at),
+                Toy::new(Wants::Once(wants_at)),
                 &OpenGate,
                 &mut leader,
             );
@@ -198,11 +248,11 @@ fn many_workers_over_many_changes_answer_as_none_do(rt: HostRuntime) {
         alone.programs.push(program).expect(&rt, "memory");
         beside.programs.push(same).expect(&rt, "memory");
     }
-    let one = run(&rt, alloc, 0, Toy::new(0), &OpenGate, &mut alone);
+    let one = run(&rt, alloc, 0, Toy::new(Wants::Never), &OpenGate, &mut alone);
     let gate = Yields {
         turns: AtomicU64::new(0),
     };
-    let other = run(&rt, alloc, 64, Toy::new(0), &gate, &mut beside);
+    let other = run(&rt, alloc, 64, Toy::new(Wants::Never), &gate, &mut beside);
     assert!(rt; !alone.wants && !beside.wants);
     assert_eq!(rt; alone.letters.len(), 540);
     assert!(rt; alone.letters.as_slice() == beside.letters.as_slice());
@@ -210,4 +260,128 @@ fn many_workers_over_many_changes_answer_as_none_do(rt: HostRuntime) {
     assert_eq!(rt; one.solves, 520);
     assert_eq!(rt; other.solves, 520);
     assert_eq!(rt; other.seen, 520);
+}
+
+/// A claim of the leader's that is answered at once, and kept.
+fn solved(number: u64, component: u32) -> [Told; 2] {
+    [
+        Told::Claim {
+            number,
+            worker: 0,
+            component,
+        },
+        Told::Publish { number, kept: true },
+    ]
+}
+
+#[test]
+fn a_leader_alone_leaves_the_events_of_its_programs(rt: HostRuntime) {
+    let alloc = rt.alloc();
+    let mut leader = Asks::new(alloc, Aim::All);
+    leader.starts = false;
+    let before = [TOP, CALLER, LEAF];
+    let after = [TOP, CALLER, OTHER_LEAF];
+    for sketches in [before, after, after] {
+        let program = program(alloc, &sketches).expect(&rt, "memory");
+        leader.programs.push(program).expect(&rt, "memory");
+    }
+    let joined = join(
+        &rt,
+        alloc,
+        0,
+        Toy::new(Wants::Never),
+        &OpenGate,
+        &mut leader,
+    );
+    let mut events = Vec::new(alloc);
+    for event in &joined.book.into_log() {
+        events.push(told(event)).expect(&rt, "memory");
+    }
+    let mut worked = Vec::new(alloc);
+    worked.push(Told::Revise(1)).expect(&rt, "memory");
+    for (number, component) in [(1, 0), (2, 1), (3, 2)] {
+        worked.extend_from_slice(&solved(number, component)).expect(&rt, "memory");
+    }
+    worked.push(Told::Revise(2)).expect(&rt, "memory");
+    worked.extend_from_slice(&solved(4, 0)).expect(&rt, "memory");
+    assert_eq!(rt; events.as_slice(), worked.as_slice());
+    assert_eq!(rt; leader.letters.as_slice(), b"gfe.gfe.gfe.".as_slice());
+}
+
+#[test]
+fn a_leader_that_asks_again_is_answered(rt: HostRuntime) {
+    let alloc = rt.alloc();
+    for workers in [0u32, 4] {
+        let mut leader = Asks::new(alloc, Aim::All);
+        leader.starts = false;
+        leader.again = true;
+        let sketches = [TOP, CALLER, LEAF];
+        let program = program(alloc, &sketches).expect(&rt, "memory");
+        leader.programs.push(program).expect(&rt, "memory");
+        let left = run(
+            &rt,
+            alloc,
+            workers,
+            Toy::new(Wants::Once(1)),
+            &OpenGate,
+            &mut leader,
+        );
+        assert!(rt; !leader.wants);
+        assert_eq!(rt; leader.letters.as_slice(), b"gfe.".as_slice());
+        assert_eq!(rt; left.events.claims, 4);
+        assert_eq!(rt; left.events.answers, 3);
+        assert_eq!(rt; left.events.given_back, 1);
+    }
+}
+
+#[test]
+fn a_worker_that_wants_memory_ends(rt: HostRuntime) {
+    let alloc = rt.alloc();
+    for workers in [0u32, 1, 4] {
+        let mut leader = Asks::new(alloc, Aim::All);
+        leader.starts = false;
+        let program = wide(alloc, 0).expect(&rt, "memory");
+        leader.programs.push(program).expect(&rt, "memory");
+        let most = (workers as u64).wrapping_add(1);
+        let gate = Crowd {
+            most,
+            entered: AtomicU64::new(0),
+        };
+        let left = run(
+            &rt,
+            alloc,
+            workers,
+            Toy::new(Wants::Always),
+            &gate,
+            &mut leader,
+        );
+        assert!(rt; leader.wants);
+        assert_eq!(rt; left.events.answers, 0);
+        assert_eq!(rt; left.events.claims, left.events.given_back);
+        assert!(rt; left.events.given_back <= most);
+    }
+}
+
+#[test]
+fn two_workers_solve_beside_the_leader(rt: HostRuntime) {
+    let alloc = rt.alloc();
+    let mut leader = Asks::new(alloc, Aim::All);
+    leader.starts = false;
+    let mut sketches = [LEAF, CALLER, CALLER, CALLER];
+    sketches[2].name = b'h';
+    sketches[3].name = b'i';
+    let program = program(alloc, &sketches).expect(&rt, "memory");
+    leader.programs.push(program).expect(&rt, "memory");
+    let gate = Meeting::new(1, 4);
+    let left = run(
+        &rt,
+        alloc,
+        2,
+        Toy::new(Wants::Never),
+        &gate,
+        &mut leader,
+    );
+    assert_eq!(rt; left.solves, 4);
+    assert_eq!(rt; gate.met.load(Ordering::SeqCst), 1);
+    assert_eq!(rt; gate.late.load(Ordering::SeqCst), 0);
 }

@@ -1,10 +1,11 @@
--- Which program is present once one was met.
-use Rattle.std.proofs.Common.{◌≡◌, ◌+◌, ◌==◌, ◌&&◌, ℕ, Bool, true, false, not, cond, List, ◌++◌, refl, sym, ap, ◌∙◌, append-nil}
+-- Which program is present once one was met, and what is next then.
+use Rattle.std.proofs.Common.{◌≡◌, ◌+◌, ◌==◌, ◌&&◌, ℕ, Bool, true, false, not, cond, List, ◌++◌, refl, sym, ap, ◌∙◌, subst, append-nil}
 use Rattle.std.proofs.lemmas.Bool.Decides.{Decides-eqb}
 use Rattle.std.specs.Prelude.{IfOk}
 use Rattle.std.specs.declared.alloc.AllocError.{AllocError}
 use Rattle.std.specs.declared.result.Result.{Result}
 use Rattle.std.specs.declared.result.Result.TheVariants.{Ok, Err}
+use Rattle.shape_data.specs.declared.answer.Key.{Key}
 use Rattle.shape_data.specs.declared.program.Program.{Program}
 use Rattle.component_keys.specs.Tests.{program_test}
 use Rattle.claim_laws.specs.World.{Event, World, after, happened, may_happen}
@@ -12,7 +13,13 @@ use Rattle.claim_laws.specs.Logs.{replay}
 use Rattle.claim_laws.proofs.Push.{replay_push}
 use Rattle.summary_book.specs.declared.answers.Met.{Met}
 use Rattle.summary_book.specs.declared.answers.Met.TheVariants.{Same, Revised}
+use Rattle.summary_book.specs.declared.answers.Next.{Next}
+use Rattle.summary_book.specs.declared.answers.Next.TheVariants.{Yours, Waits, All}
+use Rattle.summary_book.specs.declared.aims.Aim.{Aim}
+use Rattle.summary_book.specs.Aims.{aimed}
 use Rattle.summary_book.specs.Book.{met_by, met_events}
+use Rattle.summary_book.specs.Next.{IsNext, events_by}
+use Rattle.worker_pool.specs.Turns.{met_log}
 
 abbrev revision_of : Met → ℕ
 revision_of Same = 0
@@ -58,3 +65,32 @@ pub is_present_after : (r : Result Met AllocError) (old new : List Event) (progr
     IfOk r (λ met. (replay new).program ≡ program)
 is_present_after (Ok met) old new program is log = met_is_present old new program met is log
 is_present_after (Err e) old new program is log = tt
+
+-- ---- what is next
+
+-- a claim leaves the program present
+still_claimed : (world : World) (number worker component : ℕ) (key : Key) →
+    (after world (Event.Claim number worker component key)).program ≡ world.program
+still_claimed world number worker component key = by_test (may_happen world (Event.Claim number worker component key))
+  where
+    by_test : (b : Bool) → (cond b (happened world (Event.Claim number worker component key)) world).program ≡ world.program
+    by_test true = refl
+    by_test false = refl
+
+pub still_present : (log later : List Event) (worker : ℕ) (next : Next) → later ≡ log ++ events_by worker next →
+    (replay later).program ≡ (replay log).program
+still_present log later worker (Yours claim) is =
+    let claimed : replay later ≡ after (replay log) (Event.Claim claim.number worker claim.component claim.key) =
+    ap replay is ∙ replay_push log (Event.Claim claim.number worker claim.component claim.key) in
+    ap (λ (w : World). w.program) claimed ∙ still_claimed (replay log) claim.number worker claim.component claim.key
+still_present log later worker (Waits number) is = ap (λ l. (replay l).program) (is ∙ append-nil log)
+still_present log later worker All is = ap (λ l. (replay l).program) (is ∙ append-nil log)
+
+-- what is next in the world of a log is so in that of a log that is the same
+pub next_once_met : (log later : List Event) (program : Program) (aim : Aim) (one other : Next) → later ≡ met_log log program →
+    (replay later).program ≡ program → one ≡ other → IsNext (replay later) (aimed (replay later).program aim) one →
+    IsNext (replay (met_log log program)) (aimed program aim) other
+next_once_met log later program aim one other is present same next =
+    subst (λ l. IsNext (replay l) (aimed program aim) other) is
+    (subst (λ (p : Program). IsNext (replay later) (aimed p aim) other) present
+    (subst (λ (n : Next). IsNext (replay later) (aimed (replay later).program aim) n) same next))

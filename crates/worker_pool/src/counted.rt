@@ -1,6 +1,7 @@
 //! The book with the number of its Publish events. Each call of the book that the pool makes is made here.
-ghost use Rattle.std.specs.Prelude.{◌≡◌, ◌<◌, ◌≤◌, ◌^◌, ◌++◌, [], IfOk, OnErr, vec_len};
+ghost use Rattle.std.specs.Prelude.{◌≡◌, ◌<◌, ◌≤◌, ◌^◌, ◌++◌, [], IfOk, OnErr, map, vec_len};
 ghost use Rattle.claim_laws.specs.Logs.{IsLegal, published, replay};
+ghost use Rattle.claim_laws.specs.World.{Event as Happening};
 ghost use Rattle.shape_data.specs.Sizes.{HasProgramSizes};
 ghost use Rattle.shape_data.specs.WellFormed.{IsProgram};
 ghost use Rattle.summary_book.specs.Aims.{aimed};
@@ -121,6 +122,7 @@ impl<J: Meaning, A: Ledger> Counted<J, A> {
 
     /// Gives back what is outstanding.
     pub fn sweep(&mut self)
+        ensures log { self.new.book.log ≡ self.old.book.log ++ map (λ out. Happening.GiveBack out.number) (replay self.old.book.log).out }
         ensures out { (replay self.new.book.log).out ≡ [] }
         ensures number { self.new.number ≡ self.old.number }
         ensures total { self.new.solves.total ≡ self.old.solves.total }

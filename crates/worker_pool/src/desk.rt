@@ -3,7 +3,7 @@
 //! Who finds nothing to do waits on the condition variable. No wake-up is lost. What somebody waits for is a change of the book or the
 //! closing of the desk, and both are made under the lock. Who waits has looked under the lock and lets it go only as it begins to
 //! wait, so a change comes either before the look, which sees it, or after the wait has begun; and each change that can give others
-//! something to do is followed by a ring that wakes all who wait: another program (`start`, `Turn::Again`), an answer or a give-back,
+//! something to do is followed by a ring that wakes all who wait: another program (`start`, `Locked::turn`), an answer or a give-back,
 //! and the closing. A claim gives nobody else anything to do, so it does not ring. Who is woken looks again.
 ghost use Rattle.std.specs.Prelude.{◌≡◌, ◌≤◌, IfOk, vec_len};
 ghost use Rattle.shape_data.specs.Sizes.{HasProgramSizes};
@@ -68,19 +68,16 @@ impl<'g, J: Job + Drop, G: Gate, A: Ledger, B: Ledger> Desk<'g, J, G, A, B> {
     ) -> Result<Vec<Kept>, AllocError>
         requires formed { IsProgram program.now.value }
         requires sizes { HasProgramSizes program.now.value }
-        requires parts { B.parts ≡ 1 }
         ensures entries { IfOk result (λ kept. AreEntries J.solves program.now.value aim.now kept.items) }
         ensures count { IfOk result (λ kept. vec_len kept ≤ hands.new.seen) }
         ensures rises { hands.old.seen ≤ hands.new.seen }
     {
-        self.start(rt, alloc, program)?;
         let mut tally = Tally::new();
         let mut guard = self.locked.lock(rt);
         for _ in rt.forever() {
-            match guard.turn(alloc, program, aim, hands)? {
+            match guard.turn(alloc, program, aim, hands, &self.bell)? {
                 Turn::Done(kept) => return Ok(kept),
-                Turn::Again => self.bell.notify_all(),
-                Turn::Waits => guard = self.bell.wait(rt, guard),
+                Turn::Waits { claim: _ } => guard = self.bell.wait(rt, guard),
                 Turn::Yours(claim) => {
                     drop(guard);
                     self.gate.enter(rt, claim.number());

@@ -71,10 +71,7 @@ impl<J: Meaning, A: Ledger, B: Ledger> Ended<J, A, B> {
             mut share,
             seen: mut total,
         } = self;
-        let Hands {
-            seen,
-            share: mut mark,
-        } = hands;
+        let (seen, mut mark) = hands.into_parts();
         counted.solves.audit(&mut share);
         total.audit(&mut mark);
         counted.sweep();

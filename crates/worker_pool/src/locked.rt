@@ -1,23 +1,26 @@
 //! What the lock holds.
-ghost use Rattle.std.specs.Prelude.{◌≡◌, ◌≤◌, ◌++◌, true, false, IfOk};
-ghost use Rattle.claim_laws.specs.Logs.{replay};
+ghost use Rattle.std.specs.Prelude.{◌≡◌, ◌≤◌, ◌++◌, true, false, IfOk, OnErr, OnOk, vec_len};
+ghost use Rattle.claim_laws.specs.Logs.{published, replay};
 ghost use Rattle.shape_data.specs.Sizes.{HasProgramSizes};
 ghost use Rattle.shape_data.specs.WellFormed.{IsProgram};
 ghost use Rattle.summary_book.specs.Aims.{aimed};
+ghost use Rattle.summary_book.specs.Book.{met_by};
 ghost use Rattle.summary_book.specs.declared.aims.Aim.TheVariants.{All};
 ghost use Rattle.summary_book.specs.Next.{IsNext, IsSettled, events_by};
 ghost use Rattle.worker_pool.specs.Ended.{IsGivenBack, IsPublished};
-ghost use Rattle.worker_pool.specs.Turns.{IsTurn};
+ghost use Rattle.worker_pool.specs.Entries.{AreEntries};
+ghost use Rattle.worker_pool.specs.Turns.{IsMetAtMost, IsTurn, leader, met_log, next_in};
 
 use crate::counted::Counted;
 use crate::ended::Ended;
 use crate::shares::{Hands, SolveShare};
 use crate::turn::Turn;
 use claim_core::{Claim, Meaning, Solved, Tally};
+use shape_data::answer::Kept;
 use shape_data::program::Program;
 use std::alloc::{AllocError, Global};
 use std::sync::ledger::Ledger;
-use std::sync::{Arc, ledger};
+use std::sync::{Arc, Condvar, ledger};
 use summary_book::{Aim, Met, Next};
 
 /// The number under which the leader claims. Workers have the numbers from 1 on.
@@ -68,7 +71,10 @@ impl<J: Meaning, A: Ledger, B: Ledger> Locked<J, A, B> {
     pub fn meet(&mut self, alloc: Global, program: &Arc<Program>) -> Result<Met, AllocError>
         requires formed { IsProgram program.now.value }
         requires sizes { HasProgramSizes program.now.value }
-        ensures { IfOk result (λ met. (replay self.new.counted.book.log).program ≡ program.now.value) }
+        ensures met { IfOk result (λ met. met ≡ met_by (replay self.old.counted.book.log) program.now.value) }
+        ensures log { OnOk result (self.new.counted.book.log ≡ met_log self.old.counted.book.log program.now.value) }
+        ensures program { OnOk result ((replay self.new.counted.book.log).program ≡ program.now.value) }
+        ensures err { OnErr result (self.new.counted.book.log ≡ self.old.counted.book.log) }
     {
         self.counted.meet(alloc, program)
     }
@@ -78,6 +84,7 @@ impl<J: Meaning, A: Ledger, B: Ledger> Locked<J, A, B> {
         ensures next { IfOk result
             (λ next. IsNext (replay self.old.counted.book.log) (aimed (replay self.old.counted.book.log).program All) next) }
         ensures log { IfOk result (λ next. self.new.counted.book.log ≡ self.old.counted.book.log ++ events_by worker next) }
+        ensures err { OnErr result (self.new.counted.book.log ≡ self.old.counted.book.log) }
     {
         self.counted.next(alloc, worker, &Aim::All)
     }
@@ -121,69 +128,64 @@ impl<J: Meaning, A: Ledger, B: Ledger> Locked<J, A, B> {
         self.counted.give_back(claim);
     }
 
-    /// One hold of the leader, which wants the entries of an aim in a program.
+    /// One hold of the leader, which wants the entries of an aim in a program: the program is met, and what is next for the aim is
+    /// asked for. Where nothing is left, the entries are collected. Whoever waits is woken where the program was another one.
     pub fn turn(
         &mut self,
         alloc: Global,
         program: &Arc<Program>,
         aim: &Aim,
         hands: &mut Hands<B>,
+        bell: &Condvar,
     ) -> Result<Turn, AllocError>
         requires formed { IsProgram program.now.value }
         requires sizes { HasProgramSizes program.now.value }
-        requires parts { B.parts ≡ 1 }
+        ensures program { OnOk result ((replay self.new.counted.book.log).program ≡ program.now.value) }
+        ensures log { IfOk result
+            (λ turn. self.new.counted.book.log ≡ met_log self.old.counted.book.log program.now.value ++ events_by leader (next_in turn)) }
+        ensures next { IfOk result
+            (λ turn. IsNext (replay (met_log self.old.counted.book.log program.now.value)) (aimed program.now.value aim.now) (next_in turn)) }
         ensures turn { IfOk result (λ turn. IsTurn J.solves program.now.value aim.now hands.new.seen turn) }
         ensures rises { hands.old.seen ≤ hands.new.seen }
+        ensures err { OnErr result (IsMetAtMost self.old.counted.book.log self.new.counted.book.log program.now.value) }
     {
+        if self.meet(alloc, program)? != Met::Same {
+            bell.notify_all();
+        }
         match self.counted.next(alloc, LEADER, aim)? {
             Next::Yours(claim) => Ok(Turn::Yours(claim)),
-            Next::Waits { claim: _ } => Ok(Turn::Waits),
-            Next::All => self.collect(alloc, program, aim, hands),
+            Next::Waits { claim } => Ok(Turn::Waits { claim }),
+            Next::All => Ok(Turn::Done(self.collect(alloc, aim, hands)?)),
         }
     }
 
-    /// Collects the entries of a settled aim, where the program is present, and else makes it so.
+    /// Collects the entries of a settled aim in the present program, and counts all that was published as seen.
     fn collect(
         &mut self,
         alloc: Global,
-        program: &Arc<Program>,
         aim: &Aim,
         hands: &mut Hands<B>,
-    ) -> Result<Turn, AllocError>
-        requires formed { IsProgram program.now.value }
-        requires sizes { HasProgramSizes program.now.value }
-        requires parts { B.parts ≡ 1 }
-        requires settled { IsSettled (replay self.old.counted.book.log) (aimed (replay self.old.counted.book.log).program aim.now) }
-        ensures turn { IfOk result (λ turn. IsTurn J.solves program.now.value aim.now hands.new.seen turn) }
+    ) -> Result<Vec<Kept>, AllocError>
+        requires { IsSettled (replay self.old.counted.book.log) (aimed (replay self.old.counted.book.log).program aim.now) }
+        ensures entries { IfOk result
+            (λ kept. AreEntries J.solves (replay self.old.counted.book.log).program aim.now kept.items) }
+        ensures count { IfOk result (λ kept. vec_len kept ≤ hands.new.seen) }
+        ensures seen { OnOk result (hands.new.seen ≡ published self.old.counted.book.log) }
         ensures rises { hands.old.seen ≤ hands.new.seen }
+        ensures log { self.new.counted.book.log ≡ self.old.counted.book.log }
     {
-        match self.counted.meet(alloc, program)? {
-            Met::Revised(_) => Ok(Turn::Again),
-            Met::Same => {
-                let kept = self.counted.entries(alloc, aim)?;
-                self.look(hands);
-                Ok(Turn::Done(kept))
-            }
-        }
+        let kept = self.counted.entries(alloc, aim)?;
+        self.look(hands);
+        Ok(kept)
     }
 
     /// Raises what the leader has seen to the number of Publish events.
     fn look(&mut self, hands: &mut Hands<B>)
-        requires { B.parts ≡ 1 }
         ensures seen { hands.new.seen ≡ self.old.counted.number }
         ensures rises { hands.old.seen ≤ hands.new.seen }
+        ensures log { self.new.counted.book.log ≡ self.old.counted.book.log }
     {
-        let Locked {
-            counted,
-            closed: _,
-            own: _,
-            seen: total,
-        } = self;
-        let Hands { seen, share } = hands;
-        total.audit(share);
-        let number = counted.number;
-        total.add(share, number - *seen);
-        *seen = number;
+        hands.look(&mut self.seen, self.counted.number);
     }
 
     /// The book and the shares, once no thread has the lock any more.

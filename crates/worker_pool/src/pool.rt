@@ -30,8 +30,6 @@ pub trait Leader<J: Job + Drop, G: Gate> {
         desk: &Desk<'_, J, G, A, B>,
         hands: &mut Hands<B>,
     )
-        requires parts { B.parts ≡ 1 }
-        requires seen { hands.old.seen ≡ 0 }
         ensures { led self.old self.new hands.new.seen };
 }
 
@@ -136,12 +134,9 @@ fn run_all<
     leader: &mut L,
     hands: &mut Hands<B>,
 )
-    requires parts { B.parts ≡ 1 }
-    requires seen { hands.old.seen ≡ 0 }
     ensures { L.led leader.old leader.new hands.new.seen }
 {
     let mut one = ||
-        requires { (B.parts ≡ 1) × (hands.now.seen ≡ 0) }
         ensures { L.led leader.entry.now leader.exit.now hands.exit.now.seen }
     { lead_all(rt, alloc, desk, leader, hands) };
     let mut others = || work_all(rt, alloc, desk, shares);
@@ -156,8 +151,6 @@ fn lead_all<R: Wait, J: Job + Drop, G: Gate, L: Leader<J, G>, A: Ledger, B: Ledg
     leader: &mut L,
     hands: &mut Hands<B>,
 )
-    requires parts { B.parts ≡ 1 }
-    requires seen { hands.old.seen ≡ 0 }
     ensures { L.led leader.old leader.new hands.new.seen }
 {
     leader.lead(rt, alloc, desk, hands);

@@ -8,8 +8,9 @@ pub enum Turn {
     Done(Vec<Kept>),
     /// It solves this claim.
     Yours(Claim),
-    /// It waits until a claim has ended.
-    Waits,
-    /// It asks again, since another program was present.
-    Again,
+    /// It waits until a claim has ended: the least one by which a component of its aim is out.
+    Waits {
+        /// The number of the claim.
+        claim: u64,
+    },
 }

@@ -17,18 +17,27 @@ use worker_pool::desk::Desk;
 use worker_pool::pool::Leader;
 use worker_pool::shares::Hands;
 
-/// A job that answers every key with no specs, but wants memory once, at its solve of this number.
+/// When a job wants memory.
+#[derive(Clone, Copy)]
+pub enum Wants {
+    Never,
+    /// At its solve of this number, from 1 on.
+    Once(u64),
+    Always,
+}
+
+/// A job that answers every key with no specs, or wants memory.
 #[derive(Drop)]
 pub struct Toy {
-    wants_at: u64,
+    wants: Wants,
     solved: AtomicU64,
 }
 
 impl Toy {
-    /// A job that wants memory at its solve of this number, from 1 on; at none for 0.
-    pub fn new(wants_at: u64) -> Self {
+    /// A job that wants memory so often.
+    pub fn new(wants: Wants) -> Self {
         Toy {
-            wants_at,
+            wants,
             solved: AtomicU64::new(0),
         }
     }
@@ -62,8 +71,13 @@ impl Job for Toy {
         key: &Arc<Key>,
         tally: &mut Tally,
     ) -> Result<Solved<Toy>, AllocError> {
-        let turn = self.solved.fetch_add(1, Ordering::SeqCst);
-        if turn == self.wants_at.wrapping_sub(1) {
+        let turn = self.solved.fetch_add(1, Ordering::SeqCst).wrapping_add(1);
+        let wants = match self.wants {
+            Wants::Never => false,
+            Wants::Once(at) => turn == at,
+            Wants::Always => true,
+        };
+        if wants {
             return Err(AllocError);
         }
         let answer = Answer {
@@ -165,30 +179,72 @@ pub fn wide(alloc: Global, value: i32) -> Result<Arc<Program>, AllocError> {
     Ok(Arc::new(alloc, program)?)
 }
 
-/// Makes claim 1 wait until claim 2 has entered, for at most `TURNS` turns, and notes who entered.
+/// Lets the first claims wait `PAUSE` turns each, so that all threads are at the desk. Each later one before the last waits until the
+/// last has entered, for at most `TURNS` turns.
 #[derive(Drop)]
 pub struct Meeting {
-    pub first: AtomicU64,
-    pub second: AtomicU64,
+    pauses: u64,
+    last: u64,
+    /// Whether the last has entered.
+    pub met: AtomicU64,
+    /// How many waited in vain.
     pub late: AtomicU64,
 }
 
+const PAUSE: u32 = 1_000_000;
+
 const TURNS: u32 = 100_000_000;
+
+impl Meeting {
+    /// A gate for the claims behind the first `pauses`, up to `last`.
+    pub fn new(pauses: u64, last: u64) -> Self {
+        Meeting {
+            pauses,
+            last,
+            met: AtomicU64::new(0),
+            late: AtomicU64::new(0),
+        }
+    }
+}
 
 impl Gate for Meeting {
     fn enter<R: Wait>(&self, _rt: &R, claim: u64) {
-        if claim == 2 {
-            self.second.store(1, Ordering::SeqCst);
+        if claim >= self.last {
+            self.met.store(1, Ordering::SeqCst);
+            return;
         }
-        if claim == 1 {
-            self.first.store(1, Ordering::SeqCst);
-            for _ in 0..TURNS {
-                if self.second.load(Ordering::SeqCst) == 1 {
-                    return;
-                }
-                thread::yield_now();
+        let pauses = claim <= self.pauses;
+        let turns = if pauses { PAUSE } else { TURNS };
+        for _ in 0..turns {
+            if self.met.load(Ordering::SeqCst) == 1 {
+                return;
             }
-            self.late.store(1, Ordering::SeqCst);
+            thread::yield_now();
+        }
+        if !pauses {
+            self.late.fetch_add(1, Ordering::SeqCst);
+        }
+    }
+}
+
+/// Lets claim 1 wait until more than `most` claims have entered, for at most `PAUSE` turns.
+#[derive(Drop)]
+pub struct Crowd {
+    pub most: u64,
+    pub entered: AtomicU64,
+}
+
+impl Gate for Crowd {
+    fn enter<R: Wait>(&self, _rt: &R, claim: u64) {
+        self.entered.fetch_add(1, Ordering::SeqCst);
+        if claim != 1 {
+            return;
+        }
+        for _ in 0..PAUSE {
+            if self.entered.load(Ordering::SeqCst) > self.most {
+                return;
+            }
+            thread::yield_now();
         }
     }
 }
@@ -213,17 +269,23 @@ impl Gate for Yields {
 pub struct Asks {
     pub programs: Vec<Arc<Program>>,
     pub aim: Aim,
+    /// Whether each program is started before it is settled.
+    pub starts: bool,
+    /// Whether it asks once more where memory was wanting.
+    pub again: bool,
     pub letters: Vec<u8>,
     pub most: usize,
     pub wants: bool,
 }
 
 impl Asks {
-    /// A leader with no program.
+    /// A leader with no program, which starts each.
     pub fn new(alloc: Global, aim: Aim) -> Self {
         Asks {
             programs: Vec::new(alloc),
             aim,
+            starts: true,
+            again: false,
             letters: Vec::new(alloc),
             most: 0,
             wants: false,
@@ -239,15 +301,17 @@ fn ask<R: Wait, G: Gate, A: Ledger, B: Ledger>(
     hands: &mut Hands<B>,
     program: &Arc<Program>,
     aim: &Aim,
+    starts: bool,
 ) -> Result<Vec<Kept>, AllocError>
-    requires { B.parts ≡ 1 }
     ensures count { IfOk result (λ kept. vec_len kept ≤ hands.new.seen) }
     ensures rises { hands.old.seen ≤ hands.new.seen }
 {
     if !well_formed_program(program) || !has_program_sizes(program) {
         return Err(AllocError);
     }
-    desk.start(rt, alloc, program)?;
+    if starts {
+        desk.start(rt, alloc, program)?;
+    }
     desk.settle(rt, alloc, program, aim, hands)
 }
 
@@ -275,13 +339,19 @@ impl<G: Gate> Leader<Toy, G> for Asks {
         let Asks {
             programs,
             aim,
+            starts,
+            again,
             letters,
             most,
             wants,
         } = self;
         *most = 0;
         for program in programs.as_slice() {
-            let Ok(kept) = ask(rt, alloc, desk, hands, program, aim) else {
+            let mut answer = ask(rt, alloc, desk, hands, program, aim, *starts);
+            if *again && answer.is_err() {
+                answer = ask(rt, alloc, desk, hands, program, aim, *starts);
+            }
+            let Ok(kept) = answer else {
                 *wants = true;
                 return;
             };
