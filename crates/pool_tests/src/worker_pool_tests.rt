@@ -96,7 +96,7 @@ enum Told {
     GiveBack(u64),
 }
 
-fn told(event: &Event) -> Told {
+fn without_content(event: &Event) -> Told {
     match event {
         Event::Revise {
             revision,
@@ -295,7 +295,7 @@ fn a_leader_alone_leaves_the_events_of_its_programs(rt: HostRuntime) {
     );
     let mut events = Vec::new(alloc);
     for event in &joined.book.into_log() {
-        events.push(told(event)).expect(&rt, "memory");
+        events.push(without_content(event)).expect(&rt, "memory");
     }
     let mut worked = Vec::new(alloc);
     worked.push(Told::Revise(1)).expect(&rt, "memory");

@@ -42,7 +42,6 @@ fn answers_for<R: Wait, G: Gate, A: Ledger, B: Ledger>(
 ) -> Result<Vec<Kept>, AllocError>
     requires formed { IsProgram program.now.value }
     requires sizes { HasProgramSizes program.now.value }
-    requires parts { B.parts ≡ 1 }
     ensures answers { IfOk result (λ kept. answers_kept kept.items ≡ aimed_answers solve program.now.value aim.now) }
     ensures worked { OnOk result (count_reached program.now.value aim.now ≤ hands.new.seen) }
     ensures rises { hands.old.seen ≤ hands.new.seen }
@@ -61,7 +60,6 @@ pub fn summaries<R: Wait, G: Gate, A: Ledger, B: Ledger>(
 ) -> Result<Row<ProcSummary>, AllocError>
     requires formed { IsProgram program.now.value }
     requires sizes { HasProgramSizes program.now.value }
-    requires parts { B.parts ≡ 1 }
     ensures value { IfOk result (λ known. known ≡ program_summaries program.now.value) }
     ensures reportable { IfOk result (λ known. AreReportable program.now.value.structs program.now.value.procs known) }
     ensures worked { OnOk result (count_reached program.now.value aim.All ≤ hands.new.seen) }
@@ -87,7 +85,6 @@ pub fn summary<R: Wait, G: Gate, A: Ledger, B: Ledger>(
     requires formed { IsProgram program.now.value }
     requires sizes { HasProgramSizes program.now.value }
     requires defined { is_some (position (is_named name.now) program.now.value.procs) ≡ true }
-    requires parts { B.parts ≡ 1 }
     ensures value { IfOk result (λ known. named_summary program.now.value name.now ≡ Some known) }
     ensures printable { IfOk result (λ known. IsPrintable program.now.value.structs known) }
     ensures worked { OnOk result (count_reached program.now.value (aim.One name.now) ≤ hands.new.seen) }

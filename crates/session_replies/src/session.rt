@@ -151,7 +151,6 @@ impl Session {
         hands: &mut Hands<B>,
         name: &Name,
     ) -> Result<Vec<u8>, AllocError>
-        requires parts { B.parts ≡ 1 }
         ensures answers { IfOk result (λ text. Answers self.old (command.Show name.now) text.items self.new) }
         ensures worked { OnOk result (IsWorked self.old (command.Show name.now) hands.new.seen) }
         ensures rises { hands.old.seen ≤ hands.new.seen }
@@ -171,7 +170,6 @@ impl Session {
         desk: &Desk<'_, SolveJob, G, A, B>,
         hands: &mut Hands<B>,
     ) -> Result<Reply, AllocError>
-        requires parts { B.parts ≡ 1 }
         ensures answers { IfOk result (λ reply. Answers self.old command.Report reply.text.items self.new) }
         ensures feeds { IfOk result (λ reply. Feeds self.old command.Report reply.entries.items) }
         ensures worked { OnOk result (IsWorked self.old command.Report hands.new.seen) }
@@ -196,7 +194,6 @@ impl Session {
         desk: &Desk<'_, SolveJob, G, A, B>,
         hands: &mut Hands<B>,
     ) -> Result<Vec<u8>, AllocError>
-        requires parts { B.parts ≡ 1 }
         ensures same { self.new ≡ self.old }
         ensures text { IfOk result (λ text. (answer : Result Program Refused) × Reads self.old.files answer × (text.items ≡ text_of program_total answer)) }
         ensures worked { OnOk result ((program : Program) → Reads self.old.files (Ok program) → count_reached program aim.All ≤ hands.new.seen) }
@@ -218,7 +215,6 @@ impl Session {
         hands: &mut Hands<B>,
         n: u32,
     ) -> Result<Vec<u8>, AllocError>
-        requires parts { B.parts ≡ 1 }
         requires some { 1 ≤ n }
         requires few { n ≤ 1000 }
         ensures answers { IfOk result (λ text. Answers self.old (command.Gen n) text.items self.new) }
@@ -242,7 +238,6 @@ impl Session {
         hands: &mut Hands<B>,
         asked: Command,
     ) -> Result<Vec<u8>, AllocError>
-        requires parts { B.parts ≡ 1 }
         requires answered { IsAnswered asked }
         requires allowed { IsCommand asked }
         requires other { asked ≢ command.Report }
@@ -275,7 +270,6 @@ impl Session {
         hands: &mut Hands<B>,
         asked: Command,
     ) -> Result<Reply, AllocError>
-        requires parts { B.parts ≡ 1 }
         requires answered { IsAnswered asked }
         requires allowed { IsCommand asked }
         ensures answers { IfOk result (λ reply. Answers self.old asked reply.text.items self.new) }

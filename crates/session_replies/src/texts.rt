@@ -98,7 +98,6 @@ pub fn block_text<R: Wait, G: Gate, A: Ledger, B: Ledger>(
 ) -> Result<Vec<u8>, AllocError>
     requires formed { IsProgram program.now.value }
     requires sizes { HasProgramSizes program.now.value }
-    requires parts { B.parts ≡ 1 }
     ensures text { IfOk result (λ text. text.items ≡ block_named name.now program.now.value) }
     ensures worked { OnOk result (is_some (position (is_named name.now) program.now.value.procs) ≡ true → count_reached program.now.value (aim.One name.now) ≤ hands.new.seen) }
     ensures rises { hands.old.seen ≤ hands.new.seen }
@@ -125,7 +124,6 @@ pub fn total_text<R: Wait, G: Gate, A: Ledger, B: Ledger>(
 ) -> Result<Vec<u8>, AllocError>
     requires formed { IsProgram program.now.value }
     requires sizes { HasProgramSizes program.now.value }
-    requires parts { B.parts ≡ 1 }
     ensures text { IfOk result (λ text. text.items ≡ program_total program.now.value) }
     ensures worked { OnOk result (count_reached program.now.value aim.All ≤ hands.new.seen) }
     ensures rises { hands.old.seen ≤ hands.new.seen }
@@ -182,7 +180,6 @@ pub fn make_report<R: Wait, G: Gate, A: Ledger, B: Ledger>(
 ) -> Result<Report, AllocError>
     requires formed { IsProgram program.now.value }
     requires sizes { HasProgramSizes program.now.value }
-    requires parts { B.parts ≡ 1 }
     ensures text { IfOk result (λ report. report.reply.text.items ≡ program_report program.now.value) }
     ensures entries { IfOk result (λ report. report.reply.entries.items ≡ program_entries program.now.value) }
     ensures missing { IfOk result (λ report. report.missing ≡ program_missing program.now.value) }

@@ -1,15 +1,17 @@
 -- Which program is present once one was met, and what is next then.
-use Rattle.std.proofs.Common.{◌≡◌, ◌+◌, ◌==◌, ◌&&◌, ℕ, Bool, true, false, not, cond, List, ◌++◌, refl, sym, ap, ◌∙◌, subst, append-nil}
+use Rattle.std.proofs.Common.{◌≡◌, ◌+◌, ◌==◌, ◌&&◌, ℕ, Bool, true, false, not, cond, List, ◌++◌, map, refl, sym, ap, ◌∙◌, subst, append-nil}
 use Rattle.std.proofs.lemmas.Bool.Decides.{Decides-eqb}
 use Rattle.std.specs.Prelude.{IfOk}
 use Rattle.std.specs.declared.alloc.AllocError.{AllocError}
 use Rattle.std.specs.declared.result.Result.{Result}
 use Rattle.std.specs.declared.result.Result.TheVariants.{Ok, Err}
+use Rattle.shape_data.specs.declared.answer.Answer.{Answer}
+use Rattle.shape_data.specs.declared.answer.Kept.{Kept}
 use Rattle.shape_data.specs.declared.answer.Key.{Key}
 use Rattle.shape_data.specs.declared.program.Program.{Program}
 use Rattle.component_keys.specs.Tests.{program_test}
 use Rattle.claim_laws.specs.World.{Event, World, after, happened, may_happen}
-use Rattle.claim_laws.specs.Logs.{replay}
+use Rattle.claim_laws.specs.Logs.{published, replay}
 use Rattle.claim_laws.proofs.Push.{replay_push}
 use Rattle.summary_book.specs.declared.answers.Met.{Met}
 use Rattle.summary_book.specs.declared.answers.Met.TheVariants.{Same, Revised}
@@ -18,8 +20,10 @@ use Rattle.summary_book.specs.declared.answers.Next.TheVariants.{Yours, Waits, A
 use Rattle.summary_book.specs.declared.aims.Aim.{Aim}
 use Rattle.summary_book.specs.Aims.{aimed}
 use Rattle.summary_book.specs.Book.{met_by, met_events}
-use Rattle.summary_book.specs.Next.{IsNext, events_by}
-use Rattle.worker_pool.specs.Turns.{met_log}
+use Rattle.summary_book.specs.Next.{IsNext, events_by, slots_by}
+use Rattle.summary_book.specs.Views.{slot_solution, solution_of}
+use Rattle.worker_pool.specs.Entries.{AreEntries}
+use Rattle.worker_pool.specs.Turns.{AreCollected, met_log}
 
 abbrev revision_of : Met → ℕ
 revision_of Same = 0
@@ -94,3 +98,20 @@ next_once_met log later program aim one other is present same next =
     subst (λ l. IsNext (replay l) (aimed program aim) other) is
     (subst (λ (p : Program). IsNext (replay later) (aimed p aim) other) present
     (subst (λ (n : Next). IsNext (replay later) (aimed (replay later).program aim) n) same next))
+
+-- where nothing is left, no event is added
+pub all_once_met : (log mid later : List Event) (program : Program) (worker : ℕ) (next : Next) → mid ≡ met_log log program → next ≡ All →
+    later ≡ mid ++ events_by worker next → later ≡ met_log log program
+all_once_met log mid later program worker next met same is =
+    is ∙ ap (λ (n : Next). mid ++ events_by worker n) same ∙ append-nil mid ∙ met
+
+pub collected_once_met : (solves : Key → Answer → Type 0) (log later : List Event) (program : Program) (aim : Aim) (seen : ℕ) (kept : List Kept) →
+    later ≡ met_log log program → (replay later).program ≡ program → AreEntries solves (replay later).program aim kept →
+    map solution_of kept ≡ map slot_solution (slots_by (replay later) (aimed (replay later).program aim)) → seen ≡ published later →
+    AreCollected solves (met_log log program) program aim seen kept
+collected_once_met solves log later program aim seen kept is present entries slots seen_is = record {
+  entries = subst (λ (p : Program). AreEntries solves p aim kept) present entries;
+  slots = subst (λ l. map solution_of kept ≡ map slot_solution (slots_by (replay l) (aimed program aim))) is
+      (subst (λ (p : Program). map solution_of kept ≡ map slot_solution (slots_by (replay later) (aimed p aim))) present slots);
+  seen_is = seen_is ∙ ap published is;
+}

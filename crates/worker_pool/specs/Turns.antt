@@ -1,11 +1,15 @@
 -- What one hold of the lock gives the leader, and which events it adds to the log.
-use Rattle.std.specs.Prelude.{◌≡◌, ◌⊎◌, ℕ, ◌≤◌, List, ◌++◌, vec_len}
+use Rattle.std.specs.Prelude.{◌≡◌, ◌⊎◌, ℕ, ◌≤◌, List, ◌++◌, map, vec_len}
 use Rattle.shape_data.specs.declared.answer.Answer.{Answer}
+use Rattle.shape_data.specs.declared.answer.Kept.{Kept}
 use Rattle.shape_data.specs.declared.answer.Key.{Key}
 use Rattle.shape_data.specs.declared.program.Program.{Program}
 use Rattle.claim_laws.specs.World.{Event}
-use Rattle.claim_laws.specs.Logs.{replay}
+use Rattle.claim_laws.specs.Logs.{published, replay}
+use Rattle.summary_book.specs.Aims.{aimed}
 use Rattle.summary_book.specs.Book.{met_by, met_events}
+use Rattle.summary_book.specs.Next.{slots_by}
+use Rattle.summary_book.specs.Views.{slot_solution, solution_of}
 use Rattle.summary_book.specs.declared.aims.Aim.{Aim}
 use Rattle.summary_book.specs.declared.answers.Next.{Next}
 use Rattle.summary_book.specs.declared.answers.Next.TheVariants as next
@@ -27,11 +31,17 @@ next_in (Done kept) = next.All
 next_in (Yours claim) = next.Yours claim
 next_in (Waits claim) = next.Waits claim
 
--- where it ends with entries, they are those of the aim, and as many publishes were seen
-abbrev pub IsTurn : (Key → Answer → Type 0) → Program → Aim → ℕ → Turn → Type 0
-IsTurn solves program aim seen (Done kept) = AreEntries solves program aim kept.items × (vec_len kept ≤ seen)
-IsTurn solves program aim seen (Yours claim) = Unit {0}
-IsTurn solves program aim seen (Waits claim) = Unit {0}
+-- the entries are those of the aim, and they are what the log leaves: the keys and answers of its slots. All that was published was seen
+pub record AreCollected (solves : Key → Answer → Type 0) (log : List Event) (program : Program) (aim : Aim) (seen : ℕ) (kept : List Kept) : Type 0 where
+  pub entries : AreEntries solves program aim kept
+  pub slots : map solution_of kept ≡ map slot_solution (slots_by (replay log) (aimed program aim))
+  pub seen_is : seen ≡ published log
+
+-- where it ends with entries, they were collected from the log, and as many publishes were seen at least
+abbrev pub IsTurn : (Key → Answer → Type 0) → List Event → Program → Aim → ℕ → Turn → Type 0
+IsTurn solves log program aim seen (Done kept) = AreCollected solves log program aim seen kept.items × (vec_len kept ≤ seen)
+IsTurn solves log program aim seen (Yours claim) = Unit {0}
+IsTurn solves log program aim seen (Waits claim) = Unit {0}
 
 -- the log is as before, or the program was met
 abbrev pub IsMetAtMost : List Event → List Event → Program → Type 0

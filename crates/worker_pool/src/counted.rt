@@ -6,7 +6,8 @@ ghost use Rattle.shape_data.specs.Sizes.{HasProgramSizes};
 ghost use Rattle.shape_data.specs.WellFormed.{IsProgram};
 ghost use Rattle.summary_book.specs.Aims.{aimed};
 ghost use Rattle.summary_book.specs.Book.{met_by, met_events};
-ghost use Rattle.summary_book.specs.Next.{IsNext, IsSettled, events_by};
+ghost use Rattle.summary_book.specs.Next.{IsNext, IsSettled, events_by, slots_by};
+ghost use Rattle.summary_book.specs.Views.{slot_solution, solution_of};
 ghost use Rattle.worker_pool.specs.Ended.{IsGivenBack, IsPublished};
 ghost use Rattle.worker_pool.specs.Entries.{AreEntries};
 
@@ -134,6 +135,7 @@ impl<J: Meaning, A: Ledger> Counted<J, A> {
     pub fn entries(&self, alloc: Global, aim: &Aim) -> Result<Vec<Kept>, AllocError>
         requires { IsSettled (replay self.now.book.log) (aimed (replay self.now.book.log).program aim.now) }
         ensures entries { IfOk result (λ kept. AreEntries J.solves (replay self.now.book.log).program aim.now kept.items) }
+        ensures slots { IfOk result (λ kept. map solution_of kept.items ≡ map slot_solution (slots_by (replay self.now.book.log) (aimed (replay self.now.book.log).program aim.now))) }
         ensures count { IfOk result (λ kept. vec_len kept ≤ self.now.number) }
     {
         let _events = self.book.log();

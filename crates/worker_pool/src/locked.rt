@@ -1,12 +1,13 @@
 //! What the lock holds.
-ghost use Rattle.std.specs.Prelude.{◌≡◌, ◌≤◌, ◌++◌, true, false, IfOk, OnErr, OnOk, vec_len};
+ghost use Rattle.std.specs.Prelude.{◌≡◌, ◌≤◌, ◌++◌, true, false, IfOk, OnErr, OnOk, map, vec_len};
 ghost use Rattle.claim_laws.specs.Logs.{published, replay};
 ghost use Rattle.shape_data.specs.Sizes.{HasProgramSizes};
 ghost use Rattle.shape_data.specs.WellFormed.{IsProgram};
 ghost use Rattle.summary_book.specs.Aims.{aimed};
 ghost use Rattle.summary_book.specs.Book.{met_by};
 ghost use Rattle.summary_book.specs.declared.aims.Aim.TheVariants.{All};
-ghost use Rattle.summary_book.specs.Next.{IsNext, IsSettled, events_by};
+ghost use Rattle.summary_book.specs.Next.{IsNext, IsSettled, events_by, slots_by};
+ghost use Rattle.summary_book.specs.Views.{slot_solution, solution_of};
 ghost use Rattle.worker_pool.specs.Ended.{IsGivenBack, IsPublished};
 ghost use Rattle.worker_pool.specs.Entries.{AreEntries};
 ghost use Rattle.worker_pool.specs.Turns.{IsMetAtMost, IsTurn, leader, met_log, next_in};
@@ -75,6 +76,7 @@ impl<J: Meaning, A: Ledger, B: Ledger> Locked<J, A, B> {
         ensures log { OnOk result (self.new.counted.book.log ≡ met_log self.old.counted.book.log program.now.value) }
         ensures program { OnOk result ((replay self.new.counted.book.log).program ≡ program.now.value) }
         ensures err { OnErr result (self.new.counted.book.log ≡ self.old.counted.book.log) }
+        ensures closed { self.new.closed ≡ self.old.closed }
     {
         self.counted.meet(alloc, program)
     }
@@ -85,6 +87,7 @@ impl<J: Meaning, A: Ledger, B: Ledger> Locked<J, A, B> {
             (λ next. IsNext (replay self.old.counted.book.log) (aimed (replay self.old.counted.book.log).program All) next) }
         ensures log { IfOk result (λ next. self.new.counted.book.log ≡ self.old.counted.book.log ++ events_by worker next) }
         ensures err { OnErr result (self.new.counted.book.log ≡ self.old.counted.book.log) }
+        ensures closed { self.new.closed ≡ self.old.closed }
     {
         self.counted.next(alloc, worker, &Aim::All)
     }
@@ -101,6 +104,7 @@ impl<J: Meaning, A: Ledger, B: Ledger> Locked<J, A, B> {
         requires tally { tally.old ≡ 1 }
         ensures log { IsPublished self.old.counted.book.log self.new.counted.book.log claim solved.answer }
         ensures tally { tally.new ≡ 0 }
+        ensures closed { self.new.closed ≡ self.old.closed }
     {
         self.counted.publish(claim, solved, tally, mine);
     }
@@ -111,6 +115,7 @@ impl<J: Meaning, A: Ledger, B: Ledger> Locked<J, A, B> {
         requires tally { tally.old ≡ 1 }
         ensures log { IsPublished self.old.counted.book.log self.new.counted.book.log claim solved.answer }
         ensures tally { tally.new ≡ 0 }
+        ensures closed { self.new.closed ≡ self.old.closed }
     {
         let Locked {
             counted,
@@ -123,7 +128,8 @@ impl<J: Meaning, A: Ledger, B: Ledger> Locked<J, A, B> {
 
     /// Ends a claim without an answer.
     pub fn give_back(&mut self, claim: Claim)
-        ensures { IsGivenBack self.old.counted.book.log self.new.counted.book.log claim }
+        ensures log { IsGivenBack self.old.counted.book.log self.new.counted.book.log claim }
+        ensures closed { self.new.closed ≡ self.old.closed }
     {
         self.counted.give_back(claim);
     }
@@ -145,9 +151,11 @@ impl<J: Meaning, A: Ledger, B: Ledger> Locked<J, A, B> {
             (λ turn. self.new.counted.book.log ≡ met_log self.old.counted.book.log program.now.value ++ events_by leader (next_in turn)) }
         ensures next { IfOk result
             (λ turn. IsNext (replay (met_log self.old.counted.book.log program.now.value)) (aimed program.now.value aim.now) (next_in turn)) }
-        ensures turn { IfOk result (λ turn. IsTurn J.solves program.now.value aim.now hands.new.seen turn) }
+        ensures turn { IfOk result
+            (λ turn. IsTurn J.solves (met_log self.old.counted.book.log program.now.value) program.now.value aim.now hands.new.seen turn) }
         ensures rises { hands.old.seen ≤ hands.new.seen }
         ensures err { OnErr result (IsMetAtMost self.old.counted.book.log self.new.counted.book.log program.now.value) }
+        ensures closed { self.new.closed ≡ self.old.closed }
     {
         if self.meet(alloc, program)? != Met::Same {
             bell.notify_all();
@@ -169,10 +177,13 @@ impl<J: Meaning, A: Ledger, B: Ledger> Locked<J, A, B> {
         requires { IsSettled (replay self.old.counted.book.log) (aimed (replay self.old.counted.book.log).program aim.now) }
         ensures entries { IfOk result
             (λ kept. AreEntries J.solves (replay self.old.counted.book.log).program aim.now kept.items) }
+        ensures slots { IfOk result
+            (λ kept. map solution_of kept.items ≡ map slot_solution (slots_by (replay self.old.counted.book.log) (aimed (replay self.old.counted.book.log).program aim.now))) }
         ensures count { IfOk result (λ kept. vec_len kept ≤ hands.new.seen) }
         ensures seen { OnOk result (hands.new.seen ≡ published self.old.counted.book.log) }
         ensures rises { hands.old.seen ≤ hands.new.seen }
         ensures log { self.new.counted.book.log ≡ self.old.counted.book.log }
+        ensures closed { self.new.closed ≡ self.old.closed }
     {
         let kept = self.counted.entries(alloc, aim)?;
         self.look(hands);
@@ -184,6 +195,7 @@ impl<J: Meaning, A: Ledger, B: Ledger> Locked<J, A, B> {
         ensures seen { hands.new.seen ≡ self.old.counted.number }
         ensures rises { hands.old.seen ≤ hands.new.seen }
         ensures log { self.new.counted.book.log ≡ self.old.counted.book.log }
+        ensures closed { self.new.closed ≡ self.old.closed }
     {
         hands.look(&mut self.seen, self.counted.number);
     }

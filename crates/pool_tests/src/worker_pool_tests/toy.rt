@@ -12,6 +12,7 @@ use std::sync::atomic::{AtomicU64, Ordering};
 use std::sync::ledger::Ledger;
 use std::sync::{Arc, Wait};
 use std::thread;
+use std::time::Duration;
 use summary_book::Aim;
 use worker_pool::desk::Desk;
 use worker_pool::pool::Leader;
@@ -179,7 +180,12 @@ pub fn wide(alloc: Global, value: i32) -> Result<Arc<Program>, AllocError> {
     Ok(Arc::new(alloc, program)?)
 }
 
-/// Lets the first claims wait `PAUSE` turns each, so that all threads are at the desk. Each later one before the last waits until the
+/// Sleeps for a millisecond, or less.
+fn nap<R: Wait>(rt: &R) {
+    AtomicU64::new(0).park_timeout(rt, 0, Duration::from_millis(1));
+}
+
+/// Lets the first claims wait for `NAPS` milliseconds, until all threads are at the desk. Each later one before the last waits until the
 /// last has entered, for at most `TURNS` turns.
 #[derive(Drop)]
 pub struct Meeting {
@@ -191,7 +197,7 @@ pub struct Meeting {
     pub late: AtomicU64,
 }
 
-const PAUSE: u32 = 1_000_000;
+const NAPS: u32 = 300;
 
 const TURNS: u32 = 100_000_000;
 
@@ -208,26 +214,28 @@ impl Meeting {
 }
 
 impl Gate for Meeting {
-    fn enter<R: Wait>(&self, _rt: &R, claim: u64) {
+    fn enter<R: Wait>(&self, rt: &R, claim: u64) {
         if claim >= self.last {
             self.met.store(1, Ordering::SeqCst);
             return;
         }
-        let pauses = claim <= self.pauses;
-        let turns = if pauses { PAUSE } else { TURNS };
-        for _ in 0..turns {
+        if claim <= self.pauses {
+            for _ in 0..NAPS {
+                nap(rt);
+            }
+            return;
+        }
+        for _ in 0..TURNS {
             if self.met.load(Ordering::SeqCst) == 1 {
                 return;
             }
             thread::yield_now();
         }
-        if !pauses {
-            self.late.fetch_add(1, Ordering::SeqCst);
-        }
+        self.late.fetch_add(1, Ordering::SeqCst);
     }
 }
 
-/// Lets claim 1 wait until more than `most` claims have entered, for at most `PAUSE` turns.
+/// Lets claim 1 wait until more than `most` claims have entered, for at most `NAPS` milliseconds.
 #[derive(Drop)]
 pub struct Crowd {
     pub most: u64,
@@ -235,16 +243,16 @@ pub struct Crowd {
 }
 
 impl Gate for Crowd {
-    fn enter<R: Wait>(&self, _rt: &R, claim: u64) {
+    fn enter<R: Wait>(&self, rt: &R, claim: u64) {
         self.entered.fetch_add(1, Ordering::SeqCst);
         if claim != 1 {
             return;
         }
-        for _ in 0..PAUSE {
+        for _ in 0..NAPS {
             if self.entered.load(Ordering::SeqCst) > self.most {
                 return;
             }
-            thread::yield_now();
+            nap(rt);
         }
     }
 }
