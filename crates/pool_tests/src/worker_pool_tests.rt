@@ -1,7 +1,9 @@
 //! The pool over small programs, with a job that answers at once.
 mod toy;
 
-use crate::worker_pool_tests::toy::{Asks, Crowd, Meeting, Sketch, Toy, Wants, Yields, program, wide};
+use crate::worker_pool_tests::toy::{
+    Asks, Crowd, Meeting, Sketch, Toy, Wants, Yields, program, wide,
+};
 use claim_core::Event;
 use io_ports::{Gate, OpenGate};
 use shape_data::Name;
@@ -166,7 +168,14 @@ fn only_what_changed_is_solved_for_every_number_of_workers(rt: HostRuntime) {
     let alloc = rt.alloc();
     for workers in [0u32, 1, 4, 8, 64] {
         let mut leader = changes(alloc, Aim::All).expect(&rt, "memory");
-        let left = run(&rt, alloc, workers, Toy::new(Wants::Never), &OpenGate, &mut leader);
+        let left = run(
+            &rt,
+            alloc,
+            workers,
+            Toy::new(Wants::Never),
+            &OpenGate,
+            &mut leader,
+        );
         assert!(rt; !leader.wants);
         assert_eq!(rt; leader.letters.as_slice(), b"gfe.gfe.gfe.gfe.".as_slice());
         assert_eq!(rt; left.events.revisions, 3);
@@ -183,7 +192,14 @@ fn an_aim_at_one_procedure_has_whom_it_calls(rt: HostRuntime) {
     let alloc = rt.alloc();
     let name = Name::of(alloc, b"f").expect(&rt, "memory");
     let mut leader = changes(alloc, Aim::One(name)).expect(&rt, "memory");
-    let left = run(&rt, alloc, 0, Toy::new(Wants::Never), &OpenGate, &mut leader);
+    let left = run(
+        &rt,
+        alloc,
+        0,
+        Toy::new(Wants::Never),
+        &OpenGate,
+        &mut leader,
+    );
     assert!(rt; !leader.wants);
     assert_eq!(rt; leader.letters.as_slice(), b"gf.gf.gf.gf.".as_slice());
     assert_eq!(rt; left.solves, 4);
@@ -193,22 +209,20 @@ fn an_aim_at_one_procedure_has_whom_it_calls(rt: HostRuntime) {
 #[test]
 fn two_threads_solve_at_once(rt: HostRuntime) {
     let alloc = rt.alloc();
-    let mut leader = Asks::new(alloc, Aim::All);
-    let two = [
-        LEAF,
-        Sketch {
-            name: b'h',
-            callee: None,
-            value: 0,
-        },
-    ];
-    let program = program(alloc, &two).expect(&rt, "memory");
-    leader.programs.push(program).expect(&rt, "memory");
-    let gate = Meeting::new(0, 2);
-    let left = run(&rt, alloc, 1, Toy::new(Wants::Never), &gate, &mut leader);
-    assert_eq!(rt; left.solves, 2);
-    assert_eq!(rt; gate.met.load(Ordering::SeqCst), 1);
-    assert_eq!(rt; gate.late.load(Ordering::SeqCst), 0);
+    let mut two = [LEAF, LEAF];
+    two[1].name = b'h';
+    for starts in [true, false] {
+        let mut leader = Asks::new(alloc, Aim::All);
+        leader.starts = starts;
+        leader.rests = true;
+        let program = program(alloc, &two).expect(&rt, "memory");
+        leader.programs.push(program).expect(&rt, "memory");
+        let gate = Meeting::new(0, 2);
+        let left = run(&rt, alloc, 1, Toy::new(Wants::Never), &gate, &mut leader);
+        assert_eq!(rt; left.solves, 2);
+        assert_eq!(rt; gate.met.load(Ordering::SeqCst), 1);
+        assert_eq!(rt; gate.late.load(Ordering::SeqCst), 0);
+    }
 }
 
 #[test]
@@ -300,10 +314,14 @@ fn a_leader_alone_leaves_the_events_of_its_programs(rt: HostRuntime) {
     let mut worked = Vec::new(alloc);
     worked.push(Told::Revise(1)).expect(&rt, "memory");
     for (number, component) in [(1, 0), (2, 1), (3, 2)] {
-        worked.extend_from_slice(&solved(number, component)).expect(&rt, "memory");
+        worked
+            .extend_from_slice(&solved(number, component))
+            .expect(&rt, "memory");
     }
     worked.push(Told::Revise(2)).expect(&rt, "memory");
-    worked.extend_from_slice(&solved(4, 0)).expect(&rt, "memory");
+    worked
+        .extend_from_slice(&solved(4, 0))
+        .expect(&rt, "memory");
     assert_eq!(rt; events.as_slice(), worked.as_slice());
     assert_eq!(rt; leader.letters.as_slice(), b"gfe.gfe.gfe.".as_slice());
 }
@@ -373,14 +391,7 @@ fn two_workers_solve_beside_the_leader(rt: HostRuntime) {
     let program = program(alloc, &sketches).expect(&rt, "memory");
     leader.programs.push(program).expect(&rt, "memory");
     let gate = Meeting::new(1, 4);
-    let left = run(
-        &rt,
-        alloc,
-        2,
-        Toy::new(Wants::Never),
-        &gate,
-        &mut leader,
-    );
+    let left = run(&rt, alloc, 2, Toy::new(Wants::Never), &gate, &mut leader);
     assert_eq!(rt; left.solves, 4);
     assert_eq!(rt; gate.met.load(Ordering::SeqCst), 1);
     assert_eq!(rt; gate.late.load(Ordering::SeqCst), 0);

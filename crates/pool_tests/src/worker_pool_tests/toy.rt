@@ -180,13 +180,23 @@ pub fn wide(alloc: Global, value: i32) -> Result<Arc<Program>, AllocError> {
     Ok(Arc::new(alloc, program)?)
 }
 
+const NAPS: u32 = 300;
+
+const TURNS: u32 = 100_000_000;
+
 /// Sleeps for a millisecond, or less.
 fn nap<R: Wait>(rt: &R) {
     AtomicU64::new(0).park_timeout(rt, 0, Duration::from_millis(1));
 }
 
-/// Lets the first claims wait for `NAPS` milliseconds, until all threads are at the desk. Each later one before the last waits until the
-/// last has entered, for at most `TURNS` turns.
+/// Lets the other threads come to the desk and wait there.
+fn rest<R: Wait>(rt: &R) {
+    for _ in 0..NAPS {
+        nap(rt);
+    }
+}
+
+/// Lets the first claims rest. Each later one before the last waits until the last has entered, for at most `TURNS` turns.
 #[derive(Drop)]
 pub struct Meeting {
     pauses: u64,
@@ -196,10 +206,6 @@ pub struct Meeting {
     /// How many waited in vain.
     pub late: AtomicU64,
 }
-
-const NAPS: u32 = 300;
-
-const TURNS: u32 = 100_000_000;
 
 impl Meeting {
     /// A gate for the claims behind the first `pauses`, up to `last`.
@@ -220,9 +226,7 @@ impl Gate for Meeting {
             return;
         }
         if claim <= self.pauses {
-            for _ in 0..NAPS {
-                nap(rt);
-            }
+            rest(rt);
             return;
         }
         for _ in 0..TURNS {
@@ -281,6 +285,8 @@ pub struct Asks {
     pub starts: bool,
     /// Whether it asks once more where memory was wanting.
     pub again: bool,
+    /// Whether it rests before each program.
+    pub rests: bool,
     pub letters: Vec<u8>,
     pub most: usize,
     pub wants: bool,
@@ -294,6 +300,7 @@ impl Asks {
             aim,
             starts: true,
             again: false,
+            rests: false,
             letters: Vec::new(alloc),
             most: 0,
             wants: false,
@@ -349,12 +356,16 @@ impl<G: Gate> Leader<Toy, G> for Asks {
             aim,
             starts,
             again,
+            rests,
             letters,
             most,
             wants,
         } = self;
         *most = 0;
         for program in programs.as_slice() {
+            if *rests {
+                rest(rt);
+            }
             let mut answer = ask(rt, alloc, desk, hands, program, aim, *starts);
             if *again && answer.is_err() {
                 answer = ask(rt, alloc, desk, hands, program, aim, *starts);
