@@ -1,5 +1,5 @@
 -- Which program is present once one was met, and what is next then.
-use Rattle.std.proofs.Common.{◌≡◌, ◌+◌, ◌==◌, ◌&&◌, ℕ, Bool, true, false, not, cond, List, ◌++◌, map, refl, sym, ap, ◌∙◌, subst, append-nil}
+use Rattle.std.proofs.Common.{◌≡◌, ◌+◌, ◌==◌, ◌&&◌, ℕ, Bool, true, false, not, cond, List, ◌++◌, map, refl, sym, ap, ◌∙◌, subst, append-nil, inr}
 use Rattle.std.proofs.lemmas.Bool.Decides.{Decides-eqb}
 use Rattle.std.specs.Prelude.{IfOk}
 use Rattle.std.specs.declared.alloc.AllocError.{AllocError}
@@ -23,7 +23,9 @@ use Rattle.summary_book.specs.Book.{met_by, met_events}
 use Rattle.summary_book.specs.Next.{IsNext, events_by, slots_by}
 use Rattle.summary_book.specs.Views.{slot_solution, solution_of}
 use Rattle.worker_pool.specs.Entries.{AreEntries}
-use Rattle.worker_pool.specs.Turns.{AreCollected, met_log}
+use Rattle.worker_pool.specs.declared.turn.Turn.{Turn}
+use Rattle.worker_pool.specs.declared.turn.Turn.TheVariants as turn
+use Rattle.worker_pool.specs.Turns.{AreCollected, GoesOn, leader, met_log, next_in}
 
 abbrev revision_of : Met → ℕ
 revision_of Same = 0
@@ -115,3 +117,18 @@ collected_once_met solves log later program aim seen kept is present entries slo
       (subst (λ (p : Program). map solution_of kept ≡ map slot_solution (slots_by (replay later) (aimed p aim))) present slots);
   seen_is = seen_is ∙ ap published is;
 }
+
+-- a turn is one way to go on
+goes_once_met : {E : Type 0} (r : Result Turn E) (log later : List Event) (program : Program) (aim : Aim) → IfOk r (λ turn. later ≡ met_log log program ++ events_by leader (next_in turn)) →
+    IfOk r (λ turn. IsNext (replay (met_log log program)) (aimed program aim) (next_in turn)) → IfOk r (λ turn. GoesOn log later program aim turn)
+goes_once_met (Ok (turn.Done kept)) log later program aim is next = is ∙ append-nil (met_log log program)
+goes_once_met (Ok (turn.Yours claim)) log later program aim is next = inr (is, next)
+goes_once_met (Ok (turn.Waits claim)) log later program aim is next = inr (is, next)
+goes_once_met (Err e) log later program aim is next = tt
+
+pub goes_by_turn : {E : Type 0} (r : Result Turn E) (log mid later : List Event) (program : Program) (aim : Aim) → mid ≡ log → IfOk r (λ turn. later ≡ met_log mid program ++ events_by leader (next_in turn)) →
+    IfOk r (λ turn. IsNext (replay (met_log mid program)) (aimed program aim) (next_in turn)) → IfOk r (λ turn. GoesOn log later program aim turn)
+goes_by_turn r log mid later program aim same is next = subst (λ l. IfOk r (λ turn. GoesOn l later program aim turn)) same (goes_once_met r mid later program aim is next)
+
+pub nothing_next : (log later : List Event) (worker : ℕ) (next : Next) → next ≡ All → later ≡ log ++ events_by worker next → later ≡ log
+nothing_next log later worker next same is = is ∙ ap (λ (n : Next). log ++ events_by worker n) same ∙ append-nil log

@@ -8,7 +8,7 @@ use Rattle.claim_laws.specs.World.{Event}
 use Rattle.claim_laws.specs.Logs.{published, replay}
 use Rattle.summary_book.specs.Aims.{aimed}
 use Rattle.summary_book.specs.Book.{met_by, met_events}
-use Rattle.summary_book.specs.Next.{slots_by}
+use Rattle.summary_book.specs.Next.{IsNext, events_by, slots_by}
 use Rattle.summary_book.specs.Views.{slot_solution, solution_of}
 use Rattle.summary_book.specs.declared.aims.Aim.{Aim}
 use Rattle.summary_book.specs.declared.answers.Next.{Next}
@@ -43,6 +43,18 @@ IsTurn solves log program aim seen (Done kept) = AreCollected solves log program
 IsTurn solves log program aim seen (Yours claim) = Unit {0}
 IsTurn solves log program aim seen (Waits claim) = Unit {0}
 
+-- the program was met, and this is next in it
+abbrev pub IsMetTurn : List Event → List Event → Program → Aim → Next → Type 0
+IsMetTurn log later program aim next = (later ≡ met_log log program ++ events_by leader next) × IsNext (replay (met_log log program)) (aimed program aim) next
+
 -- the log is as before, or the program was met
 abbrev pub IsMetAtMost : List Event → List Event → Program → Type 0
 IsMetAtMost log later program = (later ≡ log) ⊎ (later ≡ met_log log program)
+
+-- a hold that does not meet the program at first: it adds what is next in whatever program is present, or is a turn where nothing is left
+abbrev pub GoesOn : List Event → List Event → Program → Aim → Turn → Type 0
+GoesOn log later program aim (Done kept) = later ≡ met_log log program
+GoesOn log later program aim (Yours claim) =
+    ((later ≡ log ++ events_by leader (next.Yours claim)) × IsNext (replay log) (aimed (replay log).program aim) (next.Yours claim)) ⊎ IsMetTurn log later program aim (next.Yours claim)
+GoesOn log later program aim (Waits claim) =
+    ((later ≡ log) × IsNext (replay log) (aimed (replay log).program aim) (next.Waits claim)) ⊎ IsMetTurn log later program aim (next.Waits claim)

@@ -74,10 +74,14 @@ impl<'g, J: Job + Drop, G: Gate, A: Ledger, B: Ledger> Desk<'g, J, G, A, B> {
     {
         let mut tally = Tally::new();
         let mut guard = self.locked.lock(rt);
+        let mut turn = guard.turn(alloc, program, aim, hands, &self.bell)?;
         for _ in rt.forever() {
-            match guard.turn(alloc, program, aim, hands, &self.bell)? {
+            match turn {
                 Turn::Done(kept) => return Ok(kept),
-                Turn::Waits { claim: _ } => guard = self.bell.wait(rt, guard),
+                Turn::Waits { claim: _ } => {
+                    guard = self.bell.wait(rt, guard);
+                    turn = guard.further_turn(alloc, program, aim, hands, &self.bell)?;
+                }
                 Turn::Yours(claim) => {
                     drop(guard);
                     self.gate.enter(rt, claim.number());
@@ -86,6 +90,7 @@ impl<'g, J: Job + Drop, G: Gate, A: Ledger, B: Ledger> Desk<'g, J, G, A, B> {
                             guard = self.locked.lock(rt);
                             guard.publish_own(claim, solved, &mut tally);
                             self.bell.notify_all();
+                            turn = guard.further_turn(alloc, program, aim, hands, &self.bell)?;
                         }
                         Err(error) => {
                             self.hand_back(rt, claim);

@@ -10,7 +10,7 @@ ghost use Rattle.summary_book.specs.Next.{IsNext, IsSettled, events_by, slots_by
 ghost use Rattle.summary_book.specs.Views.{slot_solution, solution_of};
 ghost use Rattle.worker_pool.specs.Ended.{IsGivenBack, IsPublished};
 ghost use Rattle.worker_pool.specs.Entries.{AreEntries};
-ghost use Rattle.worker_pool.specs.Turns.{IsMetAtMost, IsTurn, leader, met_log, next_in};
+ghost use Rattle.worker_pool.specs.Turns.{GoesOn, IsMetAtMost, IsTurn, leader, met_log, next_in};
 
 use crate::counted::Counted;
 use crate::ended::Ended;
@@ -164,6 +164,33 @@ impl<J: Meaning, A: Ledger, B: Ledger> Locked<J, A, B> {
             Next::Yours(claim) => Ok(Turn::Yours(claim)),
             Next::Waits { claim } => Ok(Turn::Waits { claim }),
             Next::All => Ok(Turn::Done(self.collect(alloc, aim, hands)?)),
+        }
+    }
+
+    /// A further hold of the leader, which has published an answer since it met the program: what is next is asked for at once, and the
+    /// program is met again where nothing is left. To meet it compares all of the program, which each claim need not pay for.
+    pub fn further_turn(
+        &mut self,
+        alloc: Global,
+        program: &Arc<Program>,
+        aim: &Aim,
+        hands: &mut Hands<B>,
+        bell: &Condvar,
+    ) -> Result<Turn, AllocError>
+        requires formed { IsProgram program.now.value }
+        requires sizes { HasProgramSizes program.now.value }
+        ensures turn { IfOk result
+            (λ turn. IsTurn J.solves (met_log self.old.counted.book.log program.now.value) program.now.value aim.now hands.new.seen turn) }
+        ensures goes { IfOk result
+            (λ turn. GoesOn self.old.counted.book.log self.new.counted.book.log program.now.value aim.now turn) }
+        ensures rises { hands.old.seen ≤ hands.new.seen }
+        ensures err { OnErr result (IsMetAtMost self.old.counted.book.log self.new.counted.book.log program.now.value) }
+        ensures closed { self.new.closed ≡ self.old.closed }
+    {
+        match self.counted.next(alloc, LEADER, aim)? {
+            Next::Yours(claim) => Ok(Turn::Yours(claim)),
+            Next::Waits { claim } => Ok(Turn::Waits { claim }),
+            Next::All => self.turn(alloc, program, aim, hands, bell),
         }
     }
 
