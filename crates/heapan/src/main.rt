@@ -1,8 +1,9 @@
-//! The program. It hands the real words, standard input and standard output to the top call, with a gate that is always open, and ends with the number of its status; what is promised of it is that call's contract.
+//! The program. It hands the real words, standard input and standard output to the top call, with a gate that is always open and a reporter that counts, and ends with the number of its status; what is promised of it is that call's contract.
 #![tactic(auto)]
 
 use heapan_top::run;
 use io_ports::{OpenGate, ReaderSource, WriterSink};
+use reporters::{CountReporter, Reporter};
 use std::process::ExitCode;
 use std::rt::Env;
 use std::sync::Wait;
@@ -36,6 +37,13 @@ fn status<R: Env + AllocGlobal + Input + Print + Threads + Wait + Sync>(rt: &R) 
             return NO_MEMORY;
         }
     }
+    let mut reporters: Vec<Box<dyn Reporter + Send>> = Vec::new(alloc);
+    let Ok(counting) = Box::new(alloc, CountReporter::new()) else {
+        return NO_MEMORY;
+    };
+    if reporters.push(counting).is_err() {
+        return NO_MEMORY;
+    }
     let mut source = ReaderSource::new(rt.reader());
     let mut sink = WriterSink::new(io::writer(rt));
     run(
@@ -45,6 +53,7 @@ fn status<R: Env + AllocGlobal + Input + Print + Threads + Wait + Sync>(rt: &R) 
         &mut source,
         &mut sink,
         &OpenGate,
+        reporters,
     )
     .status
     .code()

@@ -1,6 +1,7 @@
 pub mod Appending
 pub mod Completing
 pub mod CourseLaws
+pub mod FedLaws
 pub mod Printing
 pub mod ReplyLaws
 pub mod WorkLaws

@@ -28,7 +28,7 @@ not_joined (x ∷ xs) ys some is = cc
 
 -- what tells of components has a byte
 not_empty : (course : Course) (stream text : List ℕ) (count : ℕ) → Prints course stream text count → text ≢ []
-not_empty _ _ _ _ (Prints.here course stream rest asked text after program aim few first answers some tells) = some
+not_empty _ _ _ _ (Prints.here course stream rest asked front back after program aim few first answers some tells) = some
 not_empty _ _ _ _ (Prints.behind course stream rest asked text more after count few first answers prints) =
     not_joined text more (not_empty (one_behind course (length stream - length rest) after) rest more count prints)
 
@@ -63,8 +63,8 @@ abbrev AnswersNone : List ℕ → Type 0
 AnswersNone stream = (asked : Command) (rest text : List ℕ) (present after : Present) → IsFirst stream asked rest → Answers present asked text after → ⊥
 
 refusal_counted : (course : Course) (stream written : List ℕ) (solves : ℕ) → AnswersNone stream → AreCounted course stream written solves
-refusal_counted course stream written solves none _ _ (Prints.here _ _ rest asked text after program aim few first answers some tells) begins =
-    absurd (none asked rest text course.present after first answers)
+refusal_counted course stream written solves none _ _ (Prints.here _ _ rest asked front back after program aim few first answers some tells) begins =
+    absurd (none asked rest (front ++ back) course.present after first answers)
 refusal_counted course stream written solves none _ _ (Prints.behind _ _ rest asked text more after count few first answers prints) begins =
     absurd (none asked rest text course.present after first answers)
 
@@ -115,8 +115,8 @@ module _ (one_first : OneFirst) where
 
     -- the reply was written whole, and more
     pub reply_counted : (written : List ℕ) → AreCounted (one_behind course (length stream - length rest) after) rest written solves → AreCounted course stream (text ++ written) solves
-    reply_counted written again _ _ (Prints.here _ _ rest' asked' text' after' program aim few first' answers' some tells) begins =
-        told asked' program aim (same rest' asked' text' after' first' answers').asked_is tells
+    reply_counted written again _ _ (Prints.here _ _ rest' asked' front back after' program aim few first' answers' some tells) begins =
+        told asked' program aim (same rest' asked' (front ++ back) after' first' answers').asked_is tells
     reply_counted written again _ _ (Prints.behind _ _ rest' asked' text' more after' count few first' answers' prints) (others, is) =
         let own = same rest' asked' text' after' first' answers' in
         let left : written ≡ more ++ others =
@@ -129,8 +129,8 @@ module _ (one_first : OneFirst) where
 
     -- a front of it was written
     pub front_counted : (size : ℕ) → AreCounted course stream (take size text) solves
-    front_counted size _ _ (Prints.here _ _ rest' asked' text' after' program aim few first' answers' some tells) begins =
-        told asked' program aim (same rest' asked' text' after' first' answers').asked_is tells
+    front_counted size _ _ (Prints.here _ _ rest' asked' front back after' program aim few first' answers' some tells) begins =
+        told asked' program aim (same rest' asked' (front ++ back) after' first' answers').asked_is tells
     front_counted size _ _ (Prints.behind _ _ rest' asked' text' more after' count few first' answers' prints) (others, is) =
         let own = same rest' asked' text' after' first' answers' in
         let some = not_empty (one_behind course (length stream - length rest') after') rest' more count prints in
@@ -238,3 +238,11 @@ pub counted_more : (told old new : Option (List ℕ)) (seen solves : ℕ) → se
 counted_more None old new seen solves enough counted = tt
 counted_more (Some stream) old new seen solves enough (written, all, counted) =
     (written, all, λ text count prints begins. let few = counted text count prints begins in omega (arith, few, enough))
+
+-- the same of equal things
+pub counted_there : {S K : Type 0} (left : S → Option (List ℕ)) (held : K → Option (List ℕ)) (s s' : S) (k k' l l' : K) (seen solves : ℕ) → s ≡ s' → k ≡ k' → l ≡ l' → seen ≤ solves →
+    IfSome (left s) (λ stream. AppendsCounted stream (held k) (held l) seen) → IfSome (left s') (λ stream. AppendsCounted stream (held k') (held l') solves)
+counted_there left held s s' k k' l l' seen solves source old new enough counted =
+    subst (λ a. IfSome (left a) (λ stream. AppendsCounted stream (held k') (held l') solves)) source
+    (subst (λ a. IfSome (left s) (λ stream. AppendsCounted stream (held a) (held l') solves)) old
+    (subst (λ a. IfSome (left s) (λ stream. AppendsCounted stream (held k) (held a) solves)) new (counted_more (left s) (held k) (held l) seen solves enough counted)))

@@ -1,4 +1,5 @@
 pub mod Codes
+pub mod Fed
 pub mod Headline
 pub mod Laws
 pub mod Parts

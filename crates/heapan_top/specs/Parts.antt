@@ -1,12 +1,18 @@
 -- What the parts of the program promise one another. No contract of a call that other crates see cites it.
-use Rattle.std.specs.Prelude.{◌≡◌, ◌≢◌, ℕ, ◌+◌, ◌<◌, ◌≤◌, Option, Some, None, IfSome, List, ◌++◌, ◌⊎◌}
+use Rattle.std.specs.Prelude.{◌≡◌, ◌≢◌, ℕ, ◌+◌, ◌<◌, ◌≤◌, Option, Some, None, Result, Ok, Err, IfSome, List, [], ◌++◌, ◌⊎◌}
+use Rattle.std.specs.Global.{Vec}
 use Rattle.io_ports.specs.Counts.{Rose}
+use Rattle.reporters.specs.declared.reporter.Entry.{Entry}
+use Rattle.reporters.specs.Feeding.{steady_count}
+use Rattle.reporters.specs.Known.{Known}
 use Rattle.session_lines.specs.declared.command.Command.{Command}
 use Rattle.session_lines.specs.Reading.{Reading}
 use Rattle.session_replies.specs.Answers.{Answers as AnswersCommand, Present}
+use Rattle.session_replies.specs.Entries.{Feeds}
 use Rattle.session_replies.specs.Work.{IsWorked}
 use Rattle.heapan_top.specs.declared.status.Status.{Status}
 use Rattle.heapan_top.specs.declared.status.Status.TheVariants as status
+use Rattle.heapan_top.specs.Fed.{FeedsSession, FeedsTo, IsFed, WereFed}
 use Rattle.heapan_top.specs.Headline.{Answers, AnswersSession, Appends, AppendsSome, ReadsFront}
 use Rattle.heapan_top.specs.Replies.{Course, Replies, beginning}
 use Rattle.heapan_top.specs.Work.{AppendsCounted, AreCounted}
@@ -91,12 +97,44 @@ IsWork course stream old after left new seen (Some ended) = EndsCounted course s
 abbrev pub IsDone : Option (List ℕ) → Option (List ℕ) → Course → Option (List ℕ) → Option (List ℕ) → ℕ → Type 0
 IsDone told old course left new seen = IfSome told (λ stream. GoesOn beginning stream old course left new seen)
 
+-- FEEDING
+
+-- how a reply ends the session, if it does; otherwise there are entries to feed
+abbrev pub ended_of : Result (Vec Entry) Status → Option Status
+ended_of (Ok entries) = None
+ended_of (Err ended) = Some ended
+
+-- behind the reply to a command its entries were fed; behind a reply that was cut short, none
+abbrev pub IsReplyFed : Present → Command → Type 0 → List Known → List Known → Option Status → Type 0
+IsReplyFed present asked as_they_came olds news None = (fed : List Entry) × Feeds present asked fed × WereFed as_they_came fed olds news
+IsReplyFed present asked as_they_came olds news (Some ended) = WereFed as_they_came [] olds news
+
+-- from one course over a stream a session came, with this text written and these entries fed, to another course over what is left
+pub record FeedsOn (course : Course) (stream : List ℕ) (old : Option (List ℕ)) (after : Course) (left new : Option (List ℕ)) (as_they_came : Type 0) (olds news : List Known) : Type 0 where
+  pub text : List ℕ
+  pub fed : List Entry
+  pub rest : List ℕ
+  pub is_left : left ≡ Some rest
+  pub leads : FeedsTo course stream text fed after rest
+  pub appends : Appends old new text
+  pub were : WereFed as_they_came fed olds news
+
+abbrev pub IsTurnFed : Course → List ℕ → Option (List ℕ) → Course → Option (List ℕ) → Option (List ℕ) → Type 0 → List Known → List Known → Option Status → Type 0
+IsTurnFed course stream old after left new as_they_came olds news None = FeedsOn course stream old after left new as_they_came olds news
+IsTurnFed course stream old after left new as_they_came olds news (Some ended) = IsFed course stream old new as_they_came olds news ended
+
+-- reporters were fed from the beginning
+abbrev pub IsFedOn : Option (List ℕ) → Option (List ℕ) → Course → Option (List ℕ) → Option (List ℕ) → Type 0 → List Known → List Known → Type 0
+IsFedOn told old course left new as_they_came olds news = IfSome told (λ stream. FeedsOn beginning stream old course left new as_they_came olds news)
+
 -- LEADING
 
 -- what a leader does at a desk: the stream that its source has is answered, and it has seen so many publishes
-pub record IsLed (told left old new : Option (List ℕ)) (read_faults read_faults' write_faults write_faults' : ℕ) (ended : Status) (seen : ℕ) : Type 0 where
+pub record IsLed (told left old new : Option (List ℕ)) (read_faults read_faults' write_faults write_faults' : ℕ) (as_they_came : Type 0) (olds news : List Known) (ended : Status) (seen : ℕ) : Type 0 where
   pub answers : IfSome told (λ stream. AnswersSession stream old new ended)
   pub work : IfSome told (λ stream. AppendsCounted stream old new seen)
+  pub fed : IfSome told (λ stream. FeedsSession stream old new as_they_came olds news ended)
+  pub steady : steady_count news ≡ steady_count olds
   pub reads : ReadsFront told left
   pub usage : ended ≢ status.Usage
   pub read_fault : ended ≡ status.ReadFault → Rose read_faults read_faults'

@@ -15,11 +15,11 @@ use Rattle.session_replies.specs.Work.{Tells, count_reached}
 use Rattle.heapan_top.specs.Headline.{Appends}
 use Rattle.heapan_top.specs.Replies.{Course, beginning, one_behind}
 
--- on this course over the stream the replies begin with this text, of which the last reply tells of so many components
+-- on this course over the stream the replies begin with this text, which ends within or behind a reply that tells of so many components
 pub data Prints : Course → List ℕ → List ℕ → ℕ → Type 0 where
-  here : (course : Course) (stream rest : List ℕ) (asked : Command) (text : List ℕ) (after : Present) (program : Program) (aim : Aim) →
-      course.taken < MOST_COMMANDS → IsFirst stream asked rest → Answers course.present asked text after → text ≢ [] → Tells course.present asked program aim →
-      Prints course stream text (count_reached program aim)
+  here : (course : Course) (stream rest : List ℕ) (asked : Command) (front back : List ℕ) (after : Present) (program : Program) (aim : Aim) →
+      course.taken < MOST_COMMANDS → IsFirst stream asked rest → Answers course.present asked (front ++ back) after → front ≢ [] → Tells course.present asked program aim →
+      Prints course stream front (count_reached program aim)
   behind : (course : Course) (stream rest : List ℕ) (asked : Command) (text more : List ℕ) (after : Present) (count : ℕ) →
       course.taken < MOST_COMMANDS → IsFirst stream asked rest → Answers course.present asked text after →
       Prints (one_behind course (length stream - length rest) after) rest more count →
@@ -29,7 +29,7 @@ pub data Prints : Course → List ℕ → List ℕ → ℕ → Type 0 where
 abbrev pub BeginsWith : List ℕ → List ℕ → Type 0
 BeginsWith bytes text = (more : List ℕ) × (bytes ≡ text ++ more)
 
--- of each reply that was written whole and tells of components, at most so many are told
+-- of each reply of which a byte was written and which tells of components, at most so many are told
 abbrev pub AreCounted : Course → List ℕ → List ℕ → ℕ → Type 0
 AreCounted course stream written solves = (text : List ℕ) (count : ℕ) → Prints course stream text count → BeginsWith written text → count ≤ solves
 

@@ -1,13 +1,15 @@
-//! The one call that does everything: it reads commands, analyses the files that they put, and writes the replies.
+//! The one call that does everything: it reads commands, analyses the files that they put, writes the replies, and feeds reporters.
 #![tactic(auto)]
 
 pub mod laws;
 mod leading;
+mod outcome;
 mod session;
 mod status;
 #[cfg(test)]
 mod tests;
 mod turns;
 
+pub use outcome::Outcome;
 pub use session::run;
-pub use status::{Outcome, Status};
+pub use status::Status;

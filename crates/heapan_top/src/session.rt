@@ -1,9 +1,11 @@
-//! The top call: words, a source, a sink and a gate in, and the replies and a status out. Its contract is the headline:
-//! the bytes written answer the bytes read, whatever the threads did, and each status has its cause.
-ghost use Rattle.std.specs.Prelude.{◌≡◌, ◌≢◌, ℕ, List, [], IfSome};
+//! The top call: words, a source, a sink, a gate and reporters in, and the replies and a status out. Its contract is the headline:
+//! the bytes written answer the bytes read, whatever the threads did, reporters are fed what was reported, and each status has its cause.
+ghost use Rattle.std.specs.Prelude.{◌≡◌, ◌≢◌, ℕ, List, [], IfSome, map};
 ghost use Rattle.claim_core.specs.Told.{events_of};
 ghost use Rattle.claim_laws.specs.Logs.{IsLegal, published, replay};
 ghost use Rattle.io_ports.specs.Counts.{Rose};
+ghost use Rattle.reporters.specs.Feeding.{steady_count};
+ghost use Rattle.heapan_top.specs.Fed.{FeedsSession};
 ghost use Rattle.heapan_top.specs.Headline.{AnswersOtherWords, AnswersSession, AreRightWords, Completes, ReadsFront, word_bytes};
 ghost use Rattle.heapan_top.specs.Laws.{PrintsValid};
 ghost use Rattle.heapan_top.specs.Work.{AppendsCounted, IsClaimedOnce};
@@ -11,11 +13,13 @@ ghost use Rattle.solve_laws.specs.Solving.{solve};
 
 use crate::laws::{one_reply, printed_is_valid};
 use crate::leading::Answering;
-use crate::status::{Outcome, Status};
+use crate::outcome::Outcome;
+use crate::status::Status;
 use crate::turns::written;
 use claim_laws::claims_hold;
 use command_words::asked_workers;
 use io_ports::{Gate, Sink, Source};
+use reporters::Reporter;
 use solve_job::SolveJob;
 use std::alloc::Global;
 use std::sync::Wait;
@@ -37,8 +41,13 @@ fn answer_other_words<K: Sink>(alloc: Global, sink: &mut K) -> Status
 }
 
 /// How a call ended in which nothing was analysed.
-fn nothing_done(alloc: Global, status: Status) -> Outcome
+fn nothing_done(
+    alloc: Global,
+    status: Status,
+    reporters: Vec<Box<dyn Reporter + Send>>,
+) -> Outcome
     ensures status { result.status ≡ status }
+    ensures reporters { result.reporters ≡ reporters }
     ensures log { result.log.items ≡ [] }
     ensures solves { result.solves ≡ 0 }
 {
@@ -46,6 +55,7 @@ fn nothing_done(alloc: Global, status: Status) -> Outcome
         status,
         log: Vec::new(alloc),
         solves: 0,
+        reporters,
     }
 }
 
@@ -57,6 +67,7 @@ fn answer_stream<R: Threads + Wait + Sync, S: Source, K: Sink, G: Gate + Sync>(
     source: &mut S,
     sink: &mut K,
     gate: &G,
+    mut reporters: Vec<Box<dyn Reporter + Send>>,
 ) -> Outcome
     ensures answers { IfSome (S.left source.old) (λ stream. AnswersSession stream (K.held sink.old) (K.held sink.new) result.status) }
     ensures reads { ReadsFront (S.left source.old) (S.left source.new) }
@@ -67,15 +78,18 @@ fn answer_stream<R: Threads + Wait + Sync, S: Source, K: Sink, G: Gate + Sync>(
     ensures idle { (replay (events_of result.log.items)).out ≡ [] }
     ensures solves { result.solves ≡ published (events_of result.log.items) }
     ensures counted { IfSome (S.left source.old) (λ stream. AppendsCounted stream (K.held sink.old) (K.held sink.new) result.solves) }
+    ensures fed { IfSome (S.left source.old) (λ stream. FeedsSession stream (K.held sink.old) (K.held sink.new) (result.reporters.items ≡ reporters.items) (map (λ one. known one) reporters.items) (map (λ one. known one) result.reporters.items) result.status) }
+    ensures steady { steady_count (map (λ one. known one) result.reporters.items) ≡ steady_count (map (λ one. known one) reporters.items) }
 {
     let Ok(book) = Book::new(alloc) else {
-        return nothing_done(alloc, Status::NoMemory);
+        return nothing_done(alloc, Status::NoMemory, reporters);
     };
-    let mut leader = Answering::new(source, sink);
+    let mut leader = Answering::new(source, sink, &mut reporters);
     let joined = run_pool(rt, alloc, workers, SolveJob, gate, book, &mut leader);
     let Answering {
         source: _,
         sink: _,
+        reporters: _,
         status,
     } = leader;
     match joined {
@@ -89,13 +103,15 @@ fn answer_stream<R: Threads + Wait + Sync, S: Source, K: Sink, G: Gate + Sync>(
             status,
             log: book.into_log(),
             solves,
+            reporters,
         },
-        Err(_) => nothing_done(alloc, Status::NoMemory),
+        Err(_) => nothing_done(alloc, Status::NoMemory, reporters),
     }
 }
 
 /// Reads commands from the source, and writes the replies to the sink. Components are analysed by as many workers as the words ask for,
-/// beside the thread that calls; each enters the gate between a claim and its solving.
+/// beside the thread that calls; each enters the gate between a claim and its solving. When the reply to a report is written, its entries
+/// are offered to the reporters, from the thread that calls.
 pub fn run<R: Threads + Wait + Sync, S: Source, K: Sink, G: Gate + Sync>(
     rt: &R,
     alloc: Global,
@@ -103,6 +119,7 @@ pub fn run<R: Threads + Wait + Sync, S: Source, K: Sink, G: Gate + Sync>(
     source: &mut S,
     sink: &mut K,
     gate: &G,
+    reporters: Vec<Box<dyn Reporter + Send>>,
 ) -> Outcome
     ensures replies { AreRightWords (word_bytes words.now)
         → IfSome (S.left source.old) (λ stream. AnswersSession stream (K.held sink.old) (K.held sink.new) result.status) }
@@ -110,7 +127,13 @@ pub fn run<R: Threads + Wait + Sync, S: Source, K: Sink, G: Gate + Sync>(
     ensures reads { ReadsFront (S.left source.old) (S.left source.new) }
     ensures other_words { (AreRightWords (word_bytes words.now) → ⊥)
         → AnswersOtherWords (K.held sink.old) (K.held sink.new) result.status }
-    ensures untouched { (AreRightWords (word_bytes words.now) → ⊥) → source.new ≡ source.old }
+    ensures untouched { (AreRightWords (word_bytes words.now) → ⊥) → (source.new ≡ source.old) × (result.reporters ≡ reporters) }
+
+    // What the reporters were fed: the entries of each report on a program, when its reply was written. Steady ones stay.
+    ensures fed { AreRightWords (word_bytes words.now)
+        → IfSome (S.left source.old) (λ stream. FeedsSession stream (K.held sink.old) (K.held sink.new)
+          (result.reporters.items ≡ reporters.items) (map (λ one. known one) reporters.items) (map (λ one. known one) result.reporters.items) result.status) }
+    ensures steady { steady_count (map (λ one. known one) result.reporters.items) ≡ steady_count (map (λ one. known one) reporters.items) }
 
     // What was done for the replies: the log is that of all claims and their ends.
     ensures legal { IsLegal (λ key answer. answer ≡ solve key) (events_of result.log.items) }
@@ -119,6 +142,7 @@ pub fn run<R: Threads + Wait + Sync, S: Source, K: Sink, G: Gate + Sync>(
     ensures counted { AreRightWords (word_bytes words.now)
         → IfSome (S.left source.old) (λ stream. AppendsCounted stream (K.held sink.old) (K.held sink.new) result.solves) }
     ensures once { IsClaimedOnce (events_of result.log.items) }
+    ensures no_log { (AreRightWords (word_bytes words.now) → ⊥) → result.log.items ≡ [] }
 
     // Which status comes when, where the replies don't say it. Want of memory may come at any time.
     ensures usage { result.status ≡ Status.Usage → AreRightWords (word_bytes words.now) → ⊥ }
@@ -132,8 +156,8 @@ pub fn run<R: Threads + Wait + Sync, S: Source, K: Sink, G: Gate + Sync>(
     printed_is_valid();
     claims_hold::<SolveJob>();
     match asked_workers(alloc, words) {
-        Ok(Some(workers)) => answer_stream(rt, alloc, workers, source, sink, gate),
-        Ok(None) => nothing_done(alloc, answer_other_words(alloc, sink)),
-        Err(_) => nothing_done(alloc, Status::NoMemory),
+        Ok(Some(workers)) => answer_stream(rt, alloc, workers, source, sink, gate, reporters),
+        Ok(None) => nothing_done(alloc, answer_other_words(alloc, sink), reporters),
+        Err(_) => nothing_done(alloc, Status::NoMemory, reporters),
     }
 }

@@ -1,6 +1,4 @@
 //! How a call of the program ended.
-use claim_core::Event;
-
 /// How it ended, with the number that the process ends with.
 #[derive(Clone, Copy, PartialEq, Eq, Debug)]
 pub enum Status {
@@ -41,15 +39,4 @@ impl Status {
             Status::NoMemory => 8,
         }
     }
-}
-
-/// What a call of the program answers.
-#[derive(Drop)]
-pub struct Outcome {
-    /// How it ended.
-    pub status: Status,
-    /// Each claim of a component and its end, in order.
-    pub log: Vec<Event>,
-    /// How many answers were published.
-    pub solves: u64,
 }

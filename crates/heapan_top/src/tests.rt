@@ -1,5 +1,6 @@
 //! The program over memory. The bytes that are wanted are those of the README, or worked by hand from the definitions.
 
+mod feeding;
 mod sessions;
 mod stack;
 mod tables;
@@ -54,7 +55,7 @@ fn called<R: Threads + Wait + Sync, S: Source, K: Sink>(
     source: &mut S,
     sink: &mut K,
 ) -> Outcome {
-    run(rt, alloc, words, source, sink, &OpenGate)
+    run(rt, alloc, words, source, sink, &OpenGate, Vec::new(alloc))
 }
 
 /// Runs the word `session` over any source and sink.

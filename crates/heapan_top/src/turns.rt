@@ -1,20 +1,24 @@
 //! One command after another: each is taken from the stream and answered, or ends the session.
-ghost use Rattle.std.specs.Prelude.{◌≡◌, ◌≢◌, ◌-◌, ◌≤◌, ℕ, List, Some, IfOk, IfSome, IfNone, length};
+ghost use Rattle.std.specs.Prelude.{◌≡◌, ◌≢◌, ◌-◌, ◌≤◌, ℕ, List, Some, Err, IfOk, IfSome, IfNone, length, map};
 ghost use Rattle.io_ports.specs.Counts.{Rose};
+ghost use Rattle.reporters.specs.Feeding.{steady_count};
 ghost use Rattle.session_lines.specs.Lines.{IsCommand, IsFirst};
 ghost use Rattle.session_lines.specs.Reading.{stream_left};
 ghost use Rattle.session_replies.specs.Answers.{IsAnswered};
 ghost use Rattle.heapan_top.specs.Headline.{ReadsFront};
-ghost use Rattle.heapan_top.specs.Parts.{Ends, IsAt, IsOneMore, IsReply, IsReplyWork, IsTurn, IsWork, course_of};
+ghost use Rattle.session_replies.specs.Entries.{Feeds};
+ghost use Rattle.heapan_top.specs.Parts.{Ends, IsAt, IsOneMore, IsReply, IsReplyFed, IsReplyWork, IsTurn, IsTurnFed, IsWork, course_of, ended_of};
 ghost use Rattle.heapan_top.specs.Replies.{Course, malformed_line, one_behind, status_with};
 
 use crate::laws::{one_reply, some_reply};
 use crate::status::Status;
 use io_ports::{Gate, Sink, SinkFault, Source, write_all};
 use report_text::reasons::push_decimal;
+use reporters::{Entry, Reporter, feed_all};
 use session_lines::laws::one_first;
 use session_lines::{Command, Commands, Taken, next_command};
 use session_replies::Session;
+use session_replies::reply::Reply;
 use session_replies::laws::one_answer;
 use solve_job::SolveJob;
 use std::alloc::{AllocError, Global};
@@ -77,8 +81,8 @@ fn refuse<K: Sink>(alloc: Global, sink: &mut K, command: u32, offset: u64) -> St
     }
 }
 
-/// Answers a command, or says how the session ends for a fault.
-fn reply<R: Wait, K: Sink, G: Gate, A: Ledger, B: Ledger>(
+/// Writes the reply to a command, and hands on the entries that reporters are to be fed; or says how the session ends for a fault.
+fn write_reply<R: Wait, K: Sink, G: Gate, A: Ledger, B: Ledger>(
     rt: &R,
     alloc: Global,
     desk: &Desk<'_, SolveJob, G, A, B>,
@@ -86,23 +90,56 @@ fn reply<R: Wait, K: Sink, G: Gate, A: Ledger, B: Ledger>(
     session: &mut Session,
     sink: &mut K,
     asked: Command,
+) -> Result<Vec<Entry>, Status>
+    requires answered { IsAnswered asked }
+    requires allowed { IsCommand asked }
+    ensures reply { IsReply session.old asked (K.held sink.old) session.new (K.held sink.new) (ended_of result) }
+    ensures work { IsReplyWork session.old asked (K.held sink.old) session.new (K.held sink.new) hands.new.seen (ended_of result) }
+    ensures entries { IfOk result (λ entries. Feeds session.old asked entries.items) }
+    ensures rises { hands.old.seen ≤ hands.new.seen }
+    ensures write_fault { result ≡ Err Status.WriteFault → Rose (K.faults sink.old) (K.faults sink.new) }
+    ensures never_falls { K.faults sink.old ≤ K.faults sink.new }
+{
+    let Ok(reply) = session.reply(rt, alloc, desk, hands, asked) else {
+        return Err(Status::NoMemory);
+    };
+    let Reply { text, entries } = reply;
+    match write_all(alloc, sink, text.as_slice()) {
+        Ok(()) => Ok(entries),
+        Err(SinkFault::Failed) => Err(Status::WriteFault),
+        Err(SinkFault::OutOfMemory) => Err(Status::NoMemory),
+    }
+}
+
+/// Answers a command and then feeds the reporters, or says how the session ends for a fault.
+fn reply<R: Wait, K: Sink, G: Gate, A: Ledger, B: Ledger>(
+    rt: &R,
+    alloc: Global,
+    desk: &Desk<'_, SolveJob, G, A, B>,
+    hands: &mut Hands<B>,
+    session: &mut Session,
+    sink: &mut K,
+    reporters: &mut Vec<Box<dyn Reporter + Send>>,
+    asked: Command,
 ) -> Option<Status>
-    requires parts { B.parts ≡ 1 }
     requires answered { IsAnswered asked }
     requires allowed { IsCommand asked }
     ensures reply { IsReply session.old asked (K.held sink.old) session.new (K.held sink.new) result }
     ensures work { IsReplyWork session.old asked (K.held sink.old) session.new (K.held sink.new) hands.new.seen result }
+    ensures feeds { IsReplyFed session.old asked (reporters.new.items ≡ reporters.old.items) (map (λ one. known one) reporters.old.items) (map (λ one. known one) reporters.new.items) result }
+    ensures steady { steady_count (map (λ one. known one) reporters.new.items) ≡ steady_count (map (λ one. known one) reporters.old.items) }
     ensures rises { hands.old.seen ≤ hands.new.seen }
     ensures write_fault { result ≡ Some Status.WriteFault → Rose (K.faults sink.old) (K.faults sink.new) }
     ensures never_falls { K.faults sink.old ≤ K.faults sink.new }
 {
-    let Ok(reply) = session.reply(rt, alloc, desk, hands, asked) else {
-        return Some(Status::NoMemory);
-    };
-    match write_all(alloc, sink, reply.text.as_slice()) {
-        Ok(()) => None,
-        Err(SinkFault::Failed) => Some(Status::WriteFault),
-        Err(SinkFault::OutOfMemory) => Some(Status::NoMemory),
+    match write_reply(rt, alloc, desk, hands, session, sink, asked) {
+        Ok(entries) => {
+            for entry in entries.as_slice() {
+                feed_all(alloc, reporters, entry);
+            }
+            None
+        }
+        Err(status) => Some(status),
     }
 }
 
@@ -115,16 +152,20 @@ fn follow<R: Wait, K: Sink, G: Gate, A: Ledger, B: Ledger>(
     hands: &mut Hands<B>,
     session: &mut Session,
     sink: &mut K,
+    reporters: &mut Vec<Box<dyn Reporter + Send>>,
     asked: Command,
     number: u32,
     offset: u64,
 ) -> Option<Status>
-    requires parts { B.parts ≡ 1 }
     requires allowed { IsCommand asked }
     ensures turn { (course : Course) (stream rest : List ℕ) → IsAt course session.old number offset → IsFirst stream asked rest
         → IsTurn course stream (K.held sink.old) (one_behind course (length stream - length rest) session.new) (Some rest) (K.held sink.new) result }
     ensures work { (course : Course) (stream rest : List ℕ) → IsAt course session.old number offset → IsFirst stream asked rest
         → IsWork course stream (K.held sink.old) (one_behind course (length stream - length rest) session.new) (Some rest) (K.held sink.new) hands.new.seen result }
+    ensures feeds { (course : Course) (stream rest : List ℕ) → IsAt course session.old number offset → IsFirst stream asked rest
+        → IsTurnFed course stream (K.held sink.old) (one_behind course (length stream - length rest) session.new) (Some rest) (K.held sink.new)
+          (reporters.new.items ≡ reporters.old.items) (map (λ one. known one) reporters.old.items) (map (λ one. known one) reporters.new.items) result }
+    ensures steady { steady_count (map (λ one. known one) reporters.new.items) ≡ steady_count (map (λ one. known one) reporters.old.items) }
     ensures rises { hands.old.seen ≤ hands.new.seen }
     ensures not_read_fault { result ≢ Some Status.ReadFault }
     ensures not_usage { result ≢ Some Status.Usage }
@@ -138,11 +179,11 @@ fn follow<R: Wait, K: Sink, G: Gate, A: Ledger, B: Ledger>(
     match &asked {
         Command::Quit => Some(status_with(session.missing())),
         Command::Save => Some(refuse(alloc, sink, number, offset)),
-        _ => reply(rt, alloc, desk, hands, session, sink, asked),
+        _ => reply(rt, alloc, desk, hands, session, sink, reporters, asked),
     }
 }
 
-/// Takes the next command from the stream and answers it, or says how the session ends.
+/// Takes the next command from the stream, answers it and feeds the reporters, or says how the session ends.
 pub fn turn<R: Wait, S: Source, K: Sink, G: Gate, A: Ledger, B: Ledger>(
     rt: &R,
     alloc: Global,
@@ -152,14 +193,19 @@ pub fn turn<R: Wait, S: Source, K: Sink, G: Gate, A: Ledger, B: Ledger>(
     commands: &mut Commands,
     source: &mut S,
     sink: &mut K,
+    reporters: &mut Vec<Box<dyn Reporter + Send>>,
 ) -> Option<Status>
-    requires parts { B.parts ≡ 1 }
     ensures turn { IfSome (stream_left commands.old (S.left source.old)) (λ stream.
         IsTurn (course_of commands.old session.old) stream (K.held sink.old) (course_of commands.new session.new)
         (stream_left commands.new (S.left source.new)) (K.held sink.new) result) }
     ensures work { IfSome (stream_left commands.old (S.left source.old)) (λ stream.
         IsWork (course_of commands.old session.old) stream (K.held sink.old) (course_of commands.new session.new)
         (stream_left commands.new (S.left source.new)) (K.held sink.new) hands.new.seen result) }
+    ensures feeds { IfSome (stream_left commands.old (S.left source.old)) (λ stream.
+        IsTurnFed (course_of commands.old session.old) stream (K.held sink.old) (course_of commands.new session.new)
+        (stream_left commands.new (S.left source.new)) (K.held sink.new)
+        (reporters.new.items ≡ reporters.old.items) (map (λ one. known one) reporters.old.items) (map (λ one. known one) reporters.new.items) result) }
+    ensures steady { steady_count (map (λ one. known one) reporters.new.items) ≡ steady_count (map (λ one. known one) reporters.old.items) }
     ensures rises { hands.old.seen ≤ hands.new.seen }
     ensures counted { IfNone result (IsOneMore commands.old.taken commands.new.taken) }
     ensures reads { ReadsFront (stream_left commands.old (S.left source.old)) (stream_left commands.new (S.left source.new)) }
@@ -174,7 +220,7 @@ pub fn turn<R: Wait, S: Source, K: Sink, G: Gate, A: Ledger, B: Ledger>(
     let offset = commands.offset();
     match next_command(alloc, commands, source) {
         Ok(Taken::Command(asked)) => follow(
-            rt, alloc, desk, hands, session, sink, asked, number, offset,
+            rt, alloc, desk, hands, session, sink, reporters, asked, number, offset,
         ),
         Ok(Taken::Malformed { command, offset }) => Some(refuse(alloc, sink, command, offset)),
         Ok(Taken::End) => Some(status_with(session.missing())),

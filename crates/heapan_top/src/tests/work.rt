@@ -1,6 +1,7 @@
 //! Streams, and what is done for their replies: `R` where another program is present, `C` where a component is claimed, `P` where it is
 //! answered. A comment within a line changes no component, and where a callee is changed but its specs stay, its caller is not solved again. What is
-//! shown has its own component solved, and those that it calls. Procedures that call each other are one component.
+//! shown has its own component solved, and those that it calls. Procedures that call each other are one component. What was asked of a program is
+//! solved for that program, though another was met before.
 
 pub const PEEK_THRICE: (&[u8], &[u8]) = (
     b"put a.c 134\nstruct node { int data; struct node *next; };\nint get(struct node *x) { return x->data; }\nint peek(struct node *x) { return get(x); }\nreport\nput a.c 142\nstruct node { int data; struct node *next; };\nint get(struct node *x) { /* c */ return x->data; }\nint peek(struct node *x) { return get(x); }\nreport\nput a.c 145\nstruct node { int data; struct node *next; };\nint get(struct node *x) { int d = x->data; return d; }\nint peek(struct node *x) { return get(x); }\nreport\n",
@@ -32,8 +33,14 @@ const PAIR_TWICE: (&[u8], &[u8]) = (
     b"RCP",
 );
 
-pub const WORK: [(&[u8], &[u8]); 6] = [
+const CHANGED_AND_BACK: (&[u8], &[u8]) = (
+    b"put a.c 89\nstruct node { int data; struct node *next; };\nint get(struct node *x) { return x->data; }\nstart\nput a.c 102\nstruct node { int data; struct node *next; };\nvoid walk(struct node *x) { while (x) { x = x->next; } }\nstart\nput a.c 89\nstruct node { int data; struct node *next; };\nint get(struct node *x) { return x->data; }\nreport\n",
+    b"RRRCP",
+);
+
+pub const WORK: [(&[u8], &[u8]); 7] = [
     PEEK_THRICE,
+    CHANGED_AND_BACK,
     STARTED,
     SHOWN,
     SHOWN_TWICE,

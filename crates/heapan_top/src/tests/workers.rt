@@ -53,54 +53,58 @@ fn only_what_changed_is_solved_whatever_the_workers(rt: HostRuntime) -> Result<(
     Ok(())
 }
 
-/// Makes claim 1 wait until claim 2 has entered, for at most so many turns, and notes who entered.
+/// Makes each claim wait until so many have entered, for at most so many turns, and notes where they never did.
 #[derive(Drop)]
 struct Meeting {
-    first: AtomicU64,
-    second: AtomicU64,
+    together: u64,
+    entered: AtomicU64,
     late: AtomicU64,
 }
 
 const TURNS: u32 = 100_000_000;
 
 impl Gate for Meeting {
-    fn enter<R: Wait>(&self, _rt: &R, claim: u64) {
-        if claim == 2 {
-            self.second.store(1, Ordering::SeqCst);
-        }
-        if claim == 1 {
-            self.first.store(1, Ordering::SeqCst);
-            for _ in 0..TURNS {
-                if self.second.load(Ordering::SeqCst) == 1 {
-                    return;
-                }
-                thread::yield_now();
+    fn enter<R: Wait>(&self, _rt: &R, _claim: u64) {
+        self.entered.fetch_add(1, Ordering::SeqCst);
+        for _ in 0..TURNS {
+            if self.entered.load(Ordering::SeqCst) >= self.together {
+                return;
             }
-            self.late.store(1, Ordering::SeqCst);
+            thread::yield_now();
         }
+        self.late.store(1, Ordering::SeqCst);
     }
 }
 
-const TWO_FILES: &[u8] =
-    b"put a.c 27\nint a(int x) { return x; } \nput b.c 26\nint b(int x) { return x; }start\nreport\n";
+const THREE_FILES: &[u8] =
+    b"put a.c 27\nint a(int x) { return x; } \nput b.c 27\nint b(int x) { return x; } \nput c.c 26\nint c(int x) { return x; }start\nreport\n";
 
 #[test]
-fn the_leader_and_a_worker_solve_at_once(rt: HostRuntime) -> Result<(), Fail> {
+fn the_leader_and_each_worker_solve_at_once(rt: HostRuntime) -> Result<(), Fail> {
     let alloc = rt.alloc();
-    let gate = Meeting {
-        first: AtomicU64::new(0),
-        second: AtomicU64::new(0),
-        late: AtomicU64::new(0),
-    };
-    let mut source = steady(alloc, TWO_FILES)?;
-    let mut sink = SteadySink::new(alloc)?;
-    let words = ["session", "--workers", "1"];
-    let Outcome { status, solves, .. } = run(&rt, alloc, &words, &mut source, &mut sink, &gate);
-    assert_eq!(&rt; status, Status::Done);
-    assert_eq!(&rt; solves, 2);
-    assert_eq!(&rt; gate.first.load(Ordering::SeqCst), 1);
-    assert_eq!(&rt; gate.second.load(Ordering::SeqCst), 1);
-    assert_eq!(&rt; gate.late.load(Ordering::SeqCst), 0);
+    for (workers, together) in [("1", 2u64), ("2", 3u64)] {
+        let gate = Meeting {
+            together,
+            entered: AtomicU64::new(0),
+            late: AtomicU64::new(0),
+        };
+        let mut source = steady(alloc, THREE_FILES)?;
+        let mut sink = SteadySink::new(alloc)?;
+        let words = ["session", "--workers", workers];
+        let Outcome { status, solves, .. } = run(
+            &rt,
+            alloc,
+            &words,
+            &mut source,
+            &mut sink,
+            &gate,
+            Vec::new(alloc),
+        );
+        assert_eq!(&rt; status, Status::Done);
+        assert_eq!(&rt; solves, 3);
+        assert_eq!(&rt; gate.entered.load(Ordering::SeqCst), 3);
+        assert_eq!(&rt; gate.late.load(Ordering::SeqCst), 0);
+    }
     Ok(())
 }
 
@@ -146,7 +150,15 @@ fn a_storm_of_workers_and_edits_is_answered_as_by_none(rt: HostRuntime) -> Resul
     };
     let mut beside = SteadySink::new(alloc)?;
     let mut source = steady(alloc, stream.as_slice())?;
-    let other = run(&rt, alloc, WORDS[4], &mut source, &mut beside, &gate);
+    let other = run(
+        &rt,
+        alloc,
+        WORDS[4],
+        &mut source,
+        &mut beside,
+        &gate,
+        Vec::new(alloc),
+    );
     assert_eq!(&rt; one.status, other.status);
     assert!(&rt; alone.held() == beside.held());
     assert!(&rt; alone.held().len() > 10_000);

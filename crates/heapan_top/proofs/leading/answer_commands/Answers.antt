@@ -1,10 +1,22 @@
 -- Each command leads on, or answers the session.
-use Rattle.std.proofs.Common.{arith}
+use Rattle.std.proofs.Common.{◌≡◌, ◌∙◌, arith, refl, rules}
 use Rattle.session_lines.specs.Reading.{stream_left}
 use Rattle.heapan_top.specs.Parts.{course_of}
 use Rattle.heapan_top.proofs.CourseLaws.{all_answered, reads_source, reads_through, under_way}
+use Rattle.heapan_top.proofs.FedLaws.{all_fed, fed_more, none_fed_at}
 use Rattle.heapan_top.proofs.WorkLaws.{all_done, done_more}
 use Rattle.heapan_top.proofs.leading.answer_commands.Goals as goal
+
+pub loop-status-init : goal.loop-status-init
+loop-status-init g c = record {
+  under_way = search rules;
+  done = search rules;
+  fed = none_fed_at _ refl _ (g.S.Source.left c.args.source.now) (g.K.Sink.held c.args.sink.now) _ _ (search rules) (search rules);
+  steady = refl;
+  reads = search rules;
+  reads_never_fall = omega arith;
+  writes_never_fall = omega arith;
+}
 
 pub returns-in-Some-clause-answers : goal.returns-in-Some-clause-answers
 returns-in-Some-clause-answers g c =
@@ -17,6 +29,16 @@ returns-in-Some-clause-work g c =
     all_done c.loop-status.hands.seen c.turn.new.hands.seen c.turn.ensures.rises (g.S.Source.left c.args.source.now) (stream_left c.loop-status.commands (g.S.Source.left c.loop-status.source))
     (stream_left c.turn.new.commands (g.S.Source.left c.turn.new.source)) (g.K.Sink.held c.args.sink.now) (g.K.Sink.held c.loop-status.sink) (g.K.Sink.held c.turn.new.sink)
     (course_of c.loop-status.commands c.loop-status.session) (course_of c.turn.new.commands c.turn.new.session) c.turn.result c.in-Some.status c.in-Some.is c.loop-status.invariant.done c.turn.ensures.work
+
+pub returns-in-Some-clause-feeds : goal.returns-in-Some-clause-feeds
+returns-in-Some-clause-feeds g c =
+    all_fed (c.loop-status.reporters.items ≡ c.args.reporters.now.items) (c.turn.new.reporters.items ≡ c.loop-status.reporters.items) (c.turn.new.reporters.items ≡ c.args.reporters.now.items) (λ one two. two ∙ one) _ _ _
+    (g.S.Source.left c.args.source.now) (stream_left c.loop-status.commands (g.S.Source.left c.loop-status.source)) (stream_left c.turn.new.commands (g.S.Source.left c.turn.new.source))
+    (g.K.Sink.held c.args.sink.now) (g.K.Sink.held c.loop-status.sink) (g.K.Sink.held c.turn.new.sink) (course_of c.loop-status.commands c.loop-status.session)
+    (course_of c.turn.new.commands c.turn.new.session) c.turn.result c.in-Some.status c.in-Some.is c.loop-status.invariant.fed c.turn.ensures.feeds
+
+pub returns-in-Some-clause-steady : goal.returns-in-Some-clause-steady
+returns-in-Some-clause-steady g c = c.turn.ensures.steady ∙ c.loop-status.invariant.steady
 
 pub returns-in-Some-clause-reads : goal.returns-in-Some-clause-reads
 returns-in-Some-clause-reads g c =
@@ -37,6 +59,11 @@ loop-status-preserved g c =
       done =
           done_more c.loop-status.hands.seen c.turn.new.hands.seen c.turn.ensures.rises told before after (g.K.Sink.held c.args.sink.now) (g.K.Sink.held c.loop-status.sink) (g.K.Sink.held c.turn.new.sink)
           (course_of c.loop-status.commands c.loop-status.session) (course_of c.turn.new.commands c.turn.new.session) c.turn.result c.in_default.is c.loop-status.invariant.done c.turn.ensures.work;
+      fed =
+          fed_more (c.loop-status.reporters.items ≡ c.args.reporters.now.items) (c.turn.new.reporters.items ≡ c.loop-status.reporters.items) (c.turn.new.reporters.items ≡ c.args.reporters.now.items) (λ one two. two ∙ one) _ _ _
+          told before after (g.K.Sink.held c.args.sink.now) (g.K.Sink.held c.loop-status.sink) (g.K.Sink.held c.turn.new.sink) (course_of c.loop-status.commands c.loop-status.session)
+          (course_of c.turn.new.commands c.turn.new.session) c.turn.result c.in_default.is c.loop-status.invariant.fed c.turn.ensures.feeds;
+      steady = c.turn.ensures.steady ∙ c.loop-status.invariant.steady;
       reads = reads_through told before after c.loop-status.invariant.reads c.turn.ensures.reads;
       reads_never_fall = let one = c.loop-status.invariant.reads_never_fall in let two = c.turn.ensures.reads_never_fall in omega arith;
       writes_never_fall = let one = c.loop-status.invariant.writes_never_fall in let two = c.turn.ensures.writes_never_fall in omega arith;

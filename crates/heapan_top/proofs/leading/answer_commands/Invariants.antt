@@ -1,14 +1,22 @@
 -- The replies so far lead from the beginning to where the session is; each command is one fewer.
-use Rattle.std.proofs.Common.{◌-◌, ◌≤◌}
+use Rattle.std.proofs.Common.{◌≡◌, ◌-◌, ◌≤◌, map}
+use Rattle.reporters.specs.Feeding.{steady_count}
 use Rattle.session_lines.specs.Reading.{stream_left}
 use Rattle.heapan_top.specs.Headline.{ReadsFront}
-use Rattle.heapan_top.specs.Parts.{IsDone, IsUnderWay, course_of}
+use Rattle.heapan_top.specs.Parts.{IsDone, IsFedOn, IsUnderWay, course_of}
 use Rattle.heapan_top.proofs.leading.answer_commands.Given as goal
 
 abbrev pub invariant-loop-status : goal.invariant-loop-status
 invariant-loop-status g l = record {
   under_way : IsUnderWay (g.S.Source.left l.fn.source) (g.K.Sink.held l.fn.sink) (course_of l.commands l.session) (stream_left l.commands (g.S.Source.left l.source)) (g.K.Sink.held l.sink);
   done : IsDone (g.S.Source.left l.fn.source) (g.K.Sink.held l.fn.sink) (course_of l.commands l.session) (stream_left l.commands (g.S.Source.left l.source)) (g.K.Sink.held l.sink) l.hands.seen;
+  fed :
+      IsFedOn (g.S.Source.left l.fn.source) (g.K.Sink.held l.fn.sink) (course_of l.commands l.session) (stream_left l.commands (g.S.Source.left l.source)) (g.K.Sink.held l.sink)
+      (l.reporters.items ≡ l.fn.reporters.items) (map (λ one. (goal.Reporter-dyn g (one.vtable, one.value)).known one.value) l.fn.reporters.items)
+      (map (λ one. (goal.Reporter-dyn g (one.vtable, one.value)).known one.value) l.reporters.items);
+  steady :
+      steady_count (map (λ one. (goal.Reporter-dyn g (one.vtable, one.value)).known one.value) l.reporters.items)
+      ≡ steady_count (map (λ one. (goal.Reporter-dyn g (one.vtable, one.value)).known one.value) l.fn.reporters.items);
   reads : ReadsFront (g.S.Source.left l.fn.source) (stream_left l.commands (g.S.Source.left l.source));
   reads_never_fall : g.S.Source.faults l.fn.source ≤ g.S.Source.faults l.source;
   writes_never_fall : g.K.Sink.faults l.fn.sink ≤ g.K.Sink.faults l.sink;

@@ -1,8 +1,10 @@
 -- What was read is answered in full where nothing failed.
-use Rattle.std.proofs.Common.{◌≡◌, is_some, rules, true}
+use Rattle.std.proofs.Common.{◌≡◌, ap, is_some, rules, subst, true}
 use Rattle.command_words.specs.Words.{workers_asked}
 use Rattle.heapan_top.specs.Headline.{word_bytes}
 use Rattle.heapan_top.proofs.Completing.{completes_left}
+use Rattle.heapan_top.specs.Fed.{IsWhole}
+use Rattle.heapan_top.proofs.FedLaws.{still_fed}
 use Rattle.heapan_top.proofs.WorkLaws.{none_appended}
 use Rattle.heapan_top.proofs.session.run.Goals as goal
 
@@ -16,3 +18,8 @@ returns-in-Ok-Some-clause-complete g c no_read no_write =
 
 pub returns-in-Err-clause-counted : goal.returns-in-Err-clause-counted
 returns-in-Err-clause-counted g c right = none_appended (g.S.Source.left c.args.source.now) (g.K.Sink.held c.args.sink.now) c.nothing_done-in-Err.result.solves
+
+pub returns-in-Err-clause-fed : goal.returns-in-Err-clause-fed
+returns-in-Err-clause-fed g c right =
+    still_fed (λ one. (goal.Reporter-dyn g (one.vtable, one.value)).known one.value) c.args.reporters.items c.nothing_done-in-Err.result.reporters.items (g.S.Source.left c.args.source.now) (g.K.Sink.held c.args.sink.now)
+    c.nothing_done-in-Err.result.status (ap (λ all. all.items) c.nothing_done-in-Err.ensures.reporters) (λ whole. subst IsWhole c.nothing_done-in-Err.ensures.status whole)

@@ -1,8 +1,10 @@
 -- By the command.
-use Rattle.std.proofs.Common.{◌∙◌, ap}
+use Rattle.std.proofs.Common.{◌∙◌, ap, refl, subst}
+use Rattle.session_replies.specs.Answers.{IsAnswered}
 use Rattle.heapan_top.specs.declared.status.Status.TheVariants as status
 use Rattle.heapan_top.specs.Replies.{malformed_line, status_with}
 use Rattle.heapan_top.proofs.CourseLaws.{quits, reply_is_cut, saves, turned}
+use Rattle.heapan_top.proofs.FedLaws.{ends_refused, ends_still, over_at, turned_fed}
 use Rattle.heapan_top.proofs.WorkLaws.{nothing_counted, saves_counted, turned_work}
 use Rattle.heapan_top.proofs.turns.follow.Goals as goal
 
@@ -24,6 +26,17 @@ returns-in-Save-clause-work g c = λ course stream rest at first.
     saves_counted c.one_first.ensures course stream rest (malformed_line c.args.number c.args.offset) c.args.asked (g.K.Sink.held c.args.sink.now) (g.K.Sink.held c.refuse.new.sink) c.args.hands.now.seen
     (status.Refused c.args.number c.args.offset) c.refuse.result first c.in-Save.is c.refuse.ensures.ends
 
+pub returns-in-Quit-clause-feeds : goal.returns-in-Quit-clause-feeds
+returns-in-Quit-clause-feeds g c = λ course stream rest at first.
+    ends_still course stream (g.K.Sink.held c.args.sink.now) _ _ c.status_with.result refl
+    (λ whole. over_at c.one_first.ensures course stream rest c.args.asked first (λ answered. subst IsAnswered c.in-Quit.is answered))
+
+pub returns-in-Save-clause-feeds : goal.returns-in-Save-clause-feeds
+returns-in-Save-clause-feeds g c = λ course stream rest at first.
+    ends_refused course stream (g.K.Sink.held c.args.sink.now) (g.K.Sink.held c.refuse.new.sink) c.args.hands.now.seen _ _ c.refuse.result refl
+    (returns-in-Save-clause-work g c course stream rest at first)
+    (over_at c.one_first.ensures course stream rest c.args.asked first (λ answered. subst IsAnswered c.in-Save.is answered))
+
 pub returns-in_default : goal.returns-in_default
 returns-in_default g c =
     let cut = reply_is_cut c.args.session.now c.reply.new.session c.args.asked (g.K.Sink.held c.args.sink.now) (g.K.Sink.held c.reply.new.sink) c.reply.result c.reply.ensures.reply in
@@ -31,6 +44,10 @@ returns-in_default g c =
       work = λ course stream rest at first.
           turned_work c.one_first.ensures c.one_answer.ensures course c.args.session.now c.args.number c.args.offset stream rest c.args.asked c.reply.new.session
           (g.K.Sink.held c.args.sink.now) (g.K.Sink.held c.reply.new.sink) c.reply.new.hands.seen c.reply.result at first c.reply.ensures.work;
+      feeds = λ course stream rest at first.
+          turned_fed course c.args.session.now c.args.number c.args.offset stream rest c.args.asked c.reply.new.session
+          (g.K.Sink.held c.args.sink.now) (g.K.Sink.held c.reply.new.sink) _ _ _ c.reply.result at first c.reply.ensures.reply c.reply.ensures.feeds;
+      steady = c.reply.ensures.steady;
       rises = c.reply.ensures.rises;
       turn = λ course stream rest at first.
           turned c.one_reply.ensures c.some_reply.ensures course c.args.session.now c.args.number c.args.offset stream rest c.args.asked c.reply.new.session
