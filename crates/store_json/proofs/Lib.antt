@@ -1,0 +1,10 @@
+pub mod BackLaws
+pub mod Deciding
+pub mod EntryLemmas
+pub mod FloatLaws
+pub mod PlainLaws
+pub mod ReadingLaws
+pub mod ShapeLemmas
+pub mod SizeLaws
+pub mod TotalLaws
+pub mod TrailerLemmas
