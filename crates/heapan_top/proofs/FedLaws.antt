@@ -351,7 +351,7 @@ module _ (one_first : OneFirst) (one_answer : OneAnswer) (one_feed : OneFeed) wh
       let own : fed ≡ fed' = one_feed course.present asked fed fed' feeds (subst (λ one. Feeds course.present one fed') (sym same) feeds') in
       let shorter = rest_shorter stream next asked first in
       let goes'' = subst (λ (present : Present). FeedsTo (one_behind course (length stream - length next) present) next others' more' over rest) (sym afters)
-          (subst (λ r. FeedsTo (one_behind course (length stream - length r) after') r others' more' over rest) (sym behind) goes') in
+      (subst (λ r. FeedsTo (one_behind course (length stream - length r) after') r others' more' over rest) (sym behind) goes') in
       let (others_fed, is) = front_within bytes (one_behind course (length stream - length next) after) later over next others others' left rest more more' (omega (arith, shorter, within)) goes goes'' is_over in
       (others_fed, ap₂ (λ xs ys. xs ++ ys) (sym own) is ∙ sym (append_assoc fed more others_fed))
 

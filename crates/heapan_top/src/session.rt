@@ -41,11 +41,7 @@ fn answer_other_words<K: Sink>(alloc: Global, sink: &mut K) -> Status
 }
 
 /// How a call ended in which nothing was analysed.
-fn nothing_done(
-    alloc: Global,
-    status: Status,
-    reporters: Vec<Box<dyn Reporter + Send>>,
-) -> Outcome
+fn nothing_done(alloc: Global, status: Status, reporters: Vec<Box<dyn Reporter + Send>>) -> Outcome
     ensures status { result.status ≡ status }
     ensures reporters { result.reporters ≡ reporters }
     ensures log { result.log.items ≡ [] }
@@ -132,7 +128,7 @@ pub fn run<R: Threads + Wait + Sync, S: Source, K: Sink, G: Gate + Sync>(
     // What the reporters were fed: the entries of each report on a program, when its reply was written. Steady ones stay.
     ensures fed { AreRightWords (word_bytes words.now)
         → IfSome (S.left source.old) (λ stream. FeedsSession stream (K.held sink.old) (K.held sink.new)
-          (result.reporters.items ≡ reporters.items) (map (λ one. known one) reporters.items) (map (λ one. known one) result.reporters.items) result.status) }
+        (result.reporters.items ≡ reporters.items) (map (λ one. known one) reporters.items) (map (λ one. known one) result.reporters.items) result.status) }
     ensures steady { steady_count (map (λ one. known one) result.reporters.items) ≡ steady_count (map (λ one. known one) reporters.items) }
 
     // What was done for the replies: the log is that of all claims and their ends.

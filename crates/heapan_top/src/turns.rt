@@ -18,8 +18,8 @@ use reporters::{Entry, Reporter, feed_all};
 use session_lines::laws::one_first;
 use session_lines::{Command, Commands, Taken, next_command};
 use session_replies::Session;
-use session_replies::reply::Reply;
 use session_replies::laws::one_answer;
+use session_replies::reply::Reply;
 use solve_job::SolveJob;
 use std::alloc::{AllocError, Global};
 use std::sync::Wait;
@@ -164,7 +164,7 @@ fn follow<R: Wait, K: Sink, G: Gate, A: Ledger, B: Ledger>(
         → IsWork course stream (K.held sink.old) (one_behind course (length stream - length rest) session.new) (Some rest) (K.held sink.new) hands.new.seen result }
     ensures feeds { (course : Course) (stream rest : List ℕ) → IsAt course session.old number offset → IsFirst stream asked rest
         → IsTurnFed course stream (K.held sink.old) (one_behind course (length stream - length rest) session.new) (Some rest) (K.held sink.new)
-          (reporters.new.items ≡ reporters.old.items) (map (λ one. known one) reporters.old.items) (map (λ one. known one) reporters.new.items) result }
+        (reporters.new.items ≡ reporters.old.items) (map (λ one. known one) reporters.old.items) (map (λ one. known one) reporters.new.items) result }
     ensures steady { steady_count (map (λ one. known one) reporters.new.items) ≡ steady_count (map (λ one. known one) reporters.old.items) }
     ensures rises { hands.old.seen ≤ hands.new.seen }
     ensures not_read_fault { result ≢ Some Status.ReadFault }

@@ -1,12 +1,12 @@
 //! The reader of commands, which takes one after another from the stream. A call leaves the stream behind what it took,
 //! whatever the pieces in which the source gave the bytes; where the next command stands ahead whole, nothing is read.
-ghost use Rattle.std.specs.Prelude.{◌≡◌, ◌+◌, ◌<◌, ◌≤◌, ℕ, List, [], ◌++◌, length, drop, IfOk, IfSome, IfNone};
+ghost use Rattle.std.specs.Prelude.{◌≡◌, ◌+◌, ◌<◌, ◌≤◌, ℕ, List, [], ◌++◌, length, drop, IfOk, IfSome, IfNone, OnErr};
 ghost use Rattle.std.specs.Option.{ForSome};
 ghost use Rattle.io_ports.specs.Bytes.{before_left};
 ghost use Rattle.io_ports.specs.Counts.{Rose};
 ghost use Rattle.session_lines.specs.Lines.{IsEnded, IsLine, body_size, line_text};
 ghost use Rattle.session_lines.specs.Parts.{IsEndOrFull, IsNoCommand, TakesLine};
-ghost use Rattle.session_lines.specs.Reading.{IsCounted, Takes, stream_left};
+ghost use Rattle.session_lines.specs.Reading.{IsCounted, IsNoneMore, Takes, stream_left};
 
 use crate::ahead::{Ahead, Filled};
 use crate::command::{Command, Line, Taken};
@@ -84,6 +84,7 @@ pub fn next_command<S: Source>(
     ensures takes { IfSome (stream_left commands.old (S.left source.old)) (λ stream. IfOk result
         (Takes commands.old commands.new stream (stream_left commands.new (S.left source.new)))) }
     ensures counted { IfOk result (IsCounted commands.old commands.new) }
+    ensures err { OnErr result (IsNoneMore commands.old commands.new) }
     ensures kept { (bytes : List ℕ) × (stream_left commands.old (S.left source.old)
         ≡ before_left bytes (stream_left commands.new (S.left source.new))) }
     ensures read_fault { IfOk result (λ taken. taken ≡ Taken.ReadFault → Rose (S.faults source.old) (S.faults source.new)) }
@@ -152,6 +153,7 @@ fn take_line<S: Source>(
     requires allowed { ForSome line IsLine }
     ensures takes { IfOk result (TakesLine line size commands.old commands.new
         (before_left (drop size commands.old.ahead) (S.left source.old)) (stream_left commands.new (S.left source.new))) }
+    ensures err { OnErr result (IsNoneMore commands.old commands.new) }
     ensures kept { (bytes : List ℕ) × (stream_left commands.old (S.left source.old)
         ≡ before_left bytes (stream_left commands.new (S.left source.new))) }
     ensures read_fault { IfOk result (λ taken. taken ≡ Taken.ReadFault → Rose (S.faults source.old) (S.faults source.new)) }

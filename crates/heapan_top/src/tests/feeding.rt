@@ -32,14 +32,7 @@ fn keeping(
 /// What a reporter tells is so many entries, those of the module's eight procedures again and again.
 fn tells(rt: &impl Abort, reporter: &Box<dyn Reporter + Send>, count: usize) {
     let names: [&[u8]; 8] = [
-        b"make",
-        b"empty",
-        b"push",
-        b"pop",
-        b"clear",
-        b"length",
-        b"count",
-        b"destroy",
+        b"make", b"empty", b"push", b"pop", b"clear", b"length", b"count", b"destroy",
     ];
     match reporter.entries() {
         Some(entries) => {
@@ -65,7 +58,11 @@ fn kept<R: Threads + Wait + Sync + Abort>(
     reporters.push(reporter)?;
     let mut source = steady(alloc, stream)?;
     let mut sink = SteadySink::new(alloc)?;
-    let Outcome { status, reporters, .. } = run(
+    let Outcome {
+        status,
+        reporters,
+        ..
+    } = run(
         rt,
         alloc,
         &["session"],
@@ -97,7 +94,11 @@ fn one_that_stops_is_dropped_and_the_other_has_all(rt: HostRuntime) -> Result<()
         reporters.push(Box::new(alloc, keeping(alloc, None, &[])?)?)?;
         let mut source = steady(alloc, reports(alloc, again)?.as_slice())?;
         let mut sink = SteadySink::new(alloc)?;
-        let Outcome { status, reporters, .. } = run(
+        let Outcome {
+            status,
+            reporters,
+            ..
+        } = run(
             &rt,
             alloc,
             &["session"],
@@ -162,7 +163,11 @@ fn one_that_fails_is_dropped_and_the_reply_is_the_same(rt: HostRuntime) -> Resul
     reporters.push(Box::new(alloc, keeping(alloc, None, &[1])?)?)?;
     let mut source = steady(alloc, reports(alloc, false)?.as_slice())?;
     let mut sink = SteadySink::new(alloc)?;
-    let Outcome { status, reporters, .. } = run(
+    let Outcome {
+        status,
+        reporters,
+        ..
+    } = run(
         &rt,
         alloc,
         &["session"],
@@ -184,7 +189,11 @@ fn a_report_that_is_not_written_is_fed_to_nobody(rt: HostRuntime) -> Result<(), 
     reporters.push(Box::new(alloc, keeping(alloc, None, &[])?)?)?;
     let mut source = steady(alloc, reports(alloc, true)?.as_slice())?;
     let mut sink = MemorySink::new(alloc, Vec::from_slice(alloc, &[2])?)?;
-    let Outcome { status, reporters, .. } = run(
+    let Outcome {
+        status,
+        reporters,
+        ..
+    } = run(
         &rt,
         alloc,
         &["session"],
@@ -209,7 +218,10 @@ fn only_reports_on_programs_are_fed(rt: HostRuntime) -> Result<(), Fail> {
         (b"put a.c 24\nint id(int a){return a;}show id\nstart\n", 0),
         (b"gen 4\n", 0),
         (b"gen 4\nreport\nshow g3\n", 4),
-        (b"put a.c 5\nhelloreport\nput a.c 24\nint id(int a){return a;}report\nreport\n", 2),
+        (
+            b"put a.c 5\nhelloreport\nput a.c 24\nint id(int a){return a;}report\nreport\n",
+            2,
+        ),
     ];
     for (stream, want) in streams {
         let reporter = Box::new(alloc, keeping(alloc, None, &[])?)?;

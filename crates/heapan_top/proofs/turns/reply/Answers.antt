@@ -29,7 +29,7 @@ returns-after-loop-entry-clause-feeds g c =
     let whole : take c.loop-entry.entry-index all ≡ all = search (take_all, rules) in
     let same : all ≡ c.in-Ok.entries.items = search rules in
     let feeds : Feeds c.args.session.now c.args.asked c.in-Ok.entries.items =
-        subst (λ r. IfOk r (λ entries. Feeds c.args.session.now c.args.asked entries.items)) c.in-Ok.is c.write_reply.ensures.entries in
+    subst (λ r. IfOk r (λ entries. Feeds c.args.session.now c.args.asked entries.items)) c.in-Ok.is c.write_reply.ensures.entries in
     (all, subst (λ (fed : List Entry). Feeds c.args.session.now c.args.asked fed) (sym same) feeds, fed_to _ _ _ _ _ whole c.loop-entry.invariant.fed)
 
 pub returns-after-loop-entry-clause-steady : goal.returns-after-loop-entry-clause-steady
