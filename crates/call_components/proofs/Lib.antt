@@ -7,3 +7,6 @@ pub mod Graphs
 pub mod Searched
 pub mod Turns
 pub mod Listed
+pub mod Held
+pub mod Queued
+pub mod Looked

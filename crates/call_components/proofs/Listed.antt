@@ -16,7 +16,7 @@ use Rattle.component_keys.proofs.Reach.{any_passes, holds_at}
 use Rattle.component_keys.proofs.Whole.{same_answers, left_or, reach_self, reach_through, reach_call, mutual_parts, mutual_of, in_class, same_class, in_listed, class_from}
 use Rattle.component_keys.proofs.Whole as Whole
 use Rattle.call_components.specs.Reaching.{marked, rows}
-use Rattle.call_components.specs.Tables.{AreKinds, AreListed, same_kind, class_in, classes_in, is_next_in, AreAllMarked}
+use Rattle.call_components.specs.Tables.{AreKinds, same_kind, class_in, classes_in, is_next_in, AreAllMarked}
 use Rattle.call_components.proofs.Marking.{marked_set, holds_push, or_or, or_false}
 use Rattle.call_components.proofs.Naming.{by_name_below}
 
@@ -68,14 +68,9 @@ any_next : (p q : ℕ → Bool) (x : ℕ) (xs : List ℕ) (here : Bool) → p x 
 any_next p q x xs true here more others is = ap (λ b. b || list_any q xs) (more here)
 any_next p q x xs false here more others is = ap (λ b. q x || b) (others (sym (ap (λ b. b || list_any p xs) here) ∙ is)) ∙ or_true (q x)
 
-any_more : (p q : ℕ → Bool) (xs : List ℕ) → ((n : ℕ) → p n ≡ true → q n ≡ true) → list_any p xs ≡ true → list_any q xs ≡ true
+pub any_more : (p q : ℕ → Bool) (xs : List ℕ) → ((n : ℕ) → p n ≡ true → q n ≡ true) → list_any p xs ≡ true → list_any q xs ≡ true
 any_more p q [] more is = is
 any_more p q (x ∷ xs) more is = any_next p q x xs (p x) refl (more x) (any_more p q xs more) is
-
--- what is listed stays so where more is marked
-pub still_listed : (numbers : List ℕ) (before after : List Bool) (all : List (List ℕ)) (place : ℕ) → AreAllMarked numbers before after → AreListed before all place → AreListed after all place
-still_listed numbers before after all place more front k less =
-    any_more (marked before) (marked after) (get_or all k []) (λ n here. more n ∙ ap (λ b. b || holds numbers n) here) (front k less)
 
 -- marked are the members of the listed classes
 abbrev pub AreMarksOf : List (List ℕ) → List Bool → Type 0
@@ -217,6 +212,15 @@ module _ (names calls : List (List ℕ)) (graph : IsCallGraph names calls) (kind
       let from = class_from names calls graph place class at in
       subst (All (λ number. number < length calls)) (sym from.2) (All-filter (are_mutual calls from.0) (λ number. number < length calls) order below)
 
+  -- a class has a member
+  pub class_member : (place : ℕ) (class : List ℕ) → slice_get (classes calls order) place ≡ Some class → (m : ℕ) × (holds class m ≡ true)
+  class_member place class at =
+      let from = class_from names calls graph place class at in (
+        from.0,
+        subst (λ c. holds c from.0 ≡ true) (sym from.2)
+            (in_class names calls graph from.0 from.0 (within from.0 from.1) (mutual_of names calls graph from.0 from.0 (reach_self names calls graph from.0) (reach_self names calls graph from.0))),
+      )
+
 -- no turn is left
 pub listing_done : (names calls : List (List ℕ)) (turns : ℕ) (listed : List (List ℕ)) (marks : List Bool) → turns ≡ 0 → IsListing names calls turns listed marks → listed ≡ components names calls
 listing_done names calls turns listed marks none so_far = let last : IsListing names calls 0 listed marks = subst (λ n. IsListing names calls n listed marks) none so_far in last.leads
@@ -252,6 +256,11 @@ module _ (names : List (List ℕ)) (calls : List (Vec ℕ)) (graph : IsCallGraph
       subst (λ n. All (λ number. number < n) numbers) (sym so_far.lengths)
       (subst (All (λ number. number < length (rows calls))) (sym same)
       (class_within names (rows calls) graph kinds right place row.items (ap (λ l. slice_get l place) (sym all_are) ∙ class_at place row lt is)))
+
+  pub turn_member : (place : ℕ) (row : Vec ℕ) (numbers : List ℕ) → place < length all → row ≡ get_or all place row → numbers ≡ row.items → (m : ℕ) × (holds numbers m ≡ true)
+  turn_member place row numbers lt is same =
+      let member = class_member names (rows calls) graph kinds right place row.items (ap (λ l. slice_get l place) (sym all_are) ∙ class_at place row lt is) in
+      (member.0, subst (λ l. holds l member.0 ≡ true) (sym same) member.1)
 
   pub turn_more : (turn place : ℕ) (listed new : List (Vec ℕ)) (marks later : List Bool) (row class : Vec ℕ) (numbers : List ℕ) → turn < length names →
       IsListing names (rows calls) (length names - turn) (rows listed) marks → find (is_next_in kinds (rows calls) marks) (rows all) ≡ slice_get (rows all) place → place < length all → row ≡ get_or all place row →

@@ -3,3 +3,4 @@ pub mod Reaching
 pub mod Searching
 pub mod Sorting
 pub mod Tables
+pub mod Waiting

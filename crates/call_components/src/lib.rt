@@ -8,8 +8,10 @@ pub mod graph;
 pub mod listing;
 pub mod marks;
 pub mod order;
+pub mod places;
 pub mod reach;
 pub mod search;
+pub mod waiting;
 
 pub use graph::is_call_graph;
 pub use listing::components;

@@ -6,76 +6,12 @@ ghost use Rattle.call_components.specs.Tables.{AreAllMarked, AreKinds, AreListed
 ghost use Rattle.component_keys.specs.Components.{by_name, calls_of, components};
 ghost use Rattle.component_keys.specs.Laws.{IsCallGraph};
 
-use crate::calls::callees_of;
-use crate::classes::{are_of_kind, classes_of_kinds};
+use crate::classes::classes_of_kinds;
 use crate::order::in_order;
-use crate::reach::is_marked;
 use crate::search::kinds_below;
+use crate::waiting::{first_ready, waiting_for, wake_each};
 use shape_data::Name;
 use std::alloc::{AllocError, Global};
-
-/// Whether each that a number calls calls it back or is listed.
-fn is_ready(calls: &[Vec<u32>], kinds: &[usize], listed: &[bool], number: u32) -> bool
-    ensures { result ≡ list_all (λ callee. same_kind kinds.now callee number || marked listed.now callee) (calls_of (rows calls.now) number) }
-{
-    callees_of(calls, number).iter().all(|callee| are_of_kind(kinds, *callee, number)
-        || is_marked(listed, *callee))
-}
-
-/// Whether a member of a class is listed.
-fn is_listed(listed: &[bool], class: &[u32]) -> bool
-    ensures { result ≡ list_any (marked listed.now) class.now }
-{
-    class.iter().any(|number| is_marked(listed, *number))
-}
-
-/// Whether each member of a class is ready.
-fn are_ready(calls: &[Vec<u32>], kinds: &[usize], listed: &[bool], class: &[u32]) -> bool
-    ensures { result ≡ list_all (λ number. list_all (λ callee. same_kind kinds.now callee number || marked listed.now callee) (calls_of (rows calls.now) number)) class.now }
-{
-    class
-        .iter()
-        .all(|number| is_ready(calls, kinds, listed, *number))
-}
-
-/// Whether a class may be listed next.
-fn is_next(calls: &[Vec<u32>], kinds: &[usize], listed: &[bool], class: &[u32]) -> bool
-    ensures { result ≡ is_next_in kinds.now (rows calls.now) listed.now class.now }
-{
-    !is_listed(listed, class) && are_ready(calls, kinds, listed, class)
-}
-
-/// The first place, from this one on, at which a class stands that is not listed, where those before are.
-fn first_waiting(listed: &[bool], classes: &[Vec<u32>], from: usize) -> usize
-    requires { AreListed listed.now (rows classes.now) from }
-    ensures { AreListed listed.now (rows classes.now) result }
-{
-    let mut place = from;
-    while place < classes.len() && is_listed(listed, &classes[place]) {
-        place += 1;
-    }
-    place
-}
-
-/// The place of the first class that may be listed next, where those before this place are listed.
-fn next_class(
-    calls: &[Vec<u32>],
-    kinds: &[usize],
-    listed: &[bool],
-    classes: &[Vec<u32>],
-    from: usize,
-) -> Option<usize>
-    requires { AreListed listed.now (rows classes.now) from }
-    ensures within { IfSome result (λ place. place < length classes.now) }
-    ensures first { find (is_next_in kinds.now (rows calls.now) listed.now) (rows classes.now) ≡ at_place (rows classes.now) result }
-{
-    for place in from..classes.len() {
-        if is_next(calls, kinds, listed, &classes[place]) {
-            return Some(place);
-        }
-    }
-    None
-}
 
 /// Marks the numbers.
 #[tactic(auto, using(crate::proofs::Listed::more_marked))]
@@ -104,15 +40,15 @@ fn in_call_order(
     ensures { IfOk result (λ listed. rows listed.items ≡ components names.now (rows calls.now)) }
 {
     let mut marks = vec![in alloc; false; calls.len()]?;
+    let mut waiting = waiting_for(alloc, calls, kinds, all, &marks)?;
     let mut listed: Vec<Vec<u32>> = Vec::with_capacity(alloc, all.len())?;
-    let mut from = 0;
     for _turn in 0..names.len() {
-        from = first_waiting(&marks, all, from);
-        let Some(place) = next_class(calls, kinds, &marks, all, from) else {
+        let Some(place) = first_ready(&marks, all, &mut waiting.ready) else {
             return Ok(listed);
         };
         let class = Vec::from_slice(alloc, &all[place])?;
         mark_all(&class, &mut marks);
+        wake_each(alloc, &marks, &class, &mut waiting)?;
         listed.push(class)?;
     }
     Ok(listed)
