@@ -5,3 +5,4 @@ pub mod Readings
 pub mod Units
 pub mod Wholes
 pub mod Sizes
+pub mod Taking

@@ -26,6 +26,14 @@ new_file name bytes = record { file = source name bytes; is_kept = false }
 abbrev pub with_bytes : List ℕ → KeptFile → KeptFile
 with_bytes bytes kept = record { file = with_text bytes kept.file; is_kept = kept.is_kept && pointwise nat_eq kept.file.bytes bytes }
 
+-- the file without its parse
+abbrev pub without_parse : KeptFile → KeptFile
+without_parse kept = record kept { is_kept = false }
+
+-- the file with its parse
+abbrev pub with_parse : KeptFile → KeptFile
+with_parse kept = record kept { is_kept = true }
+
 abbrev pub is_kept_named : List ℕ → KeptFile → Bool
 is_kept_named name kept = is_named name kept.file
 

@@ -3,7 +3,7 @@
 ghost use Rattle.std.specs.Prelude.{◌≡◌, ◌≤◌, length, true, false, OnOk, OnErr, IfOk, IfErr};
 ghost use Rattle.c_front.specs.Units.{IsUnitOf};
 ghost use Rattle.c_tree.specs.Syntax.{unit_tree};
-ghost use Rattle.project_form.specs.Kept.{HasUnit, new_file, with_bytes};
+ghost use Rattle.project_form.specs.Kept.{HasUnit, new_file, with_bytes, with_parse, without_parse};
 ghost use Rattle.project_form.specs.Parts.{IsTextFault};
 
 use c_parse::parse;
@@ -81,15 +81,24 @@ impl File {
         self.unit.is_some()
     }
 
-    /// The syntax tree that is kept.
-    pub fn unit(&self) -> &Unit
-        requires kept { self.now.is_kept ≡ true }
-        ensures { IsUnitOf self.now.file.bytes (unit_tree result.now) }
+    /// Takes the syntax tree that is kept.
+    pub fn take_unit(&mut self) -> Unit
+        requires kept { self.old.is_kept ≡ true }
+        ensures unit { IsUnitOf self.old.file.bytes (unit_tree result) }
+        ensures taken { self.new ≡ without_parse self.old }
     {
-        match &self.unit {
+        match self.unit.take() {
             Some(unit) => unit,
             None => unreachable!(),
         }
+    }
+
+    /// Keeps a syntax tree of the bytes.
+    pub fn keep_unit(&mut self, unit: Unit)
+        requires { IsUnitOf self.old.file.bytes (unit_tree unit) }
+        ensures { self.new ≡ with_parse self.old }
+    {
+        self.unit = Some(unit);
     }
 
     /// Takes other bytes. Where they are the same, the syntax tree stays.

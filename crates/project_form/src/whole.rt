@@ -1,5 +1,5 @@
 //! The program that files are together: types, lowering, and how many procedures there are.
-ghost use Rattle.std.specs.Prelude.{◌≡◌, ◌<◌, ◌≤◌, length, map, slice_get, All, IfOk, IfErr, OnOk, Ok, None};
+ghost use Rattle.std.specs.Prelude.{◌≡◌, ◌<◌, ◌≤◌, length, map, slice_get, All, IfOk, IfErr, OnOk, OnErr, Ok, None};
 ghost use Rattle.std.specs.List.{AllZip};
 ghost use Rattle.std.specs.Option.{option_map};
 ghost use Rattle.c_tree.specs.Syntax.{unit_tree};
@@ -7,7 +7,7 @@ ghost use Rattle.c_types.specs.Typing.{files_of};
 ghost use Rattle.c_types_rules.specs.Programs.{first_refusal};
 ghost use Rattle.c_lower_rules.specs.Programs.{first_too_large, program_of as lowered_program};
 ghost use Rattle.project_form.specs.Files.{AreFiles};
-ghost use Rattle.project_form.specs.Kept.{AreAllKept, Follows, sources_of};
+ghost use Rattle.project_form.specs.Kept.{AreAllKept, Follows, sources_of, with_parse, without_parse};
 ghost use Rattle.project_form.specs.Parts.{AreUnits, IsFirstFault, IsLowerable, IsProgramFault, IsRefused, IsWhole, KeepsWhatIsRead};
 ghost use Rattle.project_form.specs.Reads.{MOST_PROCEDURES as most, Reads, names_of, refused_at, refused_proc, whole_refusal};
 
@@ -40,16 +40,32 @@ fn file_names(alloc: Global, files: &[File]) -> Result<Vec<Name>, AllocError>
     Ok(names)
 }
 
-/// The syntax trees of the files, each of which is kept.
-fn file_units(alloc: Global, files: &[File]) -> Result<Vec<Unit>, AllocError>
-    requires { AreAllKept files.now }
-    ensures { IfOk result (λ units. AreUnits files.now units.items) }
+/// Takes the syntax trees out of the files, of each of which it is kept. Room for all is made before the first is taken.
+fn take_units(alloc: Global, files: &mut [File]) -> Result<Vec<Unit>, AllocError>
+    requires { AreAllKept files.old }
+    ensures units { IfOk result (λ units. AreUnits files.old units.items) }
+    ensures taken { OnOk result (files.new ≡ map without_parse files.old) }
+    ensures same { OnErr result (files.new ≡ files.old) }
 {
-    let mut units = Vec::new(alloc);
-    for file in files {
-        units.push(file.unit().clone()?)?;
+    let mut units = Vec::with_capacity(alloc, files.len())?;
+    for file in files.iter_mut() {
+        units.push_reserved(file.take_unit());
     }
     Ok(units)
+}
+
+/// Each file keeps its syntax tree.
+fn keep_units(files: &mut [File], units: Vec<Unit>)
+    requires { AreUnits files.old units.items }
+    ensures { files.new ≡ map with_parse files.old }
+{
+    let mut units = units.into_iter();
+    for file in files.iter_mut() {
+        match units.next() {
+            Some(unit) => file.keep_unit(unit),
+            None => unreachable!(),
+        }
+    }
 }
 
 /// A refusal in one of the files with these names.
@@ -139,16 +155,19 @@ fn program_in(alloc: Global, names: &[Name], units: &[Unit]) -> Result<Program, 
 /// # Errors
 ///
 /// The first refusal: of types, else of what is too large, else the first procedure too many; and want of memory.
-pub fn program_of(alloc: Global, files: &[File]) -> Result<Program, ProgramFault>
-    requires files { AreFiles (sources_of files.now) }
-    requires kept { AreAllKept files.now }
-    ensures program { IfOk result (λ program. Reads (sources_of files.now) (Ok program)) }
-    ensures fault { IfErr result (λ fault. IsProgramFault (sources_of files.now) fault) }
+pub fn program_of(alloc: Global, files: &mut [File]) -> Result<Program, ProgramFault>
+    requires files { AreFiles (sources_of files.old) }
+    requires kept { AreAllKept files.old }
+    ensures program { IfOk result (λ program. Reads (sources_of files.old) (Ok program)) }
+    ensures fault { IfErr result (λ fault. IsProgramFault (sources_of files.old) fault) }
+    ensures same { files.new ≡ files.old }
 {
     parsed_files_are_texts();
     let names = file_names(alloc, files)?;
-    let units = file_units(alloc, files)?;
-    program_in(alloc, names.as_slice(), units.as_slice())
+    let units = take_units(alloc, files)?;
+    let program = program_in(alloc, names.as_slice(), units.as_slice());
+    keep_units(files, units);
+    program
 }
 
 /// The program that files are. Those that have a syntax tree keep it.
@@ -168,6 +187,6 @@ pub fn read_program(alloc: Global, files: &mut Vec<File>) -> Result<Program, Pro
     let firsts = read_files(alloc, files)?;
     match firsts.first() {
         Some(refused) => Err(ProgramFault::Refused(refused)),
-        None => program_of(alloc, files.as_slice()),
+        None => program_of(alloc, files.as_mut_slice()),
     }
 }
