@@ -6,3 +6,5 @@ pub mod Reported
 pub mod Puts
 pub mod Summed
 pub mod Among
+pub mod LookedUp
+mod Honest

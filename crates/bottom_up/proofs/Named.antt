@@ -19,7 +19,8 @@ use Rattle.composed_keys.proofs.Calls.{program_graph}
 use Rattle.key_laws.proofs.Elements.{pairs_weaker}
 use Rattle.key_laws.proofs.Members.{component_at, component_of_class, listed_are, member_from, member_in, members_rise, names_length, proc_at, same_number}
 use Rattle.key_laws.proofs.Rising.{IsBelow, below_differ}
-use Rattle.bottom_up.specs.BottomUp.{Known, all_summaries, answered, known_by, summary_named}
+use Rattle.claim_core.specs.Views.{Solution}
+use Rattle.bottom_up.specs.BottomUp.{all_summaries, answered, known_by, summary_named}
 use Rattle.bottom_up.proofs.Formed.{key_at, key_is}
 use Rattle.bottom_up.proofs.Listed.{from_flat, in_flat, only_found, within_at}
 use Rattle.bottom_up.proofs.Over.{known_is, known_of_component}
@@ -116,7 +117,7 @@ module _ (program : Program) (formed : IsProgram program) where
 -- ---- summaries
 
 module _ (limits : Limits) (answer_of : Key → Answer) (answers_fit : (key : Key) → IsKey limits key → IsAnswer limits key (answer_of key)) (program : Program) (formed : IsProgram program) where
-  abbrev pub known : List Known
+  abbrev pub known : List Solution
   known = known_by answer_of program
 
   -- a component's key, and the summaries of its answer
@@ -192,13 +193,13 @@ module _ (limits : Limits) (answer_of : Key → Answer) (answers_fit : (key : Ke
   pub found_in_all : (component : ℕ) (part : Component) (member number : ℕ) (proc : Proc) (summary : ProcSummary) → IsSummaryAt component part member number proc summary →
       summary_named known summary.name ≡ Some summary
   found_in_all component part member number proc summary is =
-      let procs_of : Known → List ProcSummary = λ one. one.answer.procs in
+      let procs_of : Solution → List ProcSummary = λ one. one.answer.procs in
       let there = in_flat procs_of known component (answered answer_of (own_key part)) member summary (known_is answer_of program component part is.stands.at) is.at in
       only_found (λ (one : ProcSummary). bytes_eq one.name summary.name) (all_summaries known) there.0 summary there.1 ((names_exact summary.name summary.name).1 refl)
       (λ j other at passes.
       let from = from_flat procs_of known j other at in
       let of = known_of_component answer_of program from.i from.x from.at in
-      let own = summary_is from.i of.0 from.k other of.1 (subst (λ (one : Known). slice_get one.answer.procs from.k ≡ Some other) of.2 from.here) in
+      let own = summary_is from.i of.0 from.k other of.1 (subst (λ (one : Solution). slice_get one.answer.procs from.k ≡ Some other) of.2 from.here) in
       one_summary component part member number proc summary from.i of.0 from.k own.0 own.1 other is own.2 ((names_exact other.name summary.name).0 passes))
 
   -- each procedure's summary, found by the procedure's name

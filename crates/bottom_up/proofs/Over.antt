@@ -8,7 +8,8 @@ use Rattle.shape_data.specs.declared.program.StructDef.{StructDef}
 use Rattle.component_keys.specs.Keys.{Component, Outer, key_over, program_components}
 use Rattle.component_keys.proofs.Basics.{not_none, some_same}
 use Rattle.component_keys.proofs.Ordered.{callees_before}
-use Rattle.bottom_up.specs.BottomUp.{Known, answered, answers_in, callee_by, callee_from, key_after, known_by, known_over}
+use Rattle.claim_core.specs.Views.{Solution}
+use Rattle.bottom_up.specs.BottomUp.{answered, answers_in, callee_by, callee_from, key_after, known_by, known_over}
 use Rattle.bottom_up.proofs.Listed.{front_at, within_at}
 
 -- two lists are the same at the places below
@@ -33,7 +34,7 @@ module _ (answer_of : Key → Answer) (structs : List StructDef) where
   known_length (part ∷ parts) before = ap (λ n. suc n) (known_length parts (before ++ answer_of (key_after structs before part) ∷ []))
 
   -- the key at a place is made of answers that are those of the whole at the places before it
-  record IsKnownAt (whole : List Answer) (place : ℕ) (part : Component) (one : Option Known) : Type 0 where
+  record IsKnownAt (whole : List Answer) (place : ℕ) (part : Component) (one : Option Solution) : Type 0 where
     front : List Answer
     agrees : AgreeBelow place front whole
     is : one ≡ Some (answered answer_of (key_after structs front part))
@@ -48,7 +49,7 @@ module _ (answer_of : Key → Answer) (structs : List StructDef) where
   }
   known_at (first ∷ parts) before whole is (suc i) part at =
       let one : Answer = answer_of (key_after structs before first) in
-      let rest : List Known = known_over answer_of structs parts (before ++ one ∷ []) in
+      let rest : List Solution = known_over answer_of structs parts (before ++ one ∷ []) in
       let again : IsKnownAt whole (length (before ++ one ∷ []) + i) part (slice_get rest i) = known_at parts (before ++ one ∷ []) whole (is ∙ sym (append_assoc before (one ∷ []) (answers_in rest))) i part at in
       let longer : length (before ++ one ∷ []) ≡ length before + 1 = length-append before (one ∷ []) in
       let place : length (before ++ one ∷ []) + i ≡ length before + suc i = omega (arith, longer) in
@@ -71,10 +72,10 @@ module _ (answer_of : Key → Answer) (program : Program) where
   pub answer_is : (place : ℕ) (part : Component) → slice_get (program_components program) place ≡ Some part →
       slice_get (answers_in (known_by answer_of program)) place ≡ Some (answer_of (key_after program.structs (answers_in (known_by answer_of program)) part))
   answer_is place part at =
-      slice_get-map (λ (one : Known). one.answer) (known_by answer_of program) place ∙ ap (option_map (λ (one : Known). one.answer)) (known_is place part at)
+      slice_get-map (λ (one : Solution). one.answer) (known_by answer_of program) place ∙ ap (option_map (λ (one : Solution). one.answer)) (known_is place part at)
 
   -- what is known at a place is known of the component there
-  pub known_of_component : (place : ℕ) (one : Known) → slice_get (known_by answer_of program) place ≡ Some one →
+  pub known_of_component : (place : ℕ) (one : Solution) → slice_get (known_by answer_of program) place ≡ Some one →
       (part : Component) × (slice_get (program_components program) place ≡ Some part) × (one ≡ answered answer_of (key_after program.structs (answers_in (known_by answer_of program)) part))
   known_of_component place one at =
       by_part (slice_get (program_components program) place) refl

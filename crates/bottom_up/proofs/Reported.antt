@@ -19,7 +19,8 @@ use Rattle.sound_laws.specs.Procedures.{HasFlow}
 use Rattle.sound_laws.proofs.ProcedureLemmas.{has_own_flows, procedure_is_found}
 use Rattle.certificate_laws.specs.Laws.{AllAreValid, AreInductive, IsInductiveAt}
 use Rattle.certificate_laws.specs.Limits.{analysable}
-use Rattle.bottom_up.specs.BottomUp.{Known, answers_in, callee_by, callee_from, known_by, summaries_for, summary_named}
+use Rattle.claim_core.specs.Views.{Solution}
+use Rattle.bottom_up.specs.BottomUp.{answers_in, callee_by, callee_from, known_by, summaries_for, summary_named}
 use Rattle.bottom_up.specs.Laws.{AreReported, AreRight, IsReported}
 use Rattle.bottom_up.proofs.Formed.{IsOutside, has_structs, is_outside, key_at, key_is}
 use Rattle.bottom_up.proofs.Listed.{mapped_at, mapped_length}
@@ -27,11 +28,11 @@ use Rattle.bottom_up.proofs.Named.{IsSummarized, each_summarized, member_of, spe
 use Rattle.bottom_up.proofs.Over.{answer_is, known_is, known_of_component}
 
 module _ (all_valid : AllAreValid) (answer_of : Key → Answer) (right : AreRight answer_of) (program : Program) (formed : IsProgram program) where
-  abbrev known : List Known
+  abbrev known : List Solution
   known = known_by answer_of program
 
   abbrev keys : List Key
-  keys = map (λ (one : Known). one.key) (known_by answer_of program)
+  keys = map (λ (one : Solution). one.key) (known_by answer_of program)
 
   abbrev answers : List Answer
   answers = answers_in (known_by answer_of program)
@@ -41,7 +42,7 @@ module _ (all_valid : AllAreValid) (answer_of : Key → Answer) (right : AreRigh
 
   stand_at : (place : ℕ) (part : Component) → slice_get (program_components program) place ≡ Some part → StandAt keys answers place (own_key part) (answer_of (own_key part))
   stand_at place part at =
-      (slice_get-map (λ (one : Known). one.key) known place ∙ ap (option_map (λ (one : Known). one.key)) (known_is answer_of program place part at), answer_is answer_of program place part at)
+      (slice_get-map (λ (one : Solution). one.key) known place ∙ ap (option_map (λ (one : Solution). one.key)) (known_is answer_of program place part at), answer_is answer_of program place part at)
 
   -- a procedure outside is answered before
   answered_before : (place : ℕ) (outer : Outer) → IsOutside program place outer → IsAnsweredBefore keys answers place (callee_from answers outer)
@@ -84,9 +85,9 @@ module _ (all_valid : AllAreValid) (answer_of : Key → Answer) (right : AreRigh
 
   are_inductive : AreInductive program keys answers
   are_inductive place key answer stand =
-      let one = mapped_some (λ (one : Known). one.key) (slice_get known place) key (sym (slice_get-map (λ (one : Known). one.key) known place) ∙ stand.0) in
+      let one = mapped_some (λ (one : Solution). one.key) (slice_get known place) key (sym (slice_get-map (λ (one : Solution). one.key) known place) ∙ stand.0) in
       let of = known_of_component answer_of program place one.0 one.1 in
-      let key_is : own_key of.0 ≡ key = sym (one.2 ∙ ap (λ (k : Known). k.key) of.2) in
+      let key_is : own_key of.0 ≡ key = sym (one.2 ∙ ap (λ (k : Solution). k.key) of.2) in
       let answer_is : answer_of (own_key of.0) ≡ answer = some_same (sym (answer_is answer_of program place of.0 of.1) ∙ stand.1) in
       subst (IsInductiveAt program keys answers place key) answer_is
       (subst (λ k. IsInductiveAt program keys answers place k (answer_of (own_key of.0))) key_is (inductive_at place of.0 of.1))

@@ -16,7 +16,8 @@ use Rattle.composed_keys.specs.declared.rows.Component.{Component as Row}
 use Rattle.composed_keys.specs.Rows.{component_value}
 use Rattle.key_laws.proofs.Elements.{all_of}
 use Rattle.key_laws.proofs.Members.{same_number}
-use Rattle.bottom_up.specs.BottomUp.{Known, answers_in, known_by, summaries_for, summary_named}
+use Rattle.claim_core.specs.Views.{Solution}
+use Rattle.bottom_up.specs.BottomUp.{answers_in, known_by, summaries_for, summary_named}
 use Rattle.bottom_up.specs.declared.places.Place.{Place}
 use Rattle.bottom_up.specs.Placed.{ArePlaced, AreRows, IsPlaceOf, summary_in}
 use Rattle.bottom_up.proofs.Listed.{mapped_at, mapped_same, within_at}
@@ -54,7 +55,7 @@ and_then_from f (Some x) y e = (x, refl, e)
 
 module _ (limits : Limits) (answer_of : Key → Answer) (answers_fit : (key : Key) → IsKey limits key → IsAnswer limits key (answer_of key)) (program : Program) (formed : IsProgram program)
     (rows : List Row) (are : AreRows program rows) (places : List Place) (lengths : length places ≡ length program.procs) (placed : ArePlaced rows places) where
-  abbrev known : List Known
+  abbrev known : List Solution
   known = known_by answer_of program
 
   abbrev answers : List Answer

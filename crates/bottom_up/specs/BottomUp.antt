@@ -1,4 +1,4 @@
--- What is known of a program when all its components are answered, callees first.
+-- What is known of a program when all its components are answered, callees first, each by a loaded entry or else by solving it.
 use Rattle.std.specs.Prelude.{ℕ, List, [], ◌∷◌, ◌++◌, map, slice_get}
 use Rattle.std.specs.List.{filter_map, find, flat_map}
 use Rattle.std.specs.Str.{bytes_eq}
@@ -13,20 +13,16 @@ use Rattle.shape_data.specs.declared.program.Program.{Program}
 use Rattle.shape_data.specs.declared.program.StructDef.{StructDef}
 use Rattle.shape_data.specs.declared.symbolic.Spec.{Spec}
 use Rattle.component_keys.specs.Keys.{Component, Outer, key_over, program_components, specs_in}
-use Rattle.solve_laws.specs.Solving.{solve}
-
--- a component's key, and its answer
-pub record Known : Type 0 where
-  pub key : Key
-  pub answer : Answer
+use Rattle.loaded_answers.specs.Lookup.{lookup}
+use Rattle.claim_core.specs.Views.{Solution}
 
 -- a key with the answer that it is given
-abbrev pub answered : (Key → Answer) → Key → Known
+abbrev pub answered : (Key → Answer) → Key → Solution
 answered answer_of key = record { key = key; answer = answer_of key }
 
 -- the answers alone
-abbrev pub answers_in : List Known → List Answer
-answers_in known = map (λ (one : Known). one.answer) known
+abbrev pub answers_in : List Solution → List Answer
+answers_in known = map (λ (one : Solution). one.answer) known
 
 -- the specs that a component's answer has for a procedure
 abbrev pub specs_known : Option Answer → List ℕ → List Spec
@@ -45,37 +41,37 @@ abbrev pub key_after : List StructDef → List Answer → Component → Key
 key_after structs answers part = key_over structs part.flows (map (callee_from answers) part.outer)
 
 -- a component is known, and then those after it
-abbrev pub known_then : (List Answer → List Known) → List Answer → Known → List Known
+abbrev pub known_then : (List Answer → List Solution) → List Answer → Solution → List Solution
 known_then others answers one = one ∷ others (answers ++ one.answer ∷ [])
 
 -- each component is answered over those before it
-abbrev pub known_over : (Key → Answer) → List StructDef → List Component → List Answer → List Known
+abbrev pub known_over : (Key → Answer) → List StructDef → List Component → List Answer → List Solution
 known_over answer_of structs [] answers = []
 known_over answer_of structs (part ∷ parts) answers =
     known_then (known_over answer_of structs parts) answers (answered answer_of (key_after structs answers part))
 
 -- what is known of the components of a program, callees first, where each key has such an answer
-unfoldable pub known_by : (Key → Answer) → Program → List Known
+unfoldable pub known_by : (Key → Answer) → Program → List Solution
 known_by answer_of program = known_over answer_of program.structs (program_components program) []
 
--- BOTTOM UP, from nothing: each key is solved
-abbrev pub bottom_up : Program → List Known
-bottom_up program = known_by solve program
+-- BOTTOM UP, over loaded entries: each key is looked up
+abbrev pub bottom_up : List Solution → Program → List Solution
+bottom_up loaded program = known_by (lookup loaded) program
 
 -- THE SUMMARIES
 
 -- the summaries of all components
-abbrev pub all_summaries : List Known → List ProcSummary
-all_summaries known = flat_map (λ (one : Known). one.answer.procs) known
+abbrev pub all_summaries : List Solution → List ProcSummary
+all_summaries known = flat_map (λ (one : Solution). one.answer.procs) known
 
 -- the summary of a procedure's name
-abbrev pub summary_named : List Known → List ℕ → Option ProcSummary
+abbrev pub summary_named : List Solution → List ℕ → Option ProcSummary
 summary_named known name = find (λ (summary : ProcSummary). bytes_eq summary.name name) (all_summaries known)
 
 -- the summaries of procedures, in their order
-abbrev pub summaries_for : List Known → List Proc → List ProcSummary
+abbrev pub summaries_for : List Solution → List Proc → List ProcSummary
 summaries_for known procs = filter_map (λ (proc : Proc). summary_named known proc.flow.name) procs
 
--- the summaries of a program's procedures, in their order
-abbrev pub program_summaries : Program → List ProcSummary
-program_summaries program = summaries_for (bottom_up program) program.procs
+-- the summaries of a program's procedures over loaded entries, in their order
+abbrev pub program_summaries : List Solution → Program → List ProcSummary
+program_summaries loaded program = summaries_for (bottom_up loaded program) program.procs

@@ -3,8 +3,10 @@ ghost use Rattle.std.specs.Prelude.{◌≡◌, All, IfOk, IsSome};
 ghost use Rattle.std.specs.List.{filter_map, find};
 ghost use Rattle.std.specs.Option.{option_copied};
 ghost use Rattle.std.specs.Str.{bytes_eq};
-ghost use Rattle.bottom_up.specs.BottomUp.{answers_in, bottom_up, program_summaries};
+ghost use Rattle.bottom_up.specs.BottomUp.{answers_in, known_by, summaries_for};
+ghost use Rattle.bottom_up.specs.Laws.{AreRight};
 ghost use Rattle.bottom_up.specs.Placed.{answers_kept, summary_among, summary_in};
+ghost use Rattle.shape_data.specs.declared.answer.Key.{Key};
 ghost use Rattle.shape_data.specs.WellFormed.{IsProgram};
 
 use crate::places::{Place, places_of};
@@ -12,7 +14,6 @@ use composed_keys::components_of;
 use shape_data::answer::{Answer, Kept, ProcSummary};
 use shape_data::program::Program;
 use shape_data::{Name, Row, copy_of};
-use solve_laws::laws::solved_is_well_formed;
 use std::alloc::{AllocError, Global};
 
 /// The summary at a place.
@@ -39,17 +40,17 @@ fn kept_summaries(
     Ok(made)
 }
 
-/// The summaries of a program's procedures, in their order, where the answers are those of an analysis from nothing.
+/// The summaries of a program's procedures, in their order, where the answers are those of its components, each key having a right one.
 pub fn summaries_of(
     alloc: Global,
     program: &Program,
     kept: &[Kept],
 ) -> Result<Row<ProcSummary>, AllocError>
     requires program { IsProgram program.now }
-    requires answers { answers_kept kept.now ≡ answers_in (bottom_up program.now) }
-    ensures { IfOk result (λ made. made ≡ program_summaries program.now) }
+    requires right { (answer_of : Key → Answer) × AreRight answer_of × (answers_kept kept.now ≡ answers_in (known_by answer_of program.now)) }
+    ensures { (answer_of : Key → Answer) → AreRight answer_of → answers_kept kept.now ≡ answers_in (known_by answer_of program.now) →
+        IfOk result (λ made. made ≡ summaries_for (known_by answer_of program.now) program.now.procs) }
 {
-    solved_is_well_formed();
     let rows = components_of(alloc, program)?;
     let places = places_of(alloc, program.procs.len(), &rows)?;
     kept_summaries(alloc, kept, &places)

@@ -1,21 +1,34 @@
--- Which words the program takes, and for how many workers they ask.
-use Rattle.std.specs.Prelude.{ℕ, ◌+◌, ◌-◌, ◌*◌, ◌&&◌, Bool, true, false, List, [], ◌∷◌, Option, Some, None, codes, nat_le, if◌then◌else◌}
+-- Which words the program takes, and what they ask for.
+use Rattle.std.specs.Prelude.{ℕ, ◌+◌, ◌-◌, ◌*◌, ◌&&◌, true, List, [], ◌∷◌, Option, Some, None, codes, nat_le, if◌then◌else◌}
+use Rattle.std.specs.Option.{option_map}
 use Rattle.std.specs.Str.{bytes_eq}
 use Rattle.clap.specs.Words.{App, Kinds, Row, Rule, Text, fault_of, first_of, matches_of, new_app, new_rule, with_rule}
 use Rattle.clap.specs.Simple.{on_top}
 use Rattle.clap.specs.declared.builder.action.ArgAction.TheVariants.{Set}
+use Rattle.command_words.specs.declared.Asked.{Asked}
+
+-- what the words ask for: how many workers, and the path of the store where one is named
+pub record Options : Type 0 where
+  pub workers : ℕ
+  pub store : Option Text
+
+-- an answer of the program, by value
+abbrev pub options_of : Asked → Options
+options_of asked = record { workers = asked.workers; store = option_map (λ path. path.now) asked.store }
 
 -- the positional, which is required
 abbrev pub what_rule : Rule
 what_rule = record (new_rule (codes "what")) { required = true; action = Some Set }
 
--- `--workers`, with a value
-abbrev pub workers_rule : Rule
-workers_rule = record (new_rule (codes "workers")) { long = Some (codes "workers"); action = Some Set }
+-- an option with one value
+abbrev pub option_rule : Text → Rule
+option_rule name = record (new_rule name) { long = Some name; action = Some Set }
 
 -- the command that the words are read with
 abbrev pub app : App
-app = with_rule (with_rule (on_top (λ shape. record shape { no_binary_name = true }) (new_app (codes "heapan"))) what_rule) workers_rule
+app =
+    with_rule (with_rule (with_rule (on_top (λ shape. record shape { no_binary_name = true }) (new_app (codes "heapan"))) what_rule)
+    (option_rule (codes "workers"))) (option_rule (codes "store"))
 
 abbrev pub digit_of : ℕ → Option ℕ
 digit_of byte = if nat_le 48 byte && nat_le byte 57 then Some (byte - 48) else None
@@ -45,16 +58,17 @@ abbrev pub number_or : Option Text → Option ℕ
 number_or None = Some 4
 number_or (Some text) = number_in text
 
--- for so many the values ask
-abbrev pub workers_in : Option Text → Option Text → Option ℕ
-workers_in None workers = None
-workers_in (Some what) workers = if bytes_eq what (codes "session") then number_or workers else None
+-- what the values ask for: that of the positional, of `--workers` and of `--store`; any text is a path
+abbrev pub options_in : Option Text → Option Text → Option Text → Option Options
+options_in None workers store = None
+options_in (Some what) workers store =
+    if bytes_eq what (codes "session") then option_map (λ number. record { workers = number; store = store }) (number_or workers) else None
 
 -- the command takes the words, or refuses them for such a cause
-abbrev pub workers_taken : Kinds → List Row → Option ℕ
-workers_taken [] rows = workers_in (first_of (codes "what") rows) (first_of (codes "workers") rows)
-workers_taken (kind ∷ kinds) rows = None
+abbrev pub options_taken : Kinds → List Row → Option Options
+options_taken [] rows = options_in (first_of (codes "what") rows) (first_of (codes "workers") rows) (first_of (codes "store") rows)
+options_taken (kind ∷ kinds) rows = None
 
--- for so many workers the words ask; none where they are not of the form that the program takes
-unfoldable pub workers_asked : List Text → Option ℕ
-workers_asked words = workers_taken (fault_of app words) (matches_of app words)
+-- what the words ask for; none where they are not of the form that the program takes
+unfoldable pub words_asked : List Text → Option Options
+words_asked words = options_taken (fault_of app words) (matches_of app words)

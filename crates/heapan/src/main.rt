@@ -1,9 +1,10 @@
-//! The program. It hands the real words, standard input and standard output to the top call, with a gate that is always open and a reporter that counts, and ends with the number of its status; what is promised of it is that call's contract.
+//! The program. It hands the real words, standard input, standard output and files to the top call, with a gate that is always open and a reporter that counts, and ends with the number of its status; what is promised of it is that call's contract.
 #![tactic(auto)]
 
 use heapan_top::run;
-use io_ports::{OpenGate, ReaderSource, WriterSink};
+use io_ports::{FileKeeper, OpenGate, ReaderSource, WriterSink};
 use reporters::{CountReporter, Reporter};
+use std::fs::Files;
 use std::process::ExitCode;
 use std::rt::Env;
 use std::sync::Wait;
@@ -24,7 +25,7 @@ fn words<R: Env + AllocGlobal>(rt: &R) -> io::Result<Vec<String>> {
 
 /// Runs the top call on the process's own words and streams. Where a word, or the program's own name, is not text, the
 /// words are other words than those that the program takes, as no words are.
-fn status<R: Env + AllocGlobal + Input + Print + Threads + Wait + Sync>(rt: &R) -> u8 {
+fn status<R: Env + AllocGlobal + Files + Input + Print + Threads + Wait + Sync>(rt: &R) -> u8 {
     let alloc = rt.alloc();
     let texts = match words(rt) {
         Ok(texts) => texts,
@@ -46,12 +47,14 @@ fn status<R: Env + AllocGlobal + Input + Print + Threads + Wait + Sync>(rt: &R) 
     }
     let mut source = ReaderSource::new(rt.reader());
     let mut sink = WriterSink::new(io::writer(rt));
+    let mut keeper = FileKeeper::new(rt);
     run(
         rt,
         alloc,
         words.as_slice(),
         &mut source,
         &mut sink,
+        &mut keeper,
         &OpenGate,
         reporters,
     )

@@ -1,6 +1,6 @@
 -- How replies to one command after another make the replies to a stream, and what is written where a fault ends them.
 use Rattle.std.proofs.Common.{◌≡◌, ◌≢◌, ℕ, zero, suc, ◌+◌, ◌-◌, ◌<◌, ◌≤◌, Bool, true, false, cond, List, [], ◌∷◌, ◌++◌, inl, inr, Option, Some, None, Result, Ok, Err, length, take, refl, sym, ap, ◌∙◌, subst, append_assoc}
-use Rattle.std.specs.Prelude.{IfOk, IfSome, ◌==◌}
+use Rattle.std.specs.Prelude.{IfNone, IfOk, IfSome, ◌==◌}
 use Rattle.std.proofs.lemmas.List.{append-nil}
 use Rattle.io_ports.specs.Bytes.{after_held, before_left}
 use Rattle.session_lines.specs.declared.command.Command.{Command}
@@ -9,12 +9,13 @@ use Rattle.session_lines.specs.Lines.{IsFirst}
 use Rattle.session_lines.specs.declared.command.Taken.{Taken}
 use Rattle.session_lines.specs.Reading.{IsMalformed, IsTaken, Reading, Takes}
 use Rattle.session_lines.proofs.Streams.{before_left-append}
-use Rattle.session_replies.specs.Answers.{Answers as AnswersCommand, Present}
+use Rattle.session_replies.specs.Answers.{Answers as AnswersCommand, Present, Setting}
+use Rattle.session_replies.specs.Laws.{AnswersKeepSetting}
 use Rattle.heapan_top.specs.declared.status.Status.{Status}
 use Rattle.heapan_top.specs.declared.status.Status.TheVariants as status
 use Rattle.heapan_top.specs.Headline.{Answers, AnswersInFull, Appends, AppendsSome, BeginsReplies, ReadsFront}
 use Rattle.heapan_top.specs.Laws.{OneReply, SomeReply}
-use Rattle.heapan_top.specs.Parts.{Ends, Goes, IsAt, IsCutAnswer, IsCutShort, IsReply, IsTurn, IsUnderWay, Leads, course_of}
+use Rattle.heapan_top.specs.Parts.{Ends, Goes, IsAt, IsCutAnswer, IsCutShort, IsReply, IsStoreEnd, IsTurn, IsUnderWay, IsWriteEnd, Leads, course_of}
 use Rattle.heapan_top.specs.Replies.{Course, Replies, beginning, malformed_line, one_behind, status_with}
 
 -- ---- what is held
@@ -42,13 +43,13 @@ module _ (old new : Option (List ℕ)) where
   pub nothing_appended : new ≡ old → Appends old new []
   nothing_appended same = same ∙ sym (held-nil old)
 
-  nothing_written : new ≡ old → (text : List ℕ) → AppendsSome old new text
+  pub nothing_written : new ≡ old → (text : List ℕ) → AppendsSome old new text
   nothing_written same text = (0, nothing_appended same)
 
-  some_of_more : (text others : List ℕ) → AppendsSome old new text → AppendsSome old new (text ++ others)
+  pub some_of_more : (text others : List ℕ) → AppendsSome old new text → AppendsSome old new (text ++ others)
   some_of_more text others (count, is) = let (more, same) = front-more count text others in (more, is ∙ ap (after_held old) (sym same))
 
-  some_behind : (mid : Option (List ℕ)) (text others : List ℕ) → Appends old mid text → AppendsSome mid new others → AppendsSome old new (text ++ others)
+  pub some_behind : (mid : Option (List ℕ)) (text others : List ℕ) → Appends old mid text → AppendsSome mid new others → AppendsSome old new (text ++ others)
   some_behind mid text others is (count, also) =
       let (more, same) = front-behind text others count in
       (more, also ∙ ap (λ held. after_held held (take count others)) is ∙ held-append old text (take count others) ∙ ap (after_held old) (sym same))
@@ -56,12 +57,21 @@ module _ (old new : Option (List ℕ)) where
 -- ---- statuses
 
 -- where the call ends by a fault, a front is enough
-pub cut_answers : (course : Course) (stream : List ℕ) (old new : Option (List ℕ)) (ended : Status) → IsCutShort ended → BeginsReplies course stream old new → Answers course stream old new ended
+pub cut_answers : (course : Course) (stream : List ℕ) (old new : Option (List ℕ)) (ended : Status) → IsCutShort ended → BeginsReplies (Replies course stream) old new → Answers course stream old new ended
 cut_answers course stream old new ended (inl is) begins = subst (Answers course stream old new) (sym is) begins
-cut_answers course stream old new ended (inr is) begins = subst (Answers course stream old new) (sym is) begins
+cut_answers course stream old new ended (inr (inl is)) begins = subst (Answers course stream old new) (sym is) begins
+cut_answers course stream old new ended (inr (inr is)) begins = subst (Answers course stream old new) (sym is) begins
+
+pub write_cuts : (ended : Status) → IsWriteEnd ended → IsCutShort ended
+write_cuts ended (inl is) = inl is
+write_cuts ended (inr is) = inr (inr is)
+
+pub store_cuts : (ended : Status) → IsStoreEnd ended → IsCutShort ended
+store_cuts ended (inl is) = inr (inl is)
+store_cuts ended (inr is) = inr (inr is)
 
 -- where all was read, it ends by one of two statuses
-by_missing : (course : Course) (stream : List ℕ) (old new : Option (List ℕ)) (none : Bool) → AnswersInFull course stream old new (cond none status.Done status.Unproven) → Answers course stream old new (cond none status.Done status.Unproven)
+by_missing : (course : Course) (stream : List ℕ) (old new : Option (List ℕ)) (none : Bool) → AnswersInFull (Replies course stream) old new (cond none status.Done status.Unproven) → Answers course stream old new (cond none status.Done status.Unproven)
 by_missing course stream old new true full = full
 by_missing course stream old new false full = full
 
@@ -69,7 +79,7 @@ pub all_read : (course : Course) (stream : List ℕ) (old new : Option (List ℕ
 all_read course stream old new missing replies same = by_missing course stream old new (missing == 0) ([], replies, nothing_appended old new same)
 
 module _ (one_reply : OneReply) where
-  begins : (course : Course) (stream text : List ℕ) (planned : Status) (old new : Option (List ℕ)) → Replies course stream text planned → AppendsSome old new text → BeginsReplies course stream old new
+  begins : (course : Course) (stream text : List ℕ) (planned : Status) (old new : Option (List ℕ)) → Replies course stream text planned → AppendsSome old new text → BeginsReplies (Replies course stream) old new
   begins course stream text planned old new replies some text' planned' replies' =
       let (same, ends) = one_reply course stream text text' planned planned' replies replies' in
       subst (AppendsSome old new) same some
@@ -79,7 +89,7 @@ module _ (one_reply : OneReply) where
       Ends old new text (status.Refused number offset) ended → Answers course stream old new ended
   refused course stream text number offset old new ended replies (inl (is, all)) = subst (Answers course stream old new) (sym is) (text, replies, all)
   refused course stream text number offset old new ended replies (inr (cut, some)) =
-      cut_answers course stream old new ended cut (begins course stream text (status.Refused number offset) old new replies some)
+      cut_answers course stream old new ended (write_cuts ended cut) (begins course stream text (status.Refused number offset) old new replies some)
 
   module _ (some_reply : SomeReply) where
     -- ---- a command
@@ -91,11 +101,11 @@ module _ (one_reply : OneReply) where
       one_leads : (text : List ℕ) (after : Present) → AnswersCommand course.present asked text after → Leads course stream text (after_one after) rest
       one_leads text after answers = record { leads = λ others ended behind. Replies.more course stream rest asked text others after ended few first answers behind }
 
-      cut_begins : (old new : Option (List ℕ)) → IsCutAnswer course.present asked old new → BeginsReplies course stream old new
+      cut_begins : (old new : Option (List ℕ)) → IsCutAnswer course.present asked old new → BeginsReplies (Replies course stream) old new
       cut_begins old new (inl same) text planned replies = nothing_written old new same text
-      cut_begins old new (inr (text, after, answers, some)) text' planned replies =
+      cut_begins old new (inr (text, after, answers, (count, less, some))) text' planned replies =
           let (others, ended, behind) = some_reply (after_one after) rest in
-          begins course stream (text ++ others) ended old new ((one_leads text after answers).leads others ended behind) (some_of_more old new text others some) text' planned replies
+          begins course stream (text ++ others) ended old new ((one_leads text after answers).leads others ended behind) (some_of_more old new text others (count, some)) text' planned replies
 
       replied : (after : Present) (old new : Option (List ℕ)) (result : Option Status) → IsReply course.present asked old after new result → IsTurn course stream old (after_one after) (Some rest) new result
       replied after old new None (text, answers, all) = record { text = text; rest = rest; is_left = refl; leads = one_leads text after answers; appends = all }
@@ -111,11 +121,11 @@ module _ (one_reply : OneReply) where
 
     -- the end of what is behind is the end of all
     module _ (course after : Course) (stream rest text : List ℕ) (old mid new : Option (List ℕ)) (leads : Leads course stream text after rest) (written : Appends old mid text) where
-      full_behind : (ended : Status) → AnswersInFull after rest mid new ended → AnswersInFull course stream old new ended
+      full_behind : (ended : Status) → AnswersInFull (Replies after rest) mid new ended → AnswersInFull (Replies course stream) old new ended
       full_behind ended (others, replies, all) =
           (text ++ others, leads.leads others ended replies, all ∙ ap (λ held. after_held held others) written ∙ held-append old text others)
 
-      begins_behind : BeginsReplies after rest mid new → BeginsReplies course stream old new
+      begins_behind : BeginsReplies (Replies after rest) mid new → BeginsReplies (Replies course stream) old new
       begins_behind some =
           let (others, ended, replies) = some_reply after rest in
           begins course stream (text ++ others) ended old new (leads.leads others ended replies) (some_behind old new mid text others written (some others ended replies))
@@ -128,6 +138,7 @@ module _ (one_reply : OneReply) where
       answers_behind status.Usage answers = absurd answers
       answers_behind status.ReadFault answers = begins_behind answers
       answers_behind status.WriteFault answers = begins_behind answers
+      answers_behind status.StoreFault answers = begins_behind answers
       answers_behind status.NoMemory answers = begins_behind answers
 
     -- what goes on was under way
@@ -145,24 +156,24 @@ module _ (one_reply : OneReply) where
           appends = then_goes.appends ∙ ap (λ held. after_held held then_goes.text) one.appends ∙ held-append old one.text then_goes.text;
         }
 
-    pub under_way : (told left left' old between new : Option (List ℕ)) (mid after : Course) (result : Option Status) → result ≡ None → IsUnderWay told old mid left between →
-        IfSome left (λ rest. IsTurn mid rest between after left' new result) → IsUnderWay told old after left' new
-    under_way None left left' old between new mid after result is goes turn = tt
-    under_way (Some stream) left left' old between new mid after result is goes turn =
-        goes_behind beginning mid after stream old between new left left' goes (subst (λ (r : Option Status). IfSome left (λ rest. IsTurn mid rest between after left' new r)) is turn)
+    pub under_way : (setting : Setting) (told left left' old between new : Option (List ℕ)) (mid after : Course) (result : Option Status) → result ≡ None → IsUnderWay setting told old mid left between →
+        IfSome left (λ rest. IsTurn mid rest between after left' new result) → IsUnderWay setting told old after left' new
+    under_way setting None left left' old between new mid after result is goes turn = tt
+    under_way setting (Some stream) left left' old between new mid after result is goes turn =
+        goes_behind (beginning setting) mid after stream old between new left left' goes (subst (λ (r : Option Status). IfSome left (λ rest. IsTurn mid rest between after left' new r)) is turn)
 
-    pub all_answered : (told left left' old between new : Option (List ℕ)) (mid after : Course) (result : Option Status) (ended : Status) → result ≡ Some ended → IsUnderWay told old mid left between →
-        IfSome left (λ rest. IsTurn mid rest between after left' new result) → IfSome told (λ stream. Answers beginning stream old new ended)
-    all_answered None left left' old between new mid after result ended is goes turn = tt
-    all_answered (Some stream) left left' old between new mid after result ended is goes turn =
+    pub all_answered : (setting : Setting) (told left left' old between new : Option (List ℕ)) (mid after : Course) (result : Option Status) (ended : Status) → result ≡ Some ended → IsUnderWay setting told old mid left between →
+        IfSome left (λ rest. IsTurn mid rest between after left' new result) → IfSome told (λ stream. Answers (beginning setting) stream old new ended)
+    all_answered setting None left left' old between new mid after result ended is goes turn = tt
+    all_answered setting (Some stream) left left' old between new mid after result ended is goes turn =
         let ends : IfSome left (λ rest. Answers mid rest between new ended) = subst (λ (r : Option Status). IfSome left (λ rest. IsTurn mid rest between after left' new r)) is turn in
         let answers : Answers mid goes.rest between new ended = subst (λ (o : Option (List ℕ)). IfSome o (λ rest. Answers mid rest between new ended)) goes.is_left ends in
-        answers_behind beginning mid stream goes.rest goes.text old between new goes.leads goes.appends ended answers
+        answers_behind (beginning setting) mid stream goes.rest goes.text old between new goes.leads goes.appends ended answers
 
 -- nothing was read and nothing written
-pub begun : (told held : Option (List ℕ)) → IsUnderWay told held beginning told held
-begun None held = tt
-begun (Some stream) held = record {
+pub begun : (setting : Setting) (told held : Option (List ℕ)) → IsUnderWay setting told held (beginning setting) told held
+begun setting None held = tt
+begun setting (Some stream) held = record {
   text = [];
   rest = stream;
   is_left = refl;
@@ -170,7 +181,16 @@ begun (Some stream) held = record {
   appends = nothing_appended held held refl;
 }
 
+pub begun_at : (setting : Setting) (told held left : Option (List ℕ)) (course : Course) → course ≡ beginning setting → left ≡ told → IsUnderWay setting told held course left held
+begun_at setting told held left course is also =
+    subst (λ c. IsUnderWay setting told held c left held) (sym is) (subst (λ l. IsUnderWay setting told held (beginning setting) l held) (sym also) (begun setting told held))
+
 -- ---- one command
+
+-- what holds where nothing came, where nothing came
+pub where_none : {A : Type 0} (result : Option Status) → result ≡ None → IfNone result A → A
+where_none None is holds = holds
+where_none (Some ended) is holds = cc
 
 -- what was taken from a told stream, where the call answered so
 pub told_takes : {E : Type 0} (told left : Option (List ℕ)) (old new : Reading) (r : Result Taken E) (x : Taken) → r ≡ Ok x → IfSome told (λ stream. IfOk r (λ one. Takes old new stream left one)) →
@@ -179,18 +199,29 @@ told_takes None left old new r x is known = tt
 told_takes (Some stream) left old new (Ok y) x is known = let same : y ≡ x = cc in subst (Takes old new stream left) same known
 told_takes (Some stream) left old new (Err e) x is known = let clash : Err e ≡ Ok x = is in absurd cc
 
--- a reply is cut short by a fault of writing, or for want of memory
+-- a fault of writing, or of storing, or want of memory is no other end
+cut_is_no_other : (ended : Status) → IsCutShort ended → (ended ≡ status.ReadFault → ⊥) × (ended ≡ status.Usage → ⊥)
+cut_is_no_other ended (inl is) =
+    ((λ same. let clash : status.WriteFault ≡ status.ReadFault = sym is ∙ same in cc), (λ same. let clash : status.WriteFault ≡ status.Usage = sym is ∙ same in cc))
+cut_is_no_other ended (inr (inl is)) =
+    ((λ same. let clash : status.StoreFault ≡ status.ReadFault = sym is ∙ same in cc), (λ same. let clash : status.StoreFault ≡ status.Usage = sym is ∙ same in cc))
+cut_is_no_other ended (inr (inr is)) =
+    ((λ same. let clash : status.NoMemory ≡ status.ReadFault = sym is ∙ same in cc), (λ same. let clash : status.NoMemory ≡ status.Usage = sym is ∙ same in cc))
+
 pub reply_is_cut : (present after : Present) (asked : Command) (old new : Option (List ℕ)) (result : Option Status) → IsReply present asked old after new result →
     (result ≡ Some status.ReadFault → ⊥) × (result ≡ Some status.Usage → ⊥)
 reply_is_cut present after asked old new None reply = ((λ is. cc), (λ is. cc))
-reply_is_cut present after asked old new (Some ended) (inl is, some) = ((λ same. let clash : status.WriteFault ≡ status.ReadFault = sym is ∙ value same in cc), (λ same. let clash : status.WriteFault ≡ status.Usage = sym is ∙ value same in cc))
+reply_is_cut present after asked old new (Some ended) (cut, some) =
+    ((λ same. (cut_is_no_other ended cut).0 (value status.ReadFault same)), (λ same. (cut_is_no_other ended cut).1 (value status.Usage same)))
   where
-    value : {other : Status} → Some ended ≡ Some other → ended ≡ other
-    value same = cc
-reply_is_cut present after asked old new (Some ended) (inr is, some) = ((λ same. let clash : status.NoMemory ≡ status.ReadFault = sym is ∙ value same in cc), (λ same. let clash : status.NoMemory ≡ status.Usage = sym is ∙ value same in cc))
-  where
-    value : {other : Status} → Some ended ≡ Some other → ended ≡ other
-    value same = cc
+    value : (other : Status) → Some ended ≡ Some other → ended ≡ other
+    value other same = cc
+
+-- what a session began with stays, where it goes on
+pub reply_keeps_setting : AnswersKeepSetting → (present after : Present) (asked : Command) (old new : Option (List ℕ)) (result : Option Status) → IsReply present asked old after new result →
+    IfNone result (after.setting ≡ present.setting)
+reply_keeps_setting keeps present after asked old new None (text, answers, all) = keeps present after asked text answers
+reply_keeps_setting keeps present after asked old new (Some ended) reply = tt
 
 -- the command to end
 pub quits : (course : Course) (present : Present) (number offset : ℕ) (stream rest : List ℕ) (asked : Command) (held : Option (List ℕ)) (ended : Status) →
@@ -214,15 +245,6 @@ too_many None held course full = tt
 too_many (Some stream) held course (some, most) = ([], Replies.full course stream some most, nothing_appended held held refl)
 
 module _ (one_reply : OneReply) where
-  -- a command that is not taken
-  pub saves : (course : Course) (present : Present) (number offset : ℕ) (stream rest : List ℕ) (asked : Command) (old new : Option (List ℕ)) (ended : Status) →
-      IsAt course present number offset → IsFirst stream asked rest → asked ≡ command.Save → Ends old new (malformed_line number offset) (status.Refused number offset) ended → Answers course stream old new ended
-  saves course present number offset stream rest asked old new ended at first is written =
-      let save : IsFirst stream command.Save rest = subst (λ one. IsFirst stream one rest) is first in
-      refused one_reply course stream (malformed_line (course.taken + 1) course.offset) (course.taken + 1) course.offset old new ended (Replies.untaken course stream rest at.few save)
-      (subst (λ n. Ends old new (malformed_line n course.offset) (status.Refused n course.offset) ended) at.number_is
-      (subst (λ o. Ends old new (malformed_line number o) (status.Refused number o) ended) at.offset_is written))
-
   -- no command stands first
   pub breaks : (told old new : Option (List ℕ)) (reading : Reading) (present : Present) (number offset : ℕ) (ended : Status) → IfSome told (λ stream. IsMalformed reading stream number offset) →
       Ends old new (malformed_line number offset) (status.Refused number offset) ended → IfSome told (λ stream. Answers (course_of reading present) stream old new ended)

@@ -60,7 +60,6 @@ data Says (course : Course) (stream : List ℕ) : Head → List ℕ → Status �
   full : Says course stream TooMany [] status.Full
   malformed : Says course stream NoCommand (malformed_line (course.taken + 1) course.offset) (status.Refused (course.taken + 1) course.offset)
   quit : (rest : List ℕ) → Says course stream (First command.Quit rest) [] (status_with course.present.missing)
-  untaken : (rest : List ℕ) → Says course stream (First command.Save rest) (malformed_line (course.taken + 1) course.offset) (status.Refused (course.taken + 1) course.offset)
   more : (rest : List ℕ) (asked : Command) (text others : List ℕ) (after : Present) (ended : Status) → Answers course.present asked text after →
       Replies (one_behind course (length stream - length rest) after) rest others ended → Says course stream (First asked rest) (text ++ others) ended
 
@@ -74,7 +73,6 @@ said _ _ _ _ (Replies.end course) = record { head = Nothing; stands = refl; says
 said _ _ _ _ (Replies.quit course stream rest few first) = record { head = First command.Quit rest; stands = (few, first); says = quit rest }
 said _ _ _ _ (Replies.full course stream some most) = record { head = TooMany; stands = (some, most); says = full }
 said _ _ _ _ (Replies.malformed course stream some few none) = record { head = NoCommand; stands = (some, few, none); says = malformed }
-said _ _ _ _ (Replies.untaken course stream rest few first) = record { head = First command.Save rest; stands = (few, first); says = untaken rest }
 said _ _ _ _ (Replies.more course stream rest asked text others after ended few first answers behind) =
     record { head = First asked rest; stands = (few, first); says = more rest asked text others after ended answers behind }
 
@@ -86,7 +84,6 @@ module _ (one_first : OneFirst) (one_answer : OneAnswer) where
   says_once bytes again course stream _ within stands _ _ _ _ full full = (refl, refl)
   says_once bytes again course stream _ within stands _ _ _ _ malformed malformed = (refl, refl)
   says_once bytes again course stream _ within stands _ _ _ _ (quit rest) (quit _) = (refl, refl)
-  says_once bytes again course stream _ within stands _ _ _ _ (untaken rest) (untaken _) = (refl, refl)
   says_once bytes again course stream _ within stands _ _ _ _ (more rest asked text others after ended answers behind) (more _ _ text' others' after' ended' answers' behind') =
       let (texts, afters) = one_answer course.present after after' asked text text' answers answers' in
       let shorter = rest_shorter stream rest asked stands.1 in
@@ -94,9 +91,7 @@ module _ (one_first : OneFirst) (one_answer : OneAnswer) where
       let (same, ends) = again (one_behind course (length stream - length rest) after) rest others others' ended ended' (omega arith) behind behind'' in
       (ap₂ (λ xs ys. xs ++ ys) texts same, ends)
   says_once bytes again course stream _ within stands _ _ _ _ (quit rest) (more _ _ text' others' after' _ answers' behind') = elim answers' [ ]
-  says_once bytes again course stream _ within stands _ _ _ _ (untaken rest) (more _ _ text' others' after' _ answers' behind') = elim answers' [ ]
   says_once bytes again course stream _ within stands _ _ _ _ (more rest _ text others after _ answers behind) (quit _) = elim answers [ ]
-  says_once bytes again course stream _ within stands _ _ _ _ (more rest _ text others after _ answers behind) (untaken _) = elim answers [ ]
 
   once_within : (bytes : ℕ) (course : Course) (stream text text' : List ℕ) (one other : Status) → length stream < bytes → Replies course stream text one → Replies course stream text' other → (text ≡ text') × (one ≡ other)
   once_within zero course stream text text' one other within replies replies' = absurd (omega arith)
@@ -122,7 +117,7 @@ module _ (some_answer : SomeAnswer) where
 
   taken_some : (course : Course) (stream rest : List ℕ) (asked : Command) → course.taken < MOST_COMMANDS → IsFirst stream asked rest → ((after : Course) → HasReply after rest) → HasReply course stream
   taken_some course stream rest command.Quit few first again = (_, _, Replies.quit course stream rest few first)
-  taken_some course stream rest command.Save few first again = (_, _, Replies.untaken course stream rest few first)
+  taken_some course stream rest command.Save few first again = answered_some course stream rest command.Save few first tt again
   taken_some course stream rest command.Blank few first again = answered_some course stream rest command.Blank few first tt again
   taken_some course stream rest (command.Put name bytes) few first again = answered_some course stream rest (command.Put name bytes) few first tt again
   taken_some course stream rest (command.PutTooLong name size) few first again = answered_some course stream rest (command.PutTooLong name size) few first tt again

@@ -6,11 +6,10 @@ use Rattle.io_ports.specs.Bytes.{after_held}
 use Rattle.summary_book.specs.declared.aims.Aim.{Aim}
 use Rattle.shape_data.specs.declared.program.Program.{Program}
 use Rattle.session_lines.specs.declared.command.Command.{Command}
-use Rattle.session_lines.specs.declared.command.Command.TheVariants as command
 use Rattle.session_lines.specs.Laws.{OneFirst}
 use Rattle.session_lines.specs.Lines.{IsFirst}
 use Rattle.session_lines.specs.Reading.{IsMalformed, IsTaken, Reading}
-use Rattle.session_replies.specs.Answers.{Answers, Present}
+use Rattle.session_replies.specs.Answers.{Answers, Present, Setting}
 use Rattle.session_replies.specs.Laws.{OneAnswer}
 use Rattle.session_replies.specs.Work.{IsWorked, Tells, count_reached}
 use Rattle.heapan_top.specs.declared.status.Status.{Status}
@@ -27,7 +26,7 @@ not_joined [] ys some is = some is
 not_joined (x ∷ xs) ys some is = cc
 
 -- what tells of components has a byte
-not_empty : (course : Course) (stream text : List ℕ) (count : ℕ) → Prints course stream text count → text ≢ []
+pub not_empty : (course : Course) (stream text : List ℕ) (count : ℕ) → Prints course stream text count → text ≢ []
 not_empty _ _ _ _ (Prints.here course stream rest asked front back after program aim few first answers some tells) = some
 not_empty _ _ _ _ (Prints.behind course stream rest asked text more after count few first answers prints) =
     not_joined text more (not_empty (one_behind course (length stream - length rest) after) rest more count prints)
@@ -43,9 +42,9 @@ pub nothing_counted : (course : Course) (stream : List ℕ) (held : Option (List
 nothing_counted course stream held seen = ([], sym (held-nil held), λ solves enough. none_counted course stream solves)
 
 -- so it is from the beginning
-pub none_appended : (told held : Option (List ℕ)) (solves : ℕ) → IfSome told (λ stream. AppendsCounted stream held held solves)
-none_appended None held solves = tt
-none_appended (Some stream) held solves = ([], sym (held-nil held), none_counted beginning stream solves)
+pub none_appended : (setting : Setting) (told held : Option (List ℕ)) (solves : ℕ) → IfSome told (λ stream. AppendsCounted setting stream held held solves)
+none_appended setting None held solves = tt
+none_appended setting (Some stream) held solves = ([], sym (held-nil held), none_counted (beginning setting) stream solves)
 
 -- of a stream that is told, or not
 pub nothing_told : (told held : Option (List ℕ)) (course : Course) (seen : ℕ) → IfSome told (λ stream. EndsCounted course stream held held seen)
@@ -81,17 +80,6 @@ breaks_counted (Some stream) old new reading present seen number offset line pla
     line_counted (course_of reading present) stream line old new seen planned ended (λ asked rest text before after first answers. malformed.none asked rest first) ends
 
 module _ (one_first : OneFirst) where
-  pub saves_counted : (course : Course) (stream rest line : List ℕ) (asked : Command) (old new : Option (List ℕ)) (seen : ℕ) (planned ended : Status) → IsFirst stream asked rest → asked ≡ command.Save →
-      Ends old new line planned ended → EndsCounted course stream old new seen
-  saves_counted course stream rest line asked old new seen planned ended first is ends =
-      line_counted course stream line old new seen planned ended
-      (λ other later text before after first' answers.
-      let same = one_first stream later rest other asked first' first in
-      never text before after (subst (λ one. Answers before one text after) (same.0 ∙ is) answers)) ends
-    where
-      never : (text : List ℕ) (before after : Present) → Answers before command.Save text after → ⊥
-      never text before after answers = elim answers [ ]
-
   module _ (one_answer : OneAnswer) (course : Course) (stream rest : List ℕ) (asked : Command) (first : IsFirst stream asked rest) (text : List ℕ) (after : Present)
       (answers : Answers course.present asked text after) (seen : ℕ) (worked : IsWorked course.present asked seen) (solves : ℕ) (enough : seen ≤ solves) where
     -- the first command and its answer are these
@@ -188,15 +176,19 @@ takes_work (Some stream) left old new reading later present after asked number o
 -- ---- one after another
 
 -- nothing was done
-pub none_done : (told held : Option (List ℕ)) (seen : ℕ) → IsDone told held beginning told held seen
-none_done None held seen = tt
-none_done (Some stream) held seen = record {
+pub none_done : (setting : Setting) (told held : Option (List ℕ)) (seen : ℕ) → IsDone setting told held (beginning setting) told held seen
+none_done setting None held seen = tt
+none_done setting (Some stream) held seen = record {
   text = [];
   rest = stream;
   is_left = refl;
   appends = sym (held-nil held);
   carries = λ written solves enough counted. counted;
 }
+
+pub none_done_at : (setting : Setting) (told held left : Option (List ℕ)) (course : Course) (seen : ℕ) → course ≡ beginning setting → left ≡ told → IsDone setting told held course left held seen
+none_done_at setting told held left course seen is also =
+    subst (λ c. IsDone setting told held c left held seen) (sym is) (subst (λ l. IsDone setting told held (beginning setting) l held seen) (sym also) (none_done setting told held seen))
 
 module _ (before seen : ℕ) (more : before ≤ seen) where
   fewer : (solves : ℕ) → seen ≤ solves → before ≤ solves
@@ -216,16 +208,16 @@ module _ (before seen : ℕ) (more : before ≤ seen) where
             (one.carries (other.text ++ written) solves (fewer solves enough) (other.carries written solves enough counted));
       }
 
-  pub done_more : (told left left' old between new : Option (List ℕ)) (mid after : Course) (result : Option Status) → result ≡ None → IsDone told old mid left between before →
-      IfSome left (λ rest. IsWork mid rest between after left' new seen result) → IsDone told old after left' new seen
-  done_more None left left' old between new mid after result is done work = tt
-  done_more (Some stream) left left' old between new mid after result is done work =
-      work_behind beginning mid after stream old between new left left' done (subst (λ (r : Option Status). IfSome left (λ rest. IsWork mid rest between after left' new seen r)) is work)
+  pub done_more : (setting : Setting) (told left left' old between new : Option (List ℕ)) (mid after : Course) (result : Option Status) → result ≡ None → IsDone setting told old mid left between before →
+      IfSome left (λ rest. IsWork mid rest between after left' new seen result) → IsDone setting told old after left' new seen
+  done_more setting None left left' old between new mid after result is done work = tt
+  done_more setting (Some stream) left left' old between new mid after result is done work =
+      work_behind (beginning setting) mid after stream old between new left left' done (subst (λ (r : Option Status). IfSome left (λ rest. IsWork mid rest between after left' new seen r)) is work)
 
-  pub all_done : (told left left' old between new : Option (List ℕ)) (mid after : Course) (result : Option Status) (ended : Status) → result ≡ Some ended → IsDone told old mid left between before →
-      IfSome left (λ rest. IsWork mid rest between after left' new seen result) → IfSome told (λ stream. AppendsCounted stream old new seen)
-  all_done None left left' old between new mid after result ended is done work = tt
-  all_done (Some stream) left left' old between new mid after result ended is done work =
+  pub all_done : (setting : Setting) (told left left' old between new : Option (List ℕ)) (mid after : Course) (result : Option Status) (ended : Status) → result ≡ Some ended → IsDone setting told old mid left between before →
+      IfSome left (λ rest. IsWork mid rest between after left' new seen result) → IfSome told (λ stream. AppendsCounted setting stream old new seen)
+  all_done setting None left left' old between new mid after result ended is done work = tt
+  all_done setting (Some stream) left left' old between new mid after result ended is done work =
       let ends : IfSome left (λ rest. EndsCounted mid rest between new seen) = subst (λ (r : Option Status). IfSome left (λ rest. IsWork mid rest between after left' new seen r)) is work in
       let own : EndsCounted mid done.rest between new seen = subst (λ (o : Option (List ℕ)). IfSome o (λ rest. EndsCounted mid rest between new seen)) done.is_left ends in (
         done.text ++ own.0,
@@ -234,15 +226,15 @@ module _ (before seen : ℕ) (more : before ≤ seen) where
       )
 
 -- more publishes are enough, too
-pub counted_more : (told old new : Option (List ℕ)) (seen solves : ℕ) → seen ≤ solves → IfSome told (λ stream. AppendsCounted stream old new seen) → IfSome told (λ stream. AppendsCounted stream old new solves)
-counted_more None old new seen solves enough counted = tt
-counted_more (Some stream) old new seen solves enough (written, all, counted) =
+pub counted_more : (setting : Setting) (told old new : Option (List ℕ)) (seen solves : ℕ) → seen ≤ solves → IfSome told (λ stream. AppendsCounted setting stream old new seen) → IfSome told (λ stream. AppendsCounted setting stream old new solves)
+counted_more setting None old new seen solves enough counted = tt
+counted_more setting (Some stream) old new seen solves enough (written, all, counted) =
     (written, all, λ text count prints begins. let few = counted text count prints begins in omega (arith, few, enough))
 
 -- the same of equal things
-pub counted_there : {S K : Type 0} (left : S → Option (List ℕ)) (held : K → Option (List ℕ)) (s s' : S) (k k' l l' : K) (seen solves : ℕ) → s ≡ s' → k ≡ k' → l ≡ l' → seen ≤ solves →
-    IfSome (left s) (λ stream. AppendsCounted stream (held k) (held l) seen) → IfSome (left s') (λ stream. AppendsCounted stream (held k') (held l') solves)
-counted_there left held s s' k k' l l' seen solves source old new enough counted =
-    subst (λ a. IfSome (left a) (λ stream. AppendsCounted stream (held k') (held l') solves)) source
-    (subst (λ a. IfSome (left s) (λ stream. AppendsCounted stream (held a) (held l') solves)) old
-    (subst (λ a. IfSome (left s) (λ stream. AppendsCounted stream (held k) (held a) solves)) new (counted_more (left s) (held k) (held l) seen solves enough counted)))
+pub counted_there : {S K : Type 0} (left : S → Option (List ℕ)) (held : K → Option (List ℕ)) (setting : Setting) (s s' : S) (k k' l l' : K) (seen solves : ℕ) → s ≡ s' → k ≡ k' → l ≡ l' → seen ≤ solves →
+    IfSome (left s) (λ stream. AppendsCounted setting stream (held k) (held l) seen) → IfSome (left s') (λ stream. AppendsCounted setting stream (held k') (held l') solves)
+counted_there left held setting s s' k k' l l' seen solves source old new enough counted =
+    subst (λ a. IfSome (left a) (λ stream. AppendsCounted setting stream (held k') (held l') solves)) source
+    (subst (λ a. IfSome (left s) (λ stream. AppendsCounted setting stream (held a) (held l') solves)) old
+    (subst (λ a. IfSome (left s) (λ stream. AppendsCounted setting stream (held k) (held a) solves)) new (counted_more setting (left s) (held k) (held l) seen solves enough counted)))

@@ -4,4 +4,5 @@ pub mod Headline
 pub mod Laws
 pub mod Parts
 pub mod Replies
+pub mod Stores
 pub mod Work

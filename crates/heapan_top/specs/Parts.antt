@@ -1,20 +1,27 @@
 -- What the parts of the program promise one another. No contract of a call that other crates see cites it.
-use Rattle.std.specs.Prelude.{◌≡◌, ◌≢◌, ℕ, ◌+◌, ◌<◌, ◌≤◌, Option, Some, None, Result, Ok, Err, IfSome, List, [], ◌++◌, ◌⊎◌}
+use Rattle.std.specs.Prelude.{◌≡◌, ◌≢◌, ℕ, ◌+◌, ◌<◌, ◌≤◌, Option, Some, None, Result, Ok, Err, IfSome, List, [], ◌++◌, ◌⊎◌, is_some}
+use Rattle.std.specs.Borrow.{Bor}
 use Rattle.std.specs.Global.{Vec}
+use Rattle.std.specs.Option.{option_map}
+use Rattle.claim_core.specs.Views.{Solution}
+use Rattle.io_ports.specs.Bytes.{AppendsFront}
 use Rattle.io_ports.specs.Counts.{Rose}
+use Rattle.io_ports.specs.Places.{now_has}
 use Rattle.reporters.specs.declared.reporter.Entry.{Entry}
 use Rattle.reporters.specs.Feeding.{steady_count}
 use Rattle.reporters.specs.Known.{Known}
 use Rattle.session_lines.specs.declared.command.Command.{Command}
 use Rattle.session_lines.specs.Reading.{Reading}
-use Rattle.session_replies.specs.Answers.{Answers as AnswersCommand, Present}
+use Rattle.session_replies.specs.Answers.{Answers as AnswersCommand, Present, Setting}
 use Rattle.session_replies.specs.Entries.{Feeds}
+use Rattle.session_replies.specs.Saves.{Saves}
 use Rattle.session_replies.specs.Work.{IsWorked}
 use Rattle.heapan_top.specs.declared.status.Status.{Status}
 use Rattle.heapan_top.specs.declared.status.Status.TheVariants as status
-use Rattle.heapan_top.specs.Fed.{FeedsSession, FeedsTo, IsFed, WereFed}
-use Rattle.heapan_top.specs.Headline.{Answers, AnswersSession, Appends, AppendsSome, ReadsFront}
+use Rattle.heapan_top.specs.Fed.{FeedsTo, IsFed, WereFed}
+use Rattle.heapan_top.specs.Headline.{Answers, Appends, AppendsSome, ReadsFront}
 use Rattle.heapan_top.specs.Replies.{Course, Replies, beginning}
+use Rattle.heapan_top.specs.Stores.{KeepsOthers, given_last, path_told}
 use Rattle.heapan_top.specs.Work.{AppendsCounted, AreCounted}
 
 -- how far a session came, by its reader and by what is present
@@ -28,17 +35,21 @@ pub record IsAt (course : Course) (present : Present) (number offset : ℕ) : Ty
   pub offset_is : offset ≡ course.offset
   pub few : course.taken < 65536
 
--- a fault of writing, or want of memory
+-- a fault of writing, or of storing, or want of memory
 abbrev pub IsCutShort : Status → Type 0
-IsCutShort ended = (ended ≡ status.WriteFault) ⊎ (ended ≡ status.NoMemory)
+IsCutShort ended = (ended ≡ status.WriteFault) ⊎ ((ended ≡ status.StoreFault) ⊎ (ended ≡ status.NoMemory))
+
+-- a fault of writing, or want of memory
+abbrev pub IsWriteEnd : Status → Type 0
+IsWriteEnd ended = (ended ≡ status.WriteFault) ⊎ (ended ≡ status.NoMemory)
 
 -- the bytes were written and the call ends as it was to end, or a front of them and it ends in a fault
 abbrev pub Ends : Option (List ℕ) → Option (List ℕ) → List ℕ → Status → Status → Type 0
-Ends old new text planned ended = ((ended ≡ planned) × Appends old new text) ⊎ (IsCutShort ended × AppendsSome old new text)
+Ends old new text planned ended = ((ended ≡ planned) × Appends old new text) ⊎ (IsWriteEnd ended × AppendsSome old new text)
 
--- nothing was written, or a front of an answer to the command
+-- nothing was written, or a front of an answer to the command, and not all of it
 abbrev pub IsCutAnswer : Present → Command → Option (List ℕ) → Option (List ℕ) → Type 0
-IsCutAnswer present asked old new = (new ≡ old) ⊎ ((text : List ℕ) × (after : Present) × AnswersCommand present asked text after × AppendsSome old new text)
+IsCutAnswer present asked old new = (new ≡ old) ⊎ ((text : List ℕ) × (after : Present) × AnswersCommand present asked text after × AppendsFront old new text)
 
 -- a command was answered, or its answer was cut short
 abbrev pub IsReply : Present → Command → Option (List ℕ) → Present → Option (List ℕ) → Option Status → Type 0
@@ -62,8 +73,8 @@ IsTurn course stream old after left new None = Goes course stream old after left
 IsTurn course stream old after left new (Some ended) = Answers course stream old new ended
 
 -- the session is under way from its beginning
-abbrev pub IsUnderWay : Option (List ℕ) → Option (List ℕ) → Course → Option (List ℕ) → Option (List ℕ) → Type 0
-IsUnderWay told old course left new = IfSome told (λ stream. Goes beginning stream old course left new)
+abbrev pub IsUnderWay : Setting → Option (List ℕ) → Option (List ℕ) → Course → Option (List ℕ) → Option (List ℕ) → Type 0
+IsUnderWay setting told old course left new = IfSome told (λ stream. Goes (beginning setting) stream old course left new)
 
 -- one more command was taken
 abbrev pub IsOneMore : ℕ → ℕ → Type 0
@@ -94,8 +105,8 @@ IsWork course stream old after left new seen None = GoesOn course stream old aft
 IsWork course stream old after left new seen (Some ended) = EndsCounted course stream old new seen
 
 -- the work was done from the beginning
-abbrev pub IsDone : Option (List ℕ) → Option (List ℕ) → Course → Option (List ℕ) → Option (List ℕ) → ℕ → Type 0
-IsDone told old course left new seen = IfSome told (λ stream. GoesOn beginning stream old course left new seen)
+abbrev pub IsDone : Setting → Option (List ℕ) → Option (List ℕ) → Course → Option (List ℕ) → Option (List ℕ) → ℕ → Type 0
+IsDone setting told old course left new seen = IfSome told (λ stream. GoesOn (beginning setting) stream old course left new seen)
 
 -- FEEDING
 
@@ -104,38 +115,71 @@ abbrev pub ended_of : Result (Vec Entry) Status → Option Status
 ended_of (Ok entries) = None
 ended_of (Err ended) = Some ended
 
--- behind the reply to a command its entries were fed; behind a reply that was cut short, none
-abbrev pub IsReplyFed : Present → Command → Type 0 → List Known → List Known → Option Status → Type 0
-IsReplyFed present asked as_they_came olds news None = (fed : List Entry) × Feeds present asked fed × WereFed as_they_came fed olds news
-IsReplyFed present asked as_they_came olds news (Some ended) = WereFed as_they_came [] olds news
+-- the bytes of the path that is named, if one is
+abbrev pub path_bytes : Option (Bor (List ℕ)) → Option (List ℕ)
+path_bytes path = option_map (λ (one : Bor (List ℕ)). one.now) path
+
+-- what a session begins with that has these loaded entries, and the path of a store or not
+abbrev pub setting_of : List Solution → Option (Bor (List ℕ)) → Setting
+setting_of loaded path = record { loaded = loaded; saves = is_some path }
+
+-- the store has what it had, or the bytes that it was to have
+abbrev pub IsStoreCut : Option (List ℕ) → Option (Option (List ℕ)) → Option (Option (List ℕ)) → Type 0
+IsStoreCut saved before after = (after ≡ before) ⊎ ((bytes : List ℕ) × (saved ≡ Some bytes) × (after ≡ now_has bytes before))
+
+-- the store has what the reply to a command gives it
+abbrev pub IsReplyStored : Present → Command → Option (Option (List ℕ)) → Option (Option (List ℕ)) → Type 0
+IsReplyStored present asked before after = (saved : Option (List ℕ)) × Saves present asked saved × (after ≡ given_last saved before)
+
+-- what a reply saves was stored, or, where the reply was cut short, was or was not
+abbrev pub IsReplySaved : Present → Command → Option (Option (List ℕ)) → Option (Option (List ℕ)) → Option Status → Type 0
+IsReplySaved present asked before after None = IsReplyStored present asked before after
+IsReplySaved present asked before after (Some ended) = (after ≡ before) ⊎ ((bytes : List ℕ) × Saves present asked (Some bytes) × (after ≡ now_has bytes before))
+
+-- behind the reply to a command its entries were fed, and what it saves was stored before; behind a reply that was cut short none were fed, and what it saves was stored or not
+abbrev pub IsReplyFed : Present → Command → Option (Option (List ℕ)) → Option (Option (List ℕ)) → Type 0 → List Known → List Known → Option Status → Type 0
+IsReplyFed present asked before after as_they_came olds news None =
+    ((fed : List Entry) × Feeds present asked fed × WereFed as_they_came fed olds news) × IsReplySaved present asked before after None
+IsReplyFed present asked before after as_they_came olds news (Some ended) = WereFed as_they_came [] olds news × IsReplySaved present asked before after (Some ended)
 
 -- from one course over a stream a session came, with this text written and these entries fed, to another course over what is left
-pub record FeedsOn (course : Course) (stream : List ℕ) (old : Option (List ℕ)) (after : Course) (left new : Option (List ℕ)) (as_they_came : Type 0) (olds news : List Known) : Type 0 where
+pub record FeedsOn (course : Course) (stream : List ℕ) (old : Option (List ℕ)) (later : Course) (left new : Option (List ℕ)) (before after : Option (Option (List ℕ)))
+    (as_they_came : Type 0) (olds news : List Known) : Type 0 where
   pub text : List ℕ
   pub fed : List Entry
+  pub saved : Option (List ℕ)
   pub rest : List ℕ
   pub is_left : left ≡ Some rest
-  pub leads : FeedsTo course stream text fed after rest
+  pub leads : FeedsTo course stream text fed saved later rest
   pub appends : Appends old new text
   pub were : WereFed as_they_came fed olds news
+  pub kept : after ≡ given_last saved before
 
-abbrev pub IsTurnFed : Course → List ℕ → Option (List ℕ) → Course → Option (List ℕ) → Option (List ℕ) → Type 0 → List Known → List Known → Option Status → Type 0
-IsTurnFed course stream old after left new as_they_came olds news None = FeedsOn course stream old after left new as_they_came olds news
-IsTurnFed course stream old after left new as_they_came olds news (Some ended) = IsFed course stream old new as_they_came olds news ended
+abbrev pub IsTurnFed : Course → List ℕ → Option (List ℕ) → Course → Option (List ℕ) → Option (List ℕ) → Option (Option (List ℕ)) → Option (Option (List ℕ)) → Type 0 → List Known → List Known → Option Status → Type 0
+IsTurnFed course stream old later left new before after as_they_came olds news None = FeedsOn course stream old later left new before after as_they_came olds news
+IsTurnFed course stream old later left new before after as_they_came olds news (Some ended) = IsFed course stream old new before after as_they_came olds news ended
 
 -- reporters were fed from the beginning
-abbrev pub IsFedOn : Option (List ℕ) → Option (List ℕ) → Course → Option (List ℕ) → Option (List ℕ) → Type 0 → List Known → List Known → Type 0
-IsFedOn told old course left new as_they_came olds news = IfSome told (λ stream. FeedsOn beginning stream old course left new as_they_came olds news)
+abbrev pub IsFedOn : Setting → Option (List ℕ) → Option (List ℕ) → Course → Option (List ℕ) → Option (List ℕ) → Option (Option (List ℕ)) → Option (Option (List ℕ)) → Type 0 → List Known → List Known → Type 0
+IsFedOn setting told old course left new before after as_they_came olds news =
+    IfSome told (λ stream. FeedsOn (beginning setting) stream old course left new before after as_they_came olds news)
+
+-- a store that could not be read, or want of memory
+abbrev pub IsStoreEnd : Status → Type 0
+IsStoreEnd ended = (ended ≡ status.StoreFault) ⊎ (ended ≡ status.NoMemory)
 
 -- LEADING
 
 -- what a leader does at a desk: the stream that its source has is answered, and it has seen so many publishes
-pub record IsLed (told left old new : Option (List ℕ)) (read_faults read_faults' write_faults write_faults' : ℕ) (as_they_came : Type 0) (olds news : List Known) (ended : Status) (seen : ℕ) : Type 0 where
-  pub answers : IfSome told (λ stream. AnswersSession stream old new ended)
-  pub work : IfSome told (λ stream. AppendsCounted stream old new seen)
-  pub fed : IfSome told (λ stream. FeedsSession stream old new as_they_came olds news ended)
+pub record IsLed (setting : Setting) (path : Option (List ℕ)) (told left old new : Option (List ℕ)) (kept kept' : List ℕ → Option (Option (List ℕ)))
+    (read_faults read_faults' write_faults write_faults' store_faults store_faults' : ℕ) (as_they_came : Type 0) (olds news : List Known) (ended : Status) (seen : ℕ) : Type 0 where
+  pub answers : IfSome told (λ stream. Answers (beginning setting) stream old new ended)
+  pub work : IfSome told (λ stream. AppendsCounted setting stream old new seen)
+  pub fed : IfSome told (λ stream. IsFed (beginning setting) stream old new (path_told kept path) (path_told kept' path) as_they_came olds news ended)
   pub steady : steady_count news ≡ steady_count olds
   pub reads : ReadsFront told left
+  pub others : KeepsOthers path kept kept'
   pub usage : ended ≢ status.Usage
   pub read_fault : ended ≡ status.ReadFault → Rose read_faults read_faults'
   pub write_fault : ended ≡ status.WriteFault → Rose write_faults write_faults'
+  pub store_fault : ended ≡ status.StoreFault → Rose store_faults store_faults'

@@ -6,7 +6,7 @@ use Rattle.session_lines.specs.declared.command.Command.{Command}
 use Rattle.session_lines.specs.declared.command.Command.TheVariants as command
 use Rattle.session_lines.specs.Lines.{IsFirst}
 use Rattle.session_lines.specs.Sessions.{BeginsWithNone, MOST_COMMANDS}
-use Rattle.session_replies.specs.Answers.{Answers, Present, nothing_present}
+use Rattle.session_replies.specs.Answers.{Answers, Present, Setting, nothing_present}
 use Rattle.heapan_top.specs.declared.status.Status.{Status}
 use Rattle.heapan_top.specs.declared.status.Status.TheVariants as status
 
@@ -17,8 +17,8 @@ pub record Course : Type 0 where
   pub present : Present
 
 -- nothing was taken
-abbrev pub beginning : Course
-beginning = record { taken = 0; offset = 0; present = nothing_present }
+abbrev pub beginning : Setting → Course
+beginning setting = record { taken = 0; offset = 0; present = nothing_present setting }
 
 -- one command of so many bytes was taken, and this is present then
 abbrev pub one_behind : Course → ℕ → Present → Course
@@ -43,9 +43,6 @@ pub data Replies : Course → List ℕ → List ℕ → Status → Type 0 where
   full : (course : Course) (stream : List ℕ) → stream ≢ [] → MOST_COMMANDS ≤ course.taken → Replies course stream [] status.Full
   -- no command stands first
   malformed : (course : Course) (stream : List ℕ) → stream ≢ [] → course.taken < MOST_COMMANDS → BeginsWithNone stream →
-      Replies course stream (malformed_line (course.taken + 1) course.offset) (status.Refused (course.taken + 1) course.offset)
-  -- a command that is not taken: there is no store to save to
-  untaken : (course : Course) (stream rest : List ℕ) → course.taken < MOST_COMMANDS → IsFirst stream command.Save rest →
       Replies course stream (malformed_line (course.taken + 1) course.offset) (status.Refused (course.taken + 1) course.offset)
   -- a command is answered, and then what stands behind it
   more : (course : Course) (stream rest : List ℕ) (asked : Command) (text others : List ℕ) (after : Present) (ended : Status) →

@@ -10,10 +10,11 @@ use Rattle.summary_book.specs.declared.aims.Aim.{Aim}
 use Rattle.session_lines.specs.declared.command.Command.{Command}
 use Rattle.session_lines.specs.Lines.{IsFirst}
 use Rattle.session_lines.specs.Sessions.{MOST_COMMANDS}
-use Rattle.session_replies.specs.Answers.{Answers, Present}
+use Rattle.session_replies.specs.Answers.{Answers, Present, Setting}
 use Rattle.session_replies.specs.Work.{Tells, count_reached}
 use Rattle.heapan_top.specs.Headline.{Appends}
 use Rattle.heapan_top.specs.Replies.{Course, beginning, one_behind}
+use Rattle.heapan_top.specs.Stores.{Opens, Store}
 
 -- on this course over the stream the replies begin with this text, which ends within or behind a reply that tells of so many components
 pub data Prints : Course → List ℕ → List ℕ → ℕ → Type 0 where
@@ -34,8 +35,17 @@ abbrev pub AreCounted : Course → List ℕ → List ℕ → ℕ → Type 0
 AreCounted course stream written solves = (text : List ℕ) (count : ℕ) → Prints course stream text count → BeginsWith written text → count ≤ solves
 
 -- so it is of what was appended in answer to the stream
-abbrev pub AppendsCounted : List ℕ → Option (List ℕ) → Option (List ℕ) → ℕ → Type 0
-AppendsCounted stream old new solves = (written : List ℕ) × Appends old new written × AreCounted beginning stream written solves
+abbrev pub AppendsCounted : Setting → List ℕ → Option (List ℕ) → Option (List ℕ) → ℕ → Type 0
+AppendsCounted setting stream old new solves = (written : List ℕ) × Appends old new written × AreCounted (beginning setting) stream written solves
+
+-- the same of a whole session, with such a store
+pub record CountsSession (store : Store) (stream : List ℕ) (old new : Option (List ℕ)) (solves : ℕ) : Type 0 where
+  pub setting : Setting
+  pub front : List ℕ
+  pub written : List ℕ
+  pub opens : Opens store setting front
+  pub appends : Appends old new written
+  pub counted : (text : List ℕ) (count : ℕ) → Prints (beginning setting) stream text count → BeginsWith written (front ++ text) → count ≤ solves
 
 -- no component was claimed twice within a revision, unless the first claim was given back in between
 abbrev pub IsClaimedOnce : List Event → Type 0

@@ -1,8 +1,10 @@
-//! The one call that does everything: it reads commands, analyses the files that they put, writes the replies, and feeds reporters.
+//! The one call that does everything: it reads commands, analyses the files that they put, writes the replies, feeds reporters, and saves what
+//! is known where it is asked to.
 #![tactic(auto)]
 
 pub mod laws;
 mod leading;
+mod opening;
 mod outcome;
 mod session;
 mod status;
@@ -10,6 +12,8 @@ mod status;
 mod tests;
 mod turns;
 
+pub use loaded_answers::{LoadedAnswers, agrees};
 pub use outcome::Outcome;
+pub use plain_answers::plain;
 pub use session::run;
 pub use status::Status;

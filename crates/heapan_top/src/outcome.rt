@@ -8,7 +8,7 @@ use reporters::Reporter;
 pub struct Outcome {
     /// How it ended.
     pub status: Status,
-    /// Each claim of a component and its end, in order.
+    /// Each program that was met, each claim of a component and its end, in order.
     pub log: Vec<Event>,
     /// How many answers were published.
     pub solves: u64,

@@ -2,9 +2,9 @@
 /// How it ended, with the number that the process ends with.
 #[derive(Clone, Copy, PartialEq, Eq, Debug)]
 pub enum Status {
-    /// All was read and answered, and no procedure that was reported on is without a spec.
+    /// All was answered up to the end of what was read, or to the command that ends, and no procedure of the last report is without a spec.
     Done,
-    /// All was read and answered, and some procedure that was reported on is without a spec.
+    /// All was answered up to there, and some procedure of the last report is without a spec.
     Unproven,
     /// A command is malformed: its number, from 1, and the offset of its first byte in the stream.
     Refused { command: u32, offset: u64 },
@@ -16,6 +16,8 @@ pub enum Status {
     ReadFault,
     /// A write failed.
     WriteFault,
+    /// The store could not be read, or could not be replaced.
+    StoreFault,
     /// No memory was left.
     NoMemory,
 }
@@ -34,6 +36,7 @@ impl Status {
             Status::Refused { .. } => 2,
             Status::ReadFault => 3,
             Status::WriteFault => 4,
+            Status::StoreFault => 5,
             Status::Usage => 6,
             Status::Full => 7,
             Status::NoMemory => 8,

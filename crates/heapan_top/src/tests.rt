@@ -3,6 +3,7 @@
 mod feeding;
 mod sessions;
 mod stack;
+mod stores;
 mod tables;
 mod work;
 mod worked;
@@ -11,8 +12,8 @@ mod workers;
 use crate::{Outcome, Status, run};
 use claim_core::Event;
 use io_ports::{
-    InPieces, MemorySink, MemorySource, OpenGate, ReadEnd, Sink, Source, SteadySink, SteadySource,
-    read_up_to,
+    Held, InPieces, KeepFault, Keeper, MemorySink, MemorySource, OpenGate, ReadEnd, Sink, Source,
+    SteadySink, SteadySource, read_up_to,
 };
 use sessions::{MALFORMED, SESSIONS};
 use stack::STACK;
@@ -34,7 +35,7 @@ const IDENTITY_REPLY: &[u8] = b"ok\nid a.c 1\n pre emp\n post emp ret=a\ntotal 1
 const EMPTY: &[u8] = b"ok\ntotal 0 0 0\n";
 
 /// What other words are answered.
-const USAGE: &[u8] = b"usage: heapan session [--workers N]\n";
+const USAGE: &[u8] = b"usage: heapan session [--workers N] [--store PATH]\n";
 
 /// A refusal of the first command, at the first byte.
 const FIRST_REFUSED: Status = Status::Refused {
@@ -47,7 +48,27 @@ fn steady(alloc: Global, bytes: &[u8]) -> Result<SteadySource, AllocError> {
     SteadySource::new(alloc, Vec::from_slice(alloc, bytes)?)
 }
 
-/// Runs the top call with these words over any source and sink.
+/// A keeper for sessions that ask for none: it has no path, and takes nothing.
+#[derive(Drop)]
+struct Nowhere;
+
+impl Keeper for Nowhere {
+    ghost use Rattle.std.specs.declared.option.Option.TheVariants.{None};
+
+    ghost kept = { λ _ _. None };
+
+    ghost faults = { λ _. 0 };
+
+    fn read_all(&mut self, _alloc: Global, _path: &str) -> Result<Held, KeepFault> {
+        Err(KeepFault::OutOfMemory)
+    }
+
+    fn replace(&mut self, _alloc: Global, _path: &str, _bytes: &[u8]) -> Result<(), KeepFault> {
+        Err(KeepFault::OutOfMemory)
+    }
+}
+
+/// Runs the top call with these words over any source and sink, without a store.
 fn called<R: Threads + Wait + Sync, S: Source, K: Sink>(
     rt: &R,
     alloc: Global,
@@ -55,7 +76,16 @@ fn called<R: Threads + Wait + Sync, S: Source, K: Sink>(
     source: &mut S,
     sink: &mut K,
 ) -> Outcome {
-    run(rt, alloc, words, source, sink, &OpenGate, Vec::new(alloc))
+    run(
+        rt,
+        alloc,
+        words,
+        source,
+        sink,
+        &mut Nowhere,
+        &OpenGate,
+        Vec::new(alloc),
+    )
 }
 
 /// Runs the word `session` over any source and sink.
@@ -397,7 +427,7 @@ fn a_session_has_so_many_commands(rt: HostRuntime) -> Result<(), Fail> {
 #[test]
 fn other_words_meet_the_usage_line(rt: HostRuntime) -> Result<(), Fail> {
     let alloc = rt.alloc();
-    let rows: [&[&str]; 20] = [
+    let rows: [&[&str]; 21] = [
         &[],
         &["run"],
         &["session", "x"],
@@ -413,7 +443,8 @@ fn other_words_meet_the_usage_line(rt: HostRuntime) -> Result<(), Fail> {
         &["session", "--workers", "+1"],
         &["session", "--workers", "x"],
         &["session", "--workers", "1", "--workers", "1"],
-        &["session", "--store", "s"],
+        &["session", "--store"],
+        &["session", "--store", "s", "--store", "s"],
         &["session", "--help"],
         &["--help"],
         &["session", "--", "--workers", "1"],

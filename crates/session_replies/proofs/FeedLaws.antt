@@ -18,7 +18,7 @@ module _ (one_reading : HaveOneAnswer) where
   fed_once present _ _ _ (Feeds.report program reads) (Feeds.report other reads') =
       let same : Ok program ≡ Ok other = one_reading present.files (Ok program) (Ok other) reads reads' in
       let alike : program ≡ other = cc in
-      ap program_entries alike
+      ap (program_entries present.setting.loaded) alike
   fed_once present _ _ _ (Feeds.report program reads) (Feeds.report_refused refused refuses) = never present program refused reads refuses
   fed_once present _ _ _ (Feeds.report program reads) (Feeds.other _ other) = absurd (other refl)
   fed_once present _ _ _ (Feeds.report_refused refused refuses) (Feeds.report program reads) = never present program refused reads refuses
@@ -30,7 +30,7 @@ module _ (one_reading : HaveOneAnswer) where
 
 module _ (some_reading : HaveAnswer) where
   report_feeds : (present : Present) (answer : Result Program Refused) → Reads present.files answer → (entries : List Entry) × Feeds present command.Report entries
-  report_feeds present (Ok program) reads = (program_entries program, Feeds.report program reads)
+  report_feeds present (Ok program) reads = (program_entries present.setting.loaded program, Feeds.report program reads)
   report_feeds present (Err refused) refuses = (_, Feeds.report_refused refused refuses)
 
   pub fed_some : SomeFeed

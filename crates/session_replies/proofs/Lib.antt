@@ -3,7 +3,9 @@ pub mod Appending
 pub mod Entries
 pub mod FeedLaws
 pub mod Reached
+pub mod Honest
 pub mod Replying
+pub mod SaveLaws
 pub mod Reporting
 pub mod Working
 pub mod Shown

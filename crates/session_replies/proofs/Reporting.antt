@@ -9,16 +9,17 @@ use Rattle.shape_data.specs.declared.program.Program.{Program}
 use Rattle.shape_data.specs.WellFormed.{IsCountable, IsProgram}
 use Rattle.report_text.specs.Parts.{AreReportable, FormedIsPrintable, IsPrintable}
 use Rattle.bottom_up.specs.BottomUp.{program_summaries}
-use Rattle.bottom_up.specs.Laws.{EachIsReported, IsReported}
+use Rattle.bottom_up.specs.Laws.{EachIsReported, IsReported, IsRight}
+use Rattle.claim_core.specs.Views.{Solution}
 use Rattle.session_replies.specs.Known.{named_summary}
 use Rattle.session_replies.specs.Texts.{is_named}
 
-module _ (each : EachIsReported) (program : Program) (fine : IsProgram program) where
+module _ (each : EachIsReported) (loaded : List Solution) (right : All IsRight loaded) (program : Program) (fine : IsProgram program) where
   abbrev known : List ProcSummary
-  known = program_summaries program
+  known = program_summaries loaded program
 
   pub one_each : length known ≡ length program.procs
-  one_each = (each program fine).0
+  one_each = (each loaded right program fine).0
 
   -- the summary at a place is that of the procedure there
   reported_at : (number : ℕ) (summary : ProcSummary) → slice_get known number ≡ Some summary → (proc : Proc) × IsReported program number proc summary
@@ -26,7 +27,7 @@ module _ (each : EachIsReported) (program : Program) (fine : IsProgram program) 
     where
       by : ((proc : Proc) × (number < length program.procs) × (slice_get program.procs number ≡ Some proc) × (get_or program.procs number proc ≡ proc)) ⊎ ((length program.procs ≤ number) × (slice_get program.procs number ≡ None))
           → (proc : Proc) × IsReported program number proc summary
-      by (inl (proc, inside, is, same)) = (proc, (each program fine).1 number proc summary is there)
+      by (inl (proc, inside, is, same)) = (proc, (each loaded right program fine).1 number proc summary is there)
       by (inr (past, none)) =
           let inside : number < length known = slice_get_within known number summary there in
           let same : length known ≡ length program.procs = one_each in
@@ -49,7 +50,7 @@ module _ (each : EachIsReported) (program : Program) (fine : IsProgram program) 
   }
 
   -- so can the summary of one procedure
-  pub named_is_printable : FormedIsPrintable → (name : List ℕ) (summary : ProcSummary) → named_summary program name ≡ Some summary → IsPrintable program.structs summary
+  pub named_is_printable : FormedIsPrintable → (name : List ℕ) (summary : ProcSummary) → named_summary loaded program name ≡ Some summary → IsPrintable program.structs summary
   named_is_printable printable name summary is = by_place (position (is_named name) program.procs) is
     where
       by_place : (o : Option ℕ) → option_and_then (slice_get known) o ≡ Some summary → IsPrintable program.structs summary

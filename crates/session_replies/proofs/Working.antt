@@ -1,5 +1,5 @@
 -- How much was done for a reply that tells of components.
-use Rattle.std.proofs.Common.{◌≡◌, ℕ, ◌≤◌, true, Option, Some, None, List, Ok, Err, refl, sym, ap, ◌∙◌, subst, is_some}
+use Rattle.std.proofs.Common.{◌≡◌, ℕ, ◌≤◌, true, false, Option, Some, None, List, Ok, Err, refl, sym, ap, ◌∙◌, subst, is_some}
 use Rattle.std.specs.List.{position}
 use Rattle.shape_data.specs.declared.program.Program.{Program}
 use Rattle.summary_book.specs.declared.aims.Aim.{Aim}
@@ -37,6 +37,9 @@ module _ (once : HaveOneAnswer) (present : Present) (program : Program) (reads :
       subst (λ (a : Aim). count_reached other a ≤ seen) (sym aim_is)
       (subst (λ (p : Program). count_reached p All ≤ seen) (same_program other is) worked)
 
+  pub save_worked : (seen : ℕ) → count_reached program All ≤ seen → IsWorked present command.Save seen
+  save_worked seen worked other aim (aim_is, saves, is) = report_worked seen worked other aim (aim_is, is)
+
   pub total_worked : (seen : ℕ) → count_reached program All ≤ seen → (other : Program) → Reads present.files (Ok other) → count_reached other All ≤ seen
   total_worked seen worked other is = subst (λ (p : Program). count_reached p All ≤ seen) (same_program other is) worked
 
@@ -51,8 +54,15 @@ module _ (once : HaveOneAnswer) (present : Present) (refused : Refused) (reads :
   pub report_refused : (seen : ℕ) → IsWorked present command.Report seen
   report_refused seen other aim (aim_is, is) = never other is
 
+  pub save_refused : (seen : ℕ) → IsWorked present command.Save seen
+  save_refused seen other aim (aim_is, saves, is) = never other is
+
   pub total_refused : (seen : ℕ) (other : Program) → Reads present.files (Ok other) → count_reached other All ≤ seen
   total_refused seen other is = never other is
+
+-- there is no store
+pub save_nowhere : (present : Present) (seen : ℕ) → present.setting.saves ≡ false → IsWorked present command.Save seen
+save_nowhere present seen none other aim (aim_is, saves, is) = let clash : true ≡ false = sym saves ∙ none in absurd cc
 
 -- the generated file was put
 pub gen_worked : (present mid : Present) (n : ℕ) (name bytes : List ℕ) (seen : ℕ) → name ≡ GENERATED → bytes ≡ generated n → mid ≡ with_put name bytes present →

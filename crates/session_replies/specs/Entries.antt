@@ -4,6 +4,7 @@ use Rattle.reporters.specs.declared.reporter.Entry.{Entry}
 use Rattle.shape_data.specs.declared.answer.ProcSummary.{ProcSummary}
 use Rattle.shape_data.specs.declared.program.Proc.{Proc}
 use Rattle.shape_data.specs.declared.program.Program.{Program}
+use Rattle.claim_core.specs.Views.{Solution}
 use Rattle.bottom_up.specs.BottomUp.{program_summaries}
 use Rattle.session_lines.specs.declared.command.Command.{Command}
 use Rattle.session_lines.specs.declared.command.Command.TheVariants as command
@@ -22,11 +23,11 @@ entries_over [] (summary ∷ summaries) = []
 entries_over (proc ∷ procs) (summary ∷ summaries) = entry_of proc summary ∷ entries_over procs summaries
 
 -- the entries of a program
-abbrev pub program_entries : Program → List Entry
-program_entries program = entries_over program.procs (program_summaries program)
+abbrev pub program_entries : List Solution → Program → List Entry
+program_entries loaded program = entries_over program.procs (program_summaries loaded program)
 
 -- behind the reply to the command these are fed: the entries of a report on a program, and none behind another reply
 pub data Feeds (present : Present) : Command → List Entry → Type 0 where
-  report : (program : Program) → Reads present.files (Ok program) → Feeds present command.Report (program_entries program)
+  report : (program : Program) → Reads present.files (Ok program) → Feeds present command.Report (program_entries present.setting.loaded program)
   report_refused : (refused : Refused) → Reads present.files (Err refused) → Feeds present command.Report []
   other : (asked : Command) → asked ≢ command.Report → Feeds present asked []

@@ -3,5 +3,6 @@ pub mod Entries
 pub mod Known
 pub mod Laws
 pub mod Parts
+pub mod Saves
 pub mod Texts
 pub mod Work

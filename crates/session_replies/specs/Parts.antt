@@ -1,5 +1,8 @@
 -- What the parts of a session promise one another. No contract of a call that other crates make cites it.
-use Rattle.std.specs.Prelude.{Result, Ok, Err}
+use Rattle.std.specs.Prelude.{ℕ, List, Result, Ok, Err}
+use Rattle.std.specs.Global.{Vec}
+use Rattle.std.specs.Option.{option_map}
+use Rattle.std.specs.declared.option.Option.{Option}
 use Rattle.shape_data.specs.declared.program.Program.{Program}
 use Rattle.shape_data.specs.Sizes.{HasProgramSizes}
 use Rattle.shape_data.specs.WellFormed.{IsProgram}
@@ -16,3 +19,7 @@ answer_in (found.NoProgram refused) = Err refused
 abbrev pub IsFormed : Found → Type 0
 IsFormed (found.Whole program) = IsProgram program.value × HasProgramSizes program.value
 IsFormed (found.NoProgram refused) = Unit {0}
+
+-- the bytes that a store is to have, if it is to be replaced
+abbrev pub bytes_saved : Option (Vec ℕ) → Option (List ℕ)
+bytes_saved saved = option_map (λ (bytes : Vec ℕ). bytes.items) saved

@@ -1,15 +1,17 @@
 //! A session: the files that are present, and how many procedures without a spec the last report told of. It answers one command after
-//! another, at a desk where programs are analysed; each answer is what the files alone would give.
-ghost use Rattle.std.specs.Prelude.{◌≡◌, ◌≢◌, ◌≤◌, Result, Ok, IfOk, OnOk};
+//! another, at a desk where programs are analysed; each answer is what the files and the loaded entries alone would give.
+ghost use Rattle.std.specs.Prelude.{◌≡◌, ◌≢◌, ◌≤◌, Result, Ok, All, IfOk, OnOk};
 ghost use Rattle.project_form.specs.Files.{put_refusal};
 ghost use Rattle.project_form.specs.Reads.{Reads};
 ghost use Rattle.session_lines.specs.Lines.{IsCommand};
 ghost use Rattle.session_lines.specs.declared.command.Command.TheVariants as command;
 ghost use Rattle.session_replies.specs.Answers.{Answers, IsAnswered, nothing_present, text_of, with_put};
 ghost use Rattle.session_replies.specs.Entries.{Feeds};
-ghost use Rattle.session_replies.specs.Parts.{IsFormed, answer_in};
+ghost use Rattle.session_replies.specs.Parts.{IsFormed, answer_in, bytes_saved};
+ghost use Rattle.session_replies.specs.Saves.{Saves};
 ghost use Rattle.session_replies.specs.Texts.{program_total};
 ghost use Rattle.session_replies.specs.Work.{IsWorked, count_reached};
+ghost use Rattle.solve_job.specs.Solves.{IsStoredEntry};
 ghost use Rattle.summary_book.specs.declared.aims.Aim.TheVariants as aim;
 ghost use Rattle.project_form.specs.declared.fault.Refused.{Refused};
 ghost use Rattle.shape_data.specs.declared.program.Program.{Program};
@@ -17,30 +19,36 @@ ghost use Rattle.shape_data.specs.declared.program.Program.{Program};
 use crate::found::Found;
 use crate::reply::Reply;
 use crate::texts::{
-    block_text, drop_text, error_text, make_report, ok_text, refused_text, total_text,
+    block_text, drop_text, error_text, make_report, make_store, ok_text, refused_text, total_text,
 };
 use io_ports::Gate;
+use loaded_answers::LoadedAnswers;
 use project_form::laws::{limits_are_kept, one_answer};
 use project_form::{ProgramFault, Project, PutFault};
 use session_generator::generate;
 use session_lines::Command;
 use shape_data::Name;
-use solve_job::SolveJob;
+use solve_job::{SolveJob, StoredAnswers};
 use std::alloc::{AllocError, Global};
 use std::marker::Model;
-use std::sync::Wait;
 use std::sync::ledger::Ledger;
+use std::sync::{Arc, Wait};
 use worker_pool::desk::Desk;
 use worker_pool::shares::Hands;
 
 /// The code of a file of more than 1,048,576 bytes.
 const TOO_LONG: u16 = 143;
 
-/// A session. Contracts see what is present.
+/// The code of a `save` where there is no store to save to.
+const NO_STORE: u16 = 147;
+
+/// A session. Contracts see what is present, and what the session began with.
 #[derive(Drop)]
 pub struct Session {
     project: Project,
     missing: usize,
+    loaded: Arc<StoredAnswers>,
+    saves: bool,
 }
 
 impl Model for Session {
@@ -50,20 +58,22 @@ impl Model for Session {
 
     ghost Value = { Present };
 
-    ghost view = { λ session. record { files = sources_of session.project; missing = session.missing } };
+    ghost view = { λ session. record { files = sources_of session.project; missing = session.missing; setting = record { loaded = session.loaded.value; saves = session.saves } } };
 
     ghost invariant = { λ session. AreFiles (sources_of session.project) };
 }
 
 impl Session {
-    /// No file is present.
-    pub fn new(alloc: Global) -> Self
-        ensures { result ≡ nothing_present }
+    /// No file is present. These entries were loaded from the store, and there is one to save to or not.
+    pub fn new(alloc: Global, loaded: Arc<StoredAnswers>, saves: bool) -> Self
+        ensures { result ≡ nothing_present (record { loaded = loaded.value; saves = saves }) }
     {
         limits_are_kept();
         Session {
             project: Project::new(alloc),
             missing: 0,
+            loaded,
+            saves,
         }
     }
 
@@ -72,6 +82,14 @@ impl Session {
         ensures { result ≡ self.now.missing }
     {
         self.missing
+    }
+
+    /// The entries that were loaded.
+    fn loaded(&self) -> &LoadedAnswers
+        ensures value { result.now ≡ self.now.setting.loaded }
+        ensures stored { All IsStoredEntry self.now.setting.loaded }
+    {
+        self.loaded.answers()
     }
 
     /// What the files are.
@@ -157,7 +175,9 @@ impl Session {
     {
         one_answer();
         match self.found(alloc)? {
-            Found::Whole(program) => block_text(rt, alloc, desk, hands, &program, name),
+            Found::Whole(program) => {
+                block_text(rt, alloc, desk, hands, self.loaded(), &program, name)
+            }
             Found::NoProgram(refused) => refused_text(alloc, &refused),
         }
     }
@@ -172,16 +192,41 @@ impl Session {
     ) -> Result<Reply, AllocError>
         ensures answers { IfOk result (λ reply. Answers self.old command.Report reply.text.items self.new) }
         ensures feeds { IfOk result (λ reply. Feeds self.old command.Report reply.entries.items) }
+        ensures saves { IfOk result (λ reply. Saves self.old command.Report (bytes_saved reply.saved)) }
         ensures worked { OnOk result (IsWorked self.old command.Report hands.new.seen) }
         ensures rises { hands.old.seen ≤ hands.new.seen }
     {
         one_answer();
         match self.found(alloc)? {
             Found::Whole(program) => {
-                let report = make_report(rt, alloc, desk, hands, &program)?;
+                let report = make_report(rt, alloc, desk, hands, self.loaded(), &program)?;
                 self.missing = report.missing;
                 Ok(report.reply)
             }
+            Found::NoProgram(refused) => Ok(Reply::of(refused_text(alloc, &refused)?)),
+        }
+    }
+
+    /// What is known of all components as the bytes of the store, where there is one.
+    fn save<R: Wait, G: Gate, A: Ledger, B: Ledger>(
+        &mut self,
+        rt: &R,
+        alloc: Global,
+        desk: &Desk<'_, SolveJob, G, A, B>,
+        hands: &mut Hands<B>,
+    ) -> Result<Reply, AllocError>
+        ensures answers { IfOk result (λ reply. Answers self.old command.Save reply.text.items self.new) }
+        ensures feeds { IfOk result (λ reply. Feeds self.old command.Save reply.entries.items) }
+        ensures saves { IfOk result (λ reply. Saves self.old command.Save (bytes_saved reply.saved)) }
+        ensures worked { OnOk result (IsWorked self.old command.Save hands.new.seen) }
+        ensures rises { hands.old.seen ≤ hands.new.seen }
+    {
+        one_answer();
+        if !self.saves {
+            return Ok(Reply::of(error_text(alloc, NO_STORE)?));
+        }
+        match self.found(alloc)? {
+            Found::Whole(program) => make_store(rt, alloc, desk, hands, self.loaded(), &program),
             Found::NoProgram(refused) => Ok(Reply::of(refused_text(alloc, &refused)?)),
         }
     }
@@ -195,13 +240,13 @@ impl Session {
         hands: &mut Hands<B>,
     ) -> Result<Vec<u8>, AllocError>
         ensures same { self.new ≡ self.old }
-        ensures text { IfOk result (λ text. (answer : Result Program Refused) × Reads self.old.files answer × (text.items ≡ text_of program_total answer)) }
+        ensures text { IfOk result (λ text. (answer : Result Program Refused) × Reads self.old.files answer × (text.items ≡ text_of (program_total self.old.setting.loaded) answer)) }
         ensures worked { OnOk result ((program : Program) → Reads self.old.files (Ok program) → count_reached program aim.All ≤ hands.new.seen) }
         ensures rises { hands.old.seen ≤ hands.new.seen }
     {
         one_answer();
         match self.found(alloc)? {
-            Found::Whole(program) => total_text(rt, alloc, desk, hands, &program),
+            Found::Whole(program) => { total_text(rt, alloc, desk, hands, self.loaded(), &program) }
             Found::NoProgram(refused) => refused_text(alloc, &refused),
         }
     }
@@ -229,7 +274,7 @@ impl Session {
         }
     }
 
-    /// The reply to a command that is not fed to reporters.
+    /// The reply to a command that is not fed to reporters, and leaves the store as it is.
     fn text<R: Wait, G: Gate, A: Ledger, B: Ledger>(
         &mut self,
         rt: &R,
@@ -240,7 +285,8 @@ impl Session {
     ) -> Result<Vec<u8>, AllocError>
         requires answered { IsAnswered asked }
         requires allowed { IsCommand asked }
-        requires other { asked ≢ command.Report }
+        requires no_report { asked ≢ command.Report }
+        requires no_save { asked ≢ command.Save }
         ensures answers { IfOk result (λ text. Answers self.old asked text.items self.new) }
         ensures worked { OnOk result (IsWorked self.old asked hands.new.seen) }
         ensures rises { hands.old.seen ≤ hands.new.seen }
@@ -257,7 +303,8 @@ impl Session {
         }
     }
 
-    /// The reply to a command, which is not `save` or `quit`. What it tells of was solved at the desk, by whomever.
+    /// The reply to a command, which is not `quit`. What it tells of was answered at the desk, by whomever. Whoever takes it has to put the
+    /// bytes that it saves into the store before the reply is written.
     ///
     /// # Errors
     ///
@@ -274,11 +321,13 @@ impl Session {
         requires allowed { IsCommand asked }
         ensures answers { IfOk result (λ reply. Answers self.old asked reply.text.items self.new) }
         ensures feeds { IfOk result (λ reply. Feeds self.old asked reply.entries.items) }
+        ensures saves { IfOk result (λ reply. Saves self.old asked (bytes_saved reply.saved)) }
         ensures worked { OnOk result (IsWorked self.old asked hands.new.seen) }
         ensures rises { hands.old.seen ≤ hands.new.seen }
     {
         match &asked {
             Command::Report => self.report(rt, alloc, desk, hands),
+            Command::Save => self.save(rt, alloc, desk, hands),
             _ => Ok(Reply::of(self.text(rt, alloc, desk, hands, asked)?)),
         }
     }

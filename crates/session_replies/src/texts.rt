@@ -1,16 +1,19 @@
 //! The lines of replies.
-ghost use Rattle.std.specs.Prelude.{◌≡◌, ◌≤◌, true, is_some, IfOk, OnOk};
+ghost use Rattle.std.specs.Prelude.{◌≡◌, ◌≤◌, None, true, is_some, [], All, IfOk, OnOk};
 ghost use Rattle.std.specs.List.{position};
 ghost use Rattle.shape_data.specs.Sizes.{HasProgramSizes};
 ghost use Rattle.shape_data.specs.WellFormed.{IsProgram};
 ghost use Rattle.session_replies.specs.Entries.{entries_over, entry_of, program_entries};
-ghost use Rattle.session_replies.specs.Texts.{block_named, drop_line, error_line, is_named, ok_line, program_missing, program_report, program_total, refused_line};
+ghost use Rattle.session_replies.specs.Parts.{bytes_saved};
+ghost use Rattle.session_replies.specs.Texts.{block_named, drop_line, error_line, is_named, ok_line, program_missing, program_report, program_stored_line, program_total, refused_line, stored_program};
 ghost use Rattle.session_replies.specs.Work.{count_reached};
+ghost use Rattle.solve_job.specs.Solves.{IsStoredEntry};
 ghost use Rattle.summary_book.specs.declared.aims.Aim.TheVariants as aim;
 
-use crate::known::{summaries, summary};
+use crate::known::{store_of, summaries, summary};
 use crate::reply::Reply;
 use io_ports::Gate;
+use loaded_answers::LoadedAnswers;
 use project_form::Refused;
 use report_text::reasons::push_decimal;
 use report_text::totals::push_total;
@@ -31,6 +34,12 @@ const NO_FILE: u16 = 145;
 
 /// The code of a name that no procedure has.
 const NO_PROC: u16 = 146;
+
+/// The code of a store that would have more than 67,108,864 bytes.
+const STORE_TOO_LONG: u16 = 148;
+
+/// The most bytes of a store.
+const MOST_STORED: usize = 67_108_864;
 
 /// The line that all is well.
 pub fn ok_text(alloc: Global) -> Result<Vec<u8>, AllocError>
@@ -93,19 +102,21 @@ pub fn block_text<R: Wait, G: Gate, A: Ledger, B: Ledger>(
     alloc: Global,
     desk: &Desk<'_, SolveJob, G, A, B>,
     hands: &mut Hands<B>,
+    loaded: &LoadedAnswers,
     program: &Arc<Program>,
     name: &Name,
 ) -> Result<Vec<u8>, AllocError>
     requires formed { IsProgram program.now.value }
     requires sizes { HasProgramSizes program.now.value }
-    ensures text { IfOk result (λ text. text.items ≡ block_named name.now program.now.value) }
+    requires loaded { All IsStoredEntry loaded.now }
+    ensures text { IfOk result (λ text. text.items ≡ block_named loaded.now name.now program.now.value) }
     ensures worked { OnOk result (is_some (position (is_named name.now) program.now.value.procs) ≡ true → count_reached program.now.value (aim.One name.now) ≤ hands.new.seen) }
     ensures rises { hands.old.seen ≤ hands.new.seen }
 {
     let Some(place) = place_of(program, name) else {
         return error_text(alloc, NO_PROC);
     };
-    let summary = summary(rt, alloc, desk, hands, program, name)?;
+    let summary = summary(rt, alloc, desk, hands, loaded, program, name)?;
     block(
         alloc,
         &program.procs[place],
@@ -120,15 +131,17 @@ pub fn total_text<R: Wait, G: Gate, A: Ledger, B: Ledger>(
     alloc: Global,
     desk: &Desk<'_, SolveJob, G, A, B>,
     hands: &mut Hands<B>,
+    loaded: &LoadedAnswers,
     program: &Arc<Program>,
 ) -> Result<Vec<u8>, AllocError>
     requires formed { IsProgram program.now.value }
     requires sizes { HasProgramSizes program.now.value }
-    ensures text { IfOk result (λ text. text.items ≡ program_total program.now.value) }
+    requires loaded { All IsStoredEntry loaded.now }
+    ensures text { IfOk result (λ text. text.items ≡ program_total loaded.now program.now.value) }
     ensures worked { OnOk result (count_reached program.now.value aim.All ≤ hands.new.seen) }
     ensures rises { hands.old.seen ≤ hands.new.seen }
 {
-    let summaries = summaries(rt, alloc, desk, hands, program)?;
+    let summaries = summaries(rt, alloc, desk, hands, loaded, program)?;
     let mut text = Vec::new(alloc);
     push_total(&mut text, summaries.as_slice())?;
     Ok(text)
@@ -176,17 +189,20 @@ pub fn make_report<R: Wait, G: Gate, A: Ledger, B: Ledger>(
     alloc: Global,
     desk: &Desk<'_, SolveJob, G, A, B>,
     hands: &mut Hands<B>,
+    loaded: &LoadedAnswers,
     program: &Arc<Program>,
 ) -> Result<Report, AllocError>
     requires formed { IsProgram program.now.value }
     requires sizes { HasProgramSizes program.now.value }
-    ensures text { IfOk result (λ report. report.reply.text.items ≡ program_report program.now.value) }
-    ensures entries { IfOk result (λ report. report.reply.entries.items ≡ program_entries program.now.value) }
-    ensures missing { IfOk result (λ report. report.missing ≡ program_missing program.now.value) }
+    requires loaded { All IsStoredEntry loaded.now }
+    ensures text { IfOk result (λ report. report.reply.text.items ≡ program_report loaded.now program.now.value) }
+    ensures entries { IfOk result (λ report. report.reply.entries.items ≡ program_entries loaded.now program.now.value) }
+    ensures saved { IfOk result (λ report. report.reply.saved ≡ None) }
+    ensures missing { IfOk result (λ report. report.missing ≡ program_missing loaded.now program.now.value) }
     ensures worked { OnOk result (count_reached program.now.value aim.All ≤ hands.new.seen) }
     ensures rises { hands.old.seen ≤ hands.new.seen }
 {
-    let summaries = summaries(rt, alloc, desk, hands, program)?;
+    let summaries = summaries(rt, alloc, desk, hands, loaded, program)?;
     let mut text = Vec::new(alloc);
     push_report(
         &mut text,
@@ -196,6 +212,39 @@ pub fn make_report<R: Wait, G: Gate, A: Ledger, B: Ledger>(
     )?;
     let missing = count_none(summaries.as_slice());
     let entries = entries_of(alloc, &program.procs, summaries)?;
-    let reply = Reply { text, entries };
+    let reply = Reply {
+        text,
+        entries,
+        saved: None,
+    };
     Ok(Report { reply, missing })
+}
+
+/// What is known of a program as the bytes of its store, or the error that they are too many.
+pub fn make_store<R: Wait, G: Gate, A: Ledger, B: Ledger>(
+    rt: &R,
+    alloc: Global,
+    desk: &Desk<'_, SolveJob, G, A, B>,
+    hands: &mut Hands<B>,
+    loaded: &LoadedAnswers,
+    program: &Arc<Program>,
+) -> Result<Reply, AllocError>
+    requires formed { IsProgram program.now.value }
+    requires sizes { HasProgramSizes program.now.value }
+    requires loaded { All IsStoredEntry loaded.now }
+    ensures text { IfOk result (λ reply. reply.text.items ≡ program_stored_line loaded.now program.now.value) }
+    ensures entries { IfOk result (λ reply. reply.entries.items ≡ []) }
+    ensures saved { IfOk result (λ reply. bytes_saved reply.saved ≡ stored_program loaded.now program.now.value) }
+    ensures worked { OnOk result (count_reached program.now.value aim.All ≤ hands.new.seen) }
+    ensures rises { hands.old.seen ≤ hands.new.seen }
+{
+    let bytes = store_of(rt, alloc, desk, hands, loaded, program)?;
+    if bytes.len() > MOST_STORED {
+        return Ok(Reply::of(error_text(alloc, STORE_TOO_LONG)?));
+    }
+    Ok(Reply {
+        text: ok_text(alloc)?,
+        entries: Vec::new(alloc),
+        saved: Some(bytes),
+    })
 }

@@ -1,29 +1,34 @@
--- What is collected under an aim is what an analysis from nothing knows of the components that the aim reaches.
-use Rattle.std.proofs.Common.{◌≡◌, ℕ, zero, suc, ◌+◌, ◌<◌, Bool, true, false, cond, List, [], ◌∷◌, length, map, slice_get, Some, None, Option}
+-- What is collected of the components that an aim reaches is what is known of them, where it has the answers that keys are given.
+use Rattle.std.proofs.Common.{◌≡◌, ℕ, zero, suc, ◌+◌, ◌<◌, Bool, true, false, cond, List, [], ◌∷◌, length, map, slice_get, Some, None, Option, All}
 use Rattle.std.proofs.Common.{refl, sym, ap, ◌∙◌, subst, filter, filter_map, option_map, arith}
 use Rattle.std.specs.List.{range_with_len}
 use Rattle.std.proofs.lemmas.Bool.{lt-ltb}
-use Rattle.std.proofs.lemmas.List.{length-map}
-use Rattle.std.proofs.lemmas.Option.{slice_get-map}
+use Rattle.std.proofs.lemmas.List.Elements.{All-map}
+use Rattle.std.proofs.lemmas.Option.{slice_get_within}
 use Rattle.shape_data.specs.declared.answer.Answer.{Answer}
+use Rattle.shape_data.specs.declared.answer.Kept.{Kept}
 use Rattle.shape_data.specs.declared.answer.Key.{Key}
 use Rattle.component_keys.specs.Keys.{program_components}
-use Rattle.component_keys.proofs.Basics.{not_none, some_same}
-use Rattle.claim_core.specs.Views.{Solution}
-use Rattle.claim_laws.specs.World.{World, Event, Slot}
-use Rattle.claim_laws.specs.Logs.{IsLegal, replay, settled_at}
+use Rattle.component_keys.proofs.Basics.{at_map, not_none, some_same}
+use Rattle.component_keys.proofs.Reach.{range_at}
+use Rattle.component_keys.proofs.Whole.{in_filter, in_filter_map}
+use Rattle.claim_core.specs.Views.{Solution, solution_of}
+use Rattle.claim_laws.specs.World.{World, Slot, standings}
+use Rattle.claim_laws.specs.Logs.{replay, settled_at}
+use Rattle.claim_laws.proofs.Invariant.{all_at}
 use Rattle.summary_book.specs.declared.aims.Aim.{Aim}
-use Rattle.summary_book.specs.declared.aims.Aim.TheVariants.{All}
+use Rattle.summary_book.specs.declared.aims.Aim.TheVariants as aims
 use Rattle.summary_book.specs.Aims.{aimed}
 use Rattle.summary_book.specs.Next.{IsSettled, slots_by}
-use Rattle.summary_book.specs.Views.{slot_solution, solution_of}
-use Rattle.summary_book.proofs.Here.{settled_of, standings_length, stands_at}
-use Rattle.bottom_up.specs.BottomUp.{Known, answers_in, known_by}
+use Rattle.summary_book.specs.Views.{slot_solution}
+use Rattle.summary_book.proofs.Components.{aims_are}
+use Rattle.summary_book.proofs.Here.{settled_of, settled_stands, standings_length, stands_at}
+use Rattle.bottom_up.specs.BottomUp.{known_by}
 use Rattle.bottom_up.proofs.Listed.{mapped_same, within_at}
 use Rattle.bottom_up.proofs.Over.{known_many}
-use Rattle.settled_laws.specs.Laws.{AllAreAimed, CollectedAreKnown, IsOnlyAnswer, aimed_answers}
+use Rattle.settled_laws.specs.Laws.{AllAreAimed, AreGiven, CollectedAreKnown, aimed_known}
 use Rattle.settled_laws.proofs.Settled.{settled_known}
-use Rattle.settled_laws.proofs.Whole.{all_pass, given_mapped, mapped_twice, taken_from}
+use Rattle.settled_laws.proofs.Whole.{all_pass, given_mapped, taken_from}
 
 -- ---- the numbers that pass
 
@@ -50,56 +55,67 @@ passing_at p count k x at =
     let lt = in_range 0 count own.1.0 x own.1.1 in
     (own.0, omega (arith, lt))
 
+-- and each number below it that passes stands there
+pub passing_in : (p : ℕ → Bool) (count x : ℕ) → p x ≡ true → x < count → (k : ℕ) × (slice_get (filter p (range_with_len 0 count)) k ≡ Some x)
+passing_in p count x passes lt =
+    let here : 0 + x ≡ x = omega arith in
+    in_filter p (range_with_len 0 count) x x (range_at 0 count x lt ∙ ap (λ n. Some n) here) passes
+
 -- ---- an aim
 
-module _ (solves : Key → Answer → Type 0) (answer_of : Key → Answer) (only : IsOnlyAnswer solves answer_of) (log : List Event)
-    (legal : IsLegal solves log) (aim : Aim) (settled : IsSettled (replay log) (aimed (replay log).program aim)) where
-  abbrev world : World
-  world = replay log
-
-  abbrev known : List Known
+module _ (answer_of : Key → Answer) (world : World) (aim : Aim) (settled : IsSettled world (aimed world.program aim)) (kept : List Kept)
+    (same : map solution_of kept ≡ map slot_solution (slots_by world (aimed world.program aim))) (all_given : AreGiven answer_of kept) where
+  abbrev known : List Solution
   known = known_by answer_of world.program
 
-  abbrev answer_in : Slot → Answer
-  answer_in slot = slot.answer
+  abbrev reached : List ℕ
+  reached = filter (aimed world.program aim) (range_with_len 0 (length (standings world)))
 
-  -- a settled component's slot has the answer that is known
-  slot_answer : (place : ℕ) → aimed world.program aim place ≡ true → place < length (program_components world.program) →
-      option_map answer_in (settled_at world place) ≡ slice_get (answers_in known) place
-  slot_answer place reached lt = by_slot (settled_at world place) refl
+  abbrev IsGiven : Solution → Type 0
+  IsGiven one = one.answer ≡ answer_of one.key
+
+  -- the slots are given their answers, since they are what is collected
+  slots_given : All IsGiven (map slot_solution (slots_by world (aimed world.program aim)))
+  slots_given = subst (All IsGiven) same (All-map IsGiven solution_of kept all_given)
+
+  slot_given : (component : ℕ) (slot : Slot) → aimed world.program aim component ≡ true → settled_at world component ≡ Some slot → slot.answer ≡ answer_of slot.key
+  slot_given component slot reaches at =
+      let own = settled_stands world component slot at in
+      let place = passing_in (aimed world.program aim) (length (standings world)) component reaches (slice_get_within (standings world) component own.0 own.1) in
+      let there = in_filter_map (settled_at world) reached place.0 component slot place.1 at in
+      all_at IsGiven (map slot_solution (slots_by world (aimed world.program aim))) there.0 (slot_solution slot) slots_given
+      (at_map slot_solution (slots_by world (aimed world.program aim)) there.0 ∙ ap (option_map slot_solution) there.1)
+
+  -- a component that is reached is known by its slot
+  slot_known : (place : ℕ) → aimed world.program aim place ≡ true → place < length (program_components world.program) →
+      option_map slot_solution (settled_at world place) ≡ slice_get known place
+  slot_known place reaches lt = by_slot (settled_at world place) refl
     where
-      by_slot : (o : Option Slot) → settled_at world place ≡ o → option_map answer_in o ≡ slice_get (answers_in known) place
+      by_slot : (o : Option Slot) → settled_at world place ≡ o → option_map slot_solution o ≡ slice_get known place
       by_slot None e =
           let there = within_at (program_components world.program) place lt in
           let own = stands_at world place there.0 there.1 in
-          absurd (settled place reached
+          absurd (settled place reaches
           (record { standing = own.standing; at = own.at; settled = sym (settled_of world place own.standing own.at) ∙ e }))
-      by_slot (Some slot) e =
-          sym (slice_get-map (λ (one : Known). one.answer) known place ∙
-          ap (option_map (λ (one : Known). one.answer)) (settled_known solves answer_of only log legal place slot e))
+      by_slot (Some slot) e = sym (settled_known answer_of world (aimed world.program aim) (aims_are world aim) slot_given place slot reaches e)
 
-  slots_have : map answer_in (slots_by world (aimed world.program aim)) ≡ aimed_answers answer_of world.program aim
-  slots_have =
+  slots_known : map slot_solution (slots_by world (aimed world.program aim)) ≡ aimed_known answer_of world.program aim
+  slots_known =
       let places : List ℕ = filter (aimed world.program aim) (range_with_len 0 (length (program_components world.program))) in
-      ap (λ n. map answer_in (filter_map (settled_at world) (filter (aimed world.program aim) (range_with_len 0 n)))) (standings_length world) ∙
-      given_mapped answer_in (settled_at world) places ∙
-      mapped_same (λ place. option_map answer_in (settled_at world place)) (slice_get (answers_in known)) places places refl
-      (λ i place same at at_same.
+      ap (λ n. map slot_solution (filter_map (settled_at world) (filter (aimed world.program aim) (range_with_len 0 n)))) (standings_length world) ∙
+      given_mapped slot_solution (settled_at world) places ∙
+      mapped_same (λ place. option_map slot_solution (settled_at world place)) (slice_get known) places places refl
+      (λ i place other at at_same.
       let own = passing_at (aimed world.program aim) (length (program_components world.program)) i place at in
-      slot_answer place own.0 own.1 ∙ ap (slice_get (answers_in known)) (some_same (sym at ∙ at_same)))
+      slot_known place own.0 own.1 ∙ ap (slice_get known) (some_same (sym at ∙ at_same)))
 
 pub collected_are_known : (solves : Key → Answer → Type 0) → CollectedAreKnown solves
-collected_are_known solves answer_of only log legal aim settled kept same =
-    sym (mapped_twice solution_of (λ (one : Solution). one.answer) kept) ∙ ap (map (λ (one : Solution). one.answer)) same ∙
-    mapped_twice slot_solution (λ (one : Solution). one.answer) (slots_by (replay log) (aimed (replay log).program aim)) ∙
-    slots_have solves answer_of only log legal aim settled
+collected_are_known solves answer_of log legal aim settled kept same all_given = same ∙ slots_known answer_of (replay log) aim settled kept same all_given
 
 pub all_are_aimed : AllAreAimed
 all_are_aimed answer_of program =
-    let answers : List Answer = answers_in (known_by answer_of program) in
-    let many : length (program_components program) ≡ length answers =
-    sym (known_many answer_of program) ∙ sym (length-map (known_by answer_of program) (λ (one : Known). one.answer)) in
-    ap (filter_map (slice_get answers))
-    (all_pass (aimed program All) 0 (length (program_components program)) (λ k lt. lt-ltb _ _ (omega (arith, lt)))) ∙
-    ap (λ n. filter_map (slice_get answers) (range_with_len 0 n)) many ∙
-    taken_from (slice_get answers) answers 0 (λ k lt. let same : 0 + k ≡ k = omega arith in ap (slice_get answers) same)
+    let known : List Solution = known_by answer_of program in
+    ap (filter_map (slice_get known))
+    (all_pass (aimed program aims.All) 0 (length (program_components program)) (λ k lt. lt-ltb _ _ (omega (arith, lt)))) ∙
+    ap (λ n. filter_map (slice_get known) (range_with_len 0 n)) (sym (known_many answer_of program)) ∙
+    taken_from (slice_get known) known 0 (λ k lt. let same : 0 + k ≡ k = omega arith in ap (slice_get known) same)

@@ -1,25 +1,24 @@
--- A component that is settled has the key and the answer that it has where the program is analysed from nothing.
+-- A component that an aim reaches, and that is settled, is known by its slot, where slots have the answers that keys are given.
 use Rattle.std.proofs.Common.{◌≡◌, ℕ, zero, suc, ◌<◌, Bool, true, false, cond, List, [], ◌∷◌, map, slice_get, Some, None, Option}
 use Rattle.std.proofs.Common.{refl, sym, ap, ap₂, ◌∙◌, option_map, arith}
 use Rattle.shape_data.specs.declared.answer.Answer.{Answer}
 use Rattle.shape_data.specs.declared.answer.Callee.{Callee}
 use Rattle.shape_data.specs.declared.answer.Key.{Key}
-use Rattle.component_keys.specs.Components.{same_names}
 use Rattle.component_keys.specs.Keys.{Component, Outer, key_over, names_of, program_components}
 use Rattle.component_keys.specs.Tests.{key_test}
-use Rattle.component_keys.proofs.Basics.{at_map, found, mapped_some, not_none, some_same}
+use Rattle.component_keys.proofs.Basics.{at_map, mapped_some, not_none, some_same}
 use Rattle.component_keys.proofs.Ordered.{callees_before}
-use Rattle.claim_laws.specs.World.{World, Event, Slot, Standing, both, due_over, given, given_by, settled_by, settled_in}
+use Rattle.claim_laws.specs.World.{World, Slot, Standing, both, due_over, given, given_by, settled_by, settled_in}
 use Rattle.claim_laws.specs.World.{slot_of, standings}
-use Rattle.claim_laws.specs.Logs.{IsLegal, replay, settled_at}
-use Rattle.claim_laws.proofs.Core.{slots_solve}
+use Rattle.claim_laws.specs.Logs.{settled_at}
+use Rattle.claim_laws.specs.Waits.{IsAim}
 use Rattle.claim_laws.proofs.Defined.{standings_as_defined}
-use Rattle.claim_laws.proofs.Invariant.{all_at}
 use Rattle.claim_laws.proofs.Still.{part_at}
+use Rattle.claim_core.specs.Views.{Solution}
+use Rattle.summary_book.specs.Views.{slot_solution}
 use Rattle.summary_book.proofs.Here.{settled_stands}
-use Rattle.bottom_up.specs.BottomUp.{Known, answered, answers_in, callee_by, callee_from, key_after, known_by}
+use Rattle.bottom_up.specs.BottomUp.{answered, answers_in, callee_by, callee_from, key_after, known_by}
 use Rattle.bottom_up.proofs.Over.{known_is}
-use Rattle.settled_laws.specs.Laws.{IsOnlyAnswer, SettledIsKnown, known_in}
 
 -- ---- a slot that settles a component
 
@@ -57,26 +56,16 @@ given_known before answers (first ∷ others) callees each e =
 
 -- ---- what is known
 
-module _ (solves : Key → Answer → Type 0) (answer_of : Key → Answer) (only : IsOnlyAnswer solves answer_of) (log : List Event)
-    (legal : IsLegal solves log) where
-  abbrev world : World
-  world = replay log
-
-  abbrev known : List Known
+module _ (answer_of : Key → Answer) (world : World) (aim : ℕ → Bool) (closed : IsAim world aim)
+    (have : (component : ℕ) (slot : Slot) → aim component ≡ true → settled_at world component ≡ Some slot → slot.answer ≡ answer_of slot.key) where
+  abbrev known : List Solution
   known = known_by answer_of world.program
 
-  -- a slot's answer is the one that its key is given
-  slot_answered : (members : List (List ℕ)) (slot : Slot) → slot_of world.slots members ≡ Some slot → slot.answer ≡ answer_of slot.key
-  slot_answered members slot is =
-      let there = found (λ (one : Slot). same_names one.members members) world.slots slot is in
-      only slot.key slot.answer (all_at (λ (one : Slot). solves one.key one.answer) world.slots there.1.0 slot
-      (slots_solve solves log legal) there.1.1)
-
-  -- of a component whose callees are known, where they are settled
-  known_at : (component : ℕ) (slot : Slot) → settled_at world component ≡ Some slot →
-      ((other : ℕ) (its : Slot) → other < component → settled_at world other ≡ Some its → slice_get known other ≡ Some (known_in its)) →
-      slice_get known component ≡ Some (known_in slot)
-  known_at component slot settled before =
+  -- over those before it that the aim reaches
+  known_at : (component : ℕ) (slot : Slot) → aim component ≡ true → settled_at world component ≡ Some slot →
+      ((other : ℕ) (its : Slot) → other < component → aim other ≡ true → settled_at world other ≡ Some its → slice_get known other ≡ Some (slot_solution its)) →
+      slice_get known component ≡ Some (slot_solution slot)
+  known_at component slot reached settled before =
       let own = settled_stands world component slot settled in
       let part : Component = own.0.part in
       let place : slice_get (program_components world.program) component ≡ Some part = part_at world component own.0 own.1 in
@@ -87,23 +76,23 @@ module _ (solves : Key → Answer → Type 0) (answer_of : Key → Answer) (only
       let callees : made.0 ≡ map (callee_from (answers_in known)) part.outer =
       given_known (standings world) (answers_in known) part.outer made.0
       (λ k one its at there.
-      at_map (λ (other : Known). other.answer) known one.component ∙
-      ap (option_map (λ (other : Known). other.answer)) (before one.component its
-      (callees_before world.program component k part one place at) there)) made.1 in
+      at_map (λ (other : Solution). other.answer) known one.component ∙
+      ap (option_map (λ (other : Solution). other.answer)) (before one.component its
+      (callees_before world.program component k part one place at) (closed component own.0 k one reached own.1 at) there)) made.1 in
       let key : slot.key ≡ key_after world.program.structs (answers_in known) part =
       made.2 ∙ ap (key_over world.program.structs part.flows) callees in
       let answer : slot.answer ≡ answer_of (key_after world.program.structs (answers_in known) part) =
-      slot_answered (names_of part.flows) slot by.0 ∙ ap answer_of key in
-      let same : answered answer_of (key_after world.program.structs (answers_in known) part) ≡ known_in slot =
+      have component slot reached settled ∙ ap answer_of key in
+      let same : answered answer_of (key_after world.program.structs (answers_in known) part) ≡ slot_solution slot =
       λ i. record { key = sym key i; answer = sym answer i } in
       known_is answer_of world.program component part place ∙ ap (λ one. Some one) same
 
-  known_below : (bound component : ℕ) (slot : Slot) → component < bound → settled_at world component ≡ Some slot →
-      slice_get known component ≡ Some (known_in slot)
-  known_below zero component slot lt settled = absurd (omega (arith, lt))
-  known_below (suc bound) component slot lt settled =
-      known_at component slot settled (λ other its less there. known_below bound other its (omega (arith, lt, less)) there)
+  known_below : (bound component : ℕ) (slot : Slot) → component < bound → aim component ≡ true → settled_at world component ≡ Some slot →
+      slice_get known component ≡ Some (slot_solution slot)
+  known_below zero component slot lt reached settled = absurd (omega (arith, lt))
+  known_below (suc bound) component slot lt reached settled =
+      known_at component slot reached settled (λ other its less reaches there. known_below bound other its (omega (arith, lt, less)) reaches there)
 
-pub settled_known : (solves : Key → Answer → Type 0) → SettledIsKnown solves
-settled_known solves answer_of only log legal component slot settled =
-    known_below solves answer_of only log legal (suc component) component slot (omega arith) settled
+  pub settled_known : (component : ℕ) (slot : Slot) → aim component ≡ true → settled_at world component ≡ Some slot →
+      slice_get known component ≡ Some (slot_solution slot)
+  settled_known component slot reached settled = known_below (suc component) component slot (omega arith) reached settled

@@ -1,16 +1,15 @@
 //! The law of settled components, the contract of a function that does nothing.
-ghost use Rattle.settled_laws.specs.Laws.{AllAreAimed, AllAreKnown, CollectedAreKnown, SettledIsAll, SettledIsKnown, SettledWerePublished};
+ghost use Rattle.settled_laws.specs.Laws.{AllAreAimed, CollectedAreKnown, CollectedAreMany, SettledIsAll, SettledWerePublished};
 
 use claim_laws::Meaning;
 
-/// Where each key has one right answer, a settled component has the key and the answer that it has where the program is analysed from
-/// nothing. So have all components where all are settled; and what a book collects of the components that an aim reaches is that. At
+/// Where the components that an aim reaches are settled, and each entry that a book collects of them has the answer that its key is
+/// given, the entries are what is known of these components, keys and answers alike; there is one for each; and the aim at all reaches all that is known. At
 /// least as many answers were published as components are settled.
 pub fn settled_is_known<J: Meaning>()
-    ensures each { SettledIsKnown J.solves }
-    ensures settled { SettledIsAll }
-    ensures all { AllAreKnown J.solves }
     ensures collected { CollectedAreKnown J.solves }
+    ensures many { CollectedAreMany }
     ensures aimed { AllAreAimed }
+    ensures settled { SettledIsAll }
     ensures published { SettledWerePublished }
 {}

@@ -1,9 +1,12 @@
 //! The job, and the answer to a key.
-ghost use Rattle.std.specs.Prelude.{◌≡◌, IfOk};
+ghost use Rattle.std.specs.Prelude.{◌≡◌, IfOk, OnErr, OnOk};
 ghost use Rattle.claim_core.specs.Sizes.{IsJobKey};
+ghost use Rattle.loaded_answers.specs.Lookup.{lookup};
 ghost use Rattle.shape_data.specs.WellFormed.{IsStorableAnswer};
+ghost use Rattle.solve_job.specs.Solves.{Solves};
 ghost use Rattle.solve_laws.specs.Solving.{solve as solve_of};
 
+use crate::stored::StoredAnswers;
 use certificate_laws::limits::limits_widen;
 use claim_core::{Job, Meaning, Solved, Tally};
 use comp_solve::solve;
@@ -11,20 +14,32 @@ use limit_laws::laws::solved_is_storable;
 use shape_data::answer::{Answer, Key};
 use shape_data::exact::share;
 use std::alloc::{AllocError, Global};
+use std::marker::Model;
 use std::sync::Arc;
 
-/// The job that solves keys. An answer is right for a key where it is what solving the key gives.
-#[derive(Clone, Copy, Debug)]
-pub struct SolveJob;
-
-impl Meaning for SolveJob {
-    ghost use Rattle.std.specs.Prelude.{◌≡◌};
-    ghost use Rattle.solve_laws.specs.Solving.{solve};
-
-    ghost solves = { λ key answer. answer ≡ solve key };
+/// The job that answers keys: with the answer of the first loaded entry that has the key, else by solving it. An answer is right for a key
+/// where it is what solving the key gives, or was read from a store and is inductive for the key. Contracts see the loaded entries.
+#[derive(Drop)]
+pub struct SolveJob {
+    loaded: Arc<StoredAnswers>,
 }
 
-/// The answer to a key, which is within the limits of a store.
+impl Model for SolveJob {
+    ghost use Rattle.std.specs.Prelude.{List};
+    ghost use Rattle.claim_core.specs.Views.{Solution};
+
+    ghost Value = { List Solution };
+
+    ghost view = { λ job. job.loaded.value };
+}
+
+impl Meaning for SolveJob {
+    ghost use Rattle.solve_job.specs.Solves.{Solves};
+
+    ghost solves = { Solves };
+}
+
+/// The answer that solving a key gives, which is within the limits of a store.
 fn answer_to(alloc: Global, key: &Key) -> Result<Answer, AllocError>
     requires { IsJobKey key.now }
     ensures value { IfOk result (λ answer. answer ≡ solve_of key.now) }
@@ -35,15 +50,43 @@ fn answer_to(alloc: Global, key: &Key) -> Result<Answer, AllocError>
     solve(alloc, key)
 }
 
+impl SolveJob {
+    /// The job with these loaded entries.
+    pub fn new(loaded: Arc<StoredAnswers>) -> Self
+        ensures { result ≡ loaded.value }
+    {
+        SolveJob { loaded }
+    }
+
+    /// The answer of the first loaded entry that has the key, else the one that solving it gives.
+    fn answer(&self, alloc: Global, key: &Key) -> Result<Arc<Answer>, AllocError>
+        requires { IsJobKey key.now }
+        ensures value { IfOk result (λ answer. answer.value ≡ lookup self.now key.now) }
+        ensures solves { IfOk result (λ answer. Solves key.now answer.value) }
+        ensures storable { IfOk result (λ answer. IsStorableAnswer key.now answer.value) }
+    {
+        match self.loaded.answers().find(key) {
+            Some(answer) => share(answer),
+            None => Ok(Arc::new(alloc, answer_to(alloc, key)?)?),
+        }
+    }
+}
+
 impl Job for SolveJob {
     fn solve(
         &self,
         alloc: Global,
         key: &Arc<Key>,
         tally: &mut Tally,
-    ) -> Result<Solved<SolveJob>, AllocError> {
-        let answer = answer_to(alloc, key)?;
-        let answer = Arc::new(alloc, answer)?;
+    ) -> Result<Solved<SolveJob>, AllocError>
+        requires tally { tally.old ≡ 0 }
+        requires key { IsJobKey key.now.value }
+        ensures key { IfOk result (λ solved. solved.key ≡ key.now.value) }
+        ensures answer { IfOk result (λ solved. solved.answer ≡ lookup self.now key.now.value) }
+        ensures ok { OnOk result (tally.new ≡ 1) }
+        ensures err { OnErr result (tally.new ≡ 0) }
+    {
+        let answer = self.answer(alloc, key)?;
         let key = share(key)?;
         tally.raise();
         Ok(Solved::new(key, answer))

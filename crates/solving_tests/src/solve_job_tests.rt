@@ -5,7 +5,7 @@ use claim_core::{Job, Tally, has_key_sizes};
 use shape_data::answer::{Answer, Fault, Key, Reason};
 use shape_data::program::{Cmd, Flow, Node, Operand, Ty};
 use shape_data::{Name, Row, well_formed_key};
-use solve_job::SolveJob;
+use solve_job::{SolveJob, StoredAnswers};
 use std::alloc::Global;
 use std::process::Abort;
 use std::sync::Arc;
@@ -68,7 +68,8 @@ fn answer_to(
     assert!(rt; has_key_sizes(&key));
     let key = Arc::new(alloc, key)?;
     let mut tally = Tally::new();
-    let solved = SolveJob.solve(alloc, &key, &mut tally)?;
+    let job = SolveJob::new(Arc::new(alloc, StoredAnswers::none(alloc))?);
+    let solved = job.solve(alloc, &key, &mut tally)?;
     assert_eq!(rt; tally.count(), 1);
     assert_eq!(rt; solved.key().procs.len(), 1);
     Ok(solved.into_answer())

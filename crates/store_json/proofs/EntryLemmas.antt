@@ -15,12 +15,12 @@ use Rattle.shape_data.specs.declared.answer.Answer.{Answer}
 use Rattle.shape_data.specs.declared.answer.Kept.{Kept}
 use Rattle.shape_data.specs.declared.answer.Key.{Key}
 use Rattle.shape_data.specs.WellFormed.{IsStorableKey}
-use Rattle.claim_core.specs.Views.{Solution}
+use Rattle.claim_core.specs.Views.{Solution, solution_of}
 use Rattle.summary_json.specs.Answers.{answer_data}
 use Rattle.summary_json.specs.Fits.{KeyFits}
 use Rattle.summary_json.specs.Keys.{key_data}
 use Rattle.summary_json.specs.Laws.{IsReadAnswer, IsReadKey, OneKey}
-use Rattle.store_json.specs.Entries.{solution_of, Fits, IsReadEntry, IsStorable}
+use Rattle.store_json.specs.Entries.{Fits, IsReadEntry, IsStorable}
 use Rattle.store_json.specs.Reading.{AreEntriesOf, AreValuesOf, IsEntryOf, IsStoreOf}
 use Rattle.store_json.specs.Texts.{entry_data, entry_object, store_object}
 

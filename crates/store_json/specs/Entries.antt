@@ -1,13 +1,8 @@
 -- The entries of a store: keys with their answers.
 use Rattle.std.specs.Prelude.{◌≡◌, true}
-use Rattle.shape_data.specs.declared.answer.Kept.{Kept}
 use Rattle.shape_data.specs.WellFormed.{IsStorableAnswer, IsStorableKey}
 use Rattle.claim_core.specs.Views.{Solution}
 use Rattle.summary_json.specs.Fits.{AnswerFits, KeyFits}
-
--- a key with its answer, without the places where they lie
-abbrev pub solution_of : Kept → Solution
-solution_of kept = record { key = kept.key.value; answer = kept.answer.value }
 
 -- key and answer are well formed within the limits of a store
 pub record IsStorable (entry : Solution) : Type 0 where

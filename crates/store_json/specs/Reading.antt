@@ -7,8 +7,8 @@ use Rattle.std.specs.declared.result.Result.TheVariants.{Ok, Err}
 use Rattle.serde_json.specs.Data.{Data}
 use Rattle.serde_json.specs.Read.{read}
 use Rattle.shape_data.specs.declared.answer.Kept.{Kept}
-use Rattle.claim_core.specs.Views.{Solution}
-use Rattle.store_json.specs.Entries.{solution_of, Fits, IsReadEntry, IsStorable}
+use Rattle.claim_core.specs.Views.{Solution, solutions_of}
+use Rattle.store_json.specs.Entries.{Fits, IsReadEntry, IsStorable}
 use Rattle.store_json.specs.Texts.{entry_data, store_data, store_object, with_trailer}
 use Rattle.store_json.specs.declared.reading.Unread.{Unread}
 use Rattle.store_json.specs.declared.reading.Unread.TheVariants.{Trailer, Json, Format}
@@ -59,6 +59,6 @@ IsRead bytes (Err Json) = (text : List ℕ) × IsTextOf bytes (Some text) × IsJ
 IsRead bytes (Err Format) = (text : List ℕ) × (d : Data) × IsTextOf bytes (Some text) × IsJsonOf text (Some d) × IsStoreOf d None
 
 -- what was read, without the places where keys and answers lie
-abbrev pub solutions_of : Result (List Kept) Unread → Result (List Solution) Unread
-solutions_of (Ok entries) = Ok (map solution_of entries)
-solutions_of (Err why) = Err why
+abbrev pub all_read : Result (List Kept) Unread → Result (List Solution) Unread
+all_read (Ok entries) = Ok (solutions_of entries)
+all_read (Err why) = Err why

@@ -4,7 +4,7 @@ ghost use Rattle.serde_json.specs.View.{view};
 ghost use Rattle.shape_data.specs.WellFormed.{IsStorableKey};
 ghost use Rattle.summary_json.specs.Fits.{KeyFits};
 ghost use Rattle.summary_json.specs.Keys.{key_data};
-ghost use Rattle.store_json.specs.Entries.{solution_of};
+ghost use Rattle.claim_core.specs.Views.{solution_of};
 ghost use Rattle.store_json.specs.Reading.{AreEntriesOf, IsEntryOf};
 ghost use Rattle.store_json.specs.Texts.{entry_object};
 

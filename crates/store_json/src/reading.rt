@@ -1,8 +1,8 @@
 //! The reading of stores.
 ghost use Rattle.std.specs.Prelude.{◌≡◌, map, option_map, IfOk};
 ghost use Rattle.serde_json.specs.View.{view};
-ghost use Rattle.store_json.specs.Entries.{solution_of};
-ghost use Rattle.store_json.specs.Reading.{solutions_of, AreValuesOf, IsJsonOf, IsRead, IsStoreOf};
+ghost use Rattle.claim_core.specs.Views.{solution_of};
+ghost use Rattle.store_json.specs.Reading.{all_read, AreValuesOf, IsJsonOf, IsRead, IsStoreOf};
 
 use crate::entries::read_entries;
 use crate::trailer::without_trailer;
@@ -66,7 +66,7 @@ fn read_value(alloc: Global, value: &Value) -> Result<Option<Row<Kept>>, AllocEr
 /// The entries of a store's bytes, in order, each answer marked `stored`, or why the bytes are no store. The only error is want of memory.
 /// How many bytes a store may have is for the caller to say.
 pub fn read_store(alloc: Global, bytes: &[u8]) -> Result<Result<Row<Kept>, Unread>, AllocError>
-    ensures { IfOk result (λ read. IsRead bytes.now (solutions_of read)) }
+    ensures { IfOk result (λ read. IsRead bytes.now (all_read read)) }
 {
     let Some(text) = without_trailer(alloc, bytes)? else {
         return Ok(Err(Unread::Trailer));

@@ -2,7 +2,8 @@
 ghost use Rattle.std.specs.Prelude.{◌≡◌, map, All, IfOk};
 ghost use Rattle.serde_json.specs.View.{view};
 ghost use Rattle.flow_json.specs.Forms.{tuple};
-ghost use Rattle.store_json.specs.Entries.{solution_of, IsStorable};
+ghost use Rattle.store_json.specs.Entries.{IsStorable};
+ghost use Rattle.claim_core.specs.Views.{solution_of};
 ghost use Rattle.store_json.specs.Texts.{entry_data, store_data, store_text};
 
 use crate::trailer::with_trailer;

@@ -16,7 +16,8 @@ use Rattle.summary_book.specs.declared.rows.SlotRow.{SlotRow}
 use Rattle.summary_book.specs.Next.{IsSettled}
 use Rattle.summary_book.specs.Places.{answer_at, key_at}
 use Rattle.summary_book.specs.Rows.{IsSight}
-use Rattle.summary_book.specs.Views.{slot_solution, solution_of}
+use Rattle.summary_book.specs.Views.{slot_solution}
+use Rattle.claim_core.specs.Views.{solution_of}
 use Rattle.summary_book.proofs.Due.{part, settled_is, slot_at, stands, unsettled_empty}
 use Rattle.summary_book.proofs.Here.{settled_of}
 use Rattle.component_keys.specs.Keys.{names_of}

@@ -8,7 +8,7 @@ use Rattle.shape_data.specs.declared.answer.Key.{Key}
 use Rattle.component_keys.specs.Components.{same_names}
 use Rattle.component_keys.specs.Keys.{names_of}
 use Rattle.component_keys.proofs.Basics.{found, not_none, some_same}
-use Rattle.claim_core.specs.Views.{Solution}
+use Rattle.claim_core.specs.Views.{Solution, solution_of}
 use Rattle.claim_laws.specs.Logs.{IsLegal, replay, settled_at}
 use Rattle.claim_laws.specs.World.{Event, Slot, World, slot_of, standings}
 use Rattle.claim_laws.proofs.Core.{slots_solve}
@@ -16,7 +16,7 @@ use Rattle.claim_laws.proofs.Defined.{standings_as_defined}
 use Rattle.claim_laws.proofs.Invariant.{all_at}
 use Rattle.claim_laws.proofs.Steps.{settled_slot}
 use Rattle.summary_book.specs.Next.{slots_by}
-use Rattle.summary_book.specs.Views.{slot_solution, solution_of}
+use Rattle.summary_book.specs.Views.{slot_solution}
 use Rattle.summary_book.proofs.Here.{settled_stands}
 
 -- the slot of a settled component is one of the slots

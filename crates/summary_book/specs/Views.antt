@@ -1,7 +1,6 @@
 -- What contracts see of a book.
 use Rattle.std.specs.Prelude.{List, ◌==◌, ◌&&◌, Bool}
 use Rattle.std.specs.List.{list_any}
-use Rattle.shape_data.specs.declared.answer.Kept.{Kept}
 use Rattle.component_keys.specs.Tests.{key_test}
 use Rattle.claim_core.specs.Views.{Claimed, Solution}
 use Rattle.claim_laws.specs.World.{World, Event, Slot, Out}
@@ -19,10 +18,6 @@ is_claim claim out = out.number == claim.number && key_test.0 out.key claim.key
 abbrev pub is_own : World → Claimed → Bool
 is_own world claim = list_any (is_claim claim) world.out
 
--- a key with its answer
-abbrev pub solution_of : Kept → Solution
-solution_of kept = record { key = kept.key.value; answer = kept.answer.value }
-
--- the same of a slot
+-- a slot's key with its answer
 abbrev pub slot_solution : Slot → Solution
 slot_solution slot = record { key = slot.key; answer = slot.answer }

@@ -4,7 +4,7 @@ ghost use Rattle.std.specs.List.{count_by, range_with_len};
 ghost use Rattle.call_components.specs.Reaching.{marked};
 ghost use Rattle.claim_core.specs.Sizes.{IsJobKey};
 ghost use Rattle.claim_core.specs.Told.{events_of};
-ghost use Rattle.claim_core.specs.Views.{IsSolution};
+ghost use Rattle.claim_core.specs.Views.{IsSolution, solution_of};
 ghost use Rattle.claim_laws.specs.Invariant.{IsDueAt};
 ghost use Rattle.claim_laws.specs.Logs.{IsLegal, replay, settled_at};
 ghost use Rattle.key_laws.specs.Storing.{IsStorableWorld};
@@ -15,7 +15,7 @@ ghost use Rattle.summary_book.specs.Aims.{aimed};
 ghost use Rattle.summary_book.specs.Book.{AreMetMarks, count_marked, met_by, met_events};
 ghost use Rattle.summary_book.specs.Next.{IfYours, IsAllAnswer, IsNext, IsSettled, count_aimed, events_by, slots_by};
 ghost use Rattle.summary_book.specs.Settled.{IsMarkedAnew, StayMarked};
-ghost use Rattle.summary_book.specs.Views.{is_own, slot_solution, solution_of};
+ghost use Rattle.summary_book.specs.Views.{is_own, slot_solution};
 
 use crate::aims::Aim;
 use crate::answers::{Met, Next};

@@ -11,7 +11,8 @@ ghost use Rattle.summary_book.specs.Next.{IsSettled, slots_by};
 ghost use Rattle.summary_book.specs.Held.{IsPlaceOf};
 ghost use Rattle.summary_book.specs.Places.{answer_at, key_at};
 ghost use Rattle.summary_book.specs.Rows.{AreOut, IsOutRow, IsSight};
-ghost use Rattle.summary_book.specs.Views.{is_claim, slot_solution, solution_of};
+ghost use Rattle.summary_book.specs.Views.{is_claim, slot_solution};
+ghost use Rattle.claim_core.specs.Views.{solution_of};
 
 use crate::places::{key_at, slot_at};
 use crate::rows::{OutRow, Parts, SlotRow};

@@ -6,8 +6,8 @@ use Rattle.std.proofs.lemmas.List.Elements.{All-cons, All-head, All-nil, All-tai
 use Rattle.shape_data.specs.declared.answer.Answer.{Answer}
 use Rattle.shape_data.specs.declared.answer.Kept.{Kept}
 use Rattle.shape_data.specs.declared.answer.Key.{Key}
-use Rattle.claim_core.specs.Views.{Solution}
-use Rattle.store_json.specs.Entries.{solution_of, IsReadEntry}
+use Rattle.claim_core.specs.Views.{Solution, solution_of}
+use Rattle.store_json.specs.Entries.{IsReadEntry}
 use Rattle.summary_store.specs.Loading.{AreContents, AreChecked, no_entry, with_inductive, with_other, Contents, IsInductive, IsLoadedEntry}
 
 -- ---- one more entry at the end

@@ -7,12 +7,12 @@ use Rattle.std.specs.declared.result.Result.TheVariants.{Ok, Err}
 use Rattle.std.proofs.Common.{inl, inr, refl, ap, ◌∙◌, subst}
 use Rattle.std.proofs.lemmas.List.Elements.{All-cons, All-head, All-nil, All-tail, All-weaker}
 use Rattle.shape_data.specs.declared.answer.Kept.{Kept}
-use Rattle.claim_core.specs.Views.{Solution}
+use Rattle.claim_core.specs.Views.{Solution, solution_of}
 use Rattle.certificate_laws.specs.Gaps.{first_gap}
 use Rattle.certificate_laws.specs.Laws.{InductiveIsValid, NoGap}
 use Rattle.certificate_laws.specs.Limits.{analysable, AnswerWidens, KeyWidens, StorableIsAnalysable}
 use Rattle.shape_data.specs.WellFormed.{storable, widest}
-use Rattle.store_json.specs.Entries.{as_stored, solution_of, IsReadEntry, IsStorable}
+use Rattle.store_json.specs.Entries.{as_stored, IsReadEntry, IsStorable}
 use Rattle.store_json.specs.Laws.{OneReading, SomeReading, StoresAreReadBack}
 use Rattle.store_json.specs.Reading.{IsRead}
 use Rattle.store_json.specs.declared.reading.Unread.{Unread}

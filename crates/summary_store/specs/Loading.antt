@@ -3,9 +3,9 @@ use Rattle.std.specs.Prelude.{ℕ, suc, List, [], ◌∷◌, map, All}
 use Rattle.std.specs.declared.result.Result.{Result}
 use Rattle.std.specs.declared.result.Result.TheVariants.{Ok, Err}
 use Rattle.shape_data.specs.declared.answer.Kept.{Kept}
-use Rattle.claim_core.specs.Views.{Solution}
+use Rattle.claim_core.specs.Views.{Solution, solution_of}
 use Rattle.certificate_laws.specs.Inductive.{Inductive}
-use Rattle.store_json.specs.Entries.{solution_of, IsReadEntry}
+use Rattle.store_json.specs.Entries.{IsReadEntry}
 use Rattle.store_json.specs.Reading.{IsRead}
 use Rattle.store_json.specs.declared.reading.Unread.{Unread}
 use Rattle.summary_store.specs.declared.loading.Loaded.{Loaded}

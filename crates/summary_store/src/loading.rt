@@ -1,6 +1,7 @@
 //! The reading and writing of stores.
 ghost use Rattle.std.specs.Prelude.{◌≡◌, ◌<◌, ◌↔◌, length, map, All, IfOk, IsTrue};
-ghost use Rattle.store_json.specs.Entries.{solution_of, IsReadEntry, IsStorable};
+ghost use Rattle.store_json.specs.Entries.{IsReadEntry, IsStorable};
+ghost use Rattle.claim_core.specs.Views.{solution_of};
 ghost use Rattle.store_json.specs.Texts.{store_text};
 ghost use Rattle.summary_store.specs.Loading.{contents_of, AreLoaded, IsInductive, IsLeftOf, IsLoaded};
 

@@ -21,7 +21,8 @@ use Rattle.summary_book.specs.declared.aims.Aim.{Aim}
 use Rattle.summary_book.specs.Aims.{aimed}
 use Rattle.summary_book.specs.Book.{met_by, met_events}
 use Rattle.summary_book.specs.Next.{IsNext, events_by, slots_by}
-use Rattle.summary_book.specs.Views.{slot_solution, solution_of}
+use Rattle.summary_book.specs.Views.{slot_solution}
+use Rattle.claim_core.specs.Views.{solution_of}
 use Rattle.worker_pool.specs.Entries.{AreEntries}
 use Rattle.worker_pool.specs.declared.turn.Turn.{Turn}
 use Rattle.worker_pool.specs.declared.turn.Turn.TheVariants as turn

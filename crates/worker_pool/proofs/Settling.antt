@@ -14,7 +14,8 @@ use Rattle.claim_laws.proofs.Core.{slots_were_published}
 use Rattle.claim_laws.proofs.Steps.{settled_slot}
 use Rattle.claim_laws.proofs.Still.{standings_apart, standings_known}
 use Rattle.summary_book.specs.Next.{slots_by}
-use Rattle.summary_book.specs.Views.{slot_solution, solution_of}
+use Rattle.summary_book.specs.Views.{slot_solution}
+use Rattle.claim_core.specs.Views.{solution_of}
 use Rattle.summary_book.proofs.Here.{settled_stands}
 
 -- ---- lists

@@ -10,10 +10,9 @@ use Rattle.shape_data.specs.declared.answer.Kept.{Kept}
 use Rattle.shape_data.specs.declared.answer.Key.{Key}
 use Rattle.shape_data.specs.declared.program.Program.{Program}
 use Rattle.component_keys.specs.Keys.{Component, Outer, key_over, program_components, specs_in}
-use Rattle.claim_core.specs.Views.{Solution}
+use Rattle.claim_core.specs.Views.{Solution, solution_of}
 use Rattle.summary_book.specs.declared.aims.Aim.{Aim}
 use Rattle.summary_book.specs.Aims.{aimed}
-use Rattle.summary_book.specs.Views.{solution_of}
 use Rattle.worker_pool.specs.Entries.{AreEntries}
 
 -- the numbers of the components that an aim reaches, callees first

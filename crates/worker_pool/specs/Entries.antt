@@ -4,13 +4,13 @@ use Rattle.shape_data.specs.declared.answer.Answer.{Answer}
 use Rattle.shape_data.specs.declared.answer.Kept.{Kept}
 use Rattle.shape_data.specs.declared.answer.Key.{Key}
 use Rattle.shape_data.specs.declared.program.Program.{Program}
-use Rattle.claim_core.specs.Views.{IsSolution}
+use Rattle.claim_core.specs.Views.{IsSolution, solution_of}
 use Rattle.claim_laws.specs.World.{Event}
 use Rattle.claim_laws.specs.Logs.{IsLegal, replay}
 use Rattle.summary_book.specs.declared.aims.Aim.{Aim}
 use Rattle.summary_book.specs.Aims.{aimed}
 use Rattle.summary_book.specs.Next.{IsSettled, slots_by}
-use Rattle.summary_book.specs.Views.{slot_solution, solution_of}
+use Rattle.summary_book.specs.Views.{slot_solution}
 
 -- The entries of the components that an aim reaches in a program, callees first. There is a legal log that leaves the program present and
 -- each of these components settled, and the entries are the keys and answers of their slots. Each answer is right for its key

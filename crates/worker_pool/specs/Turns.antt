@@ -9,7 +9,8 @@ use Rattle.claim_laws.specs.Logs.{published, replay}
 use Rattle.summary_book.specs.Aims.{aimed}
 use Rattle.summary_book.specs.Book.{met_by, met_events}
 use Rattle.summary_book.specs.Next.{IsNext, events_by, slots_by}
-use Rattle.summary_book.specs.Views.{slot_solution, solution_of}
+use Rattle.summary_book.specs.Views.{slot_solution}
+use Rattle.claim_core.specs.Views.{solution_of}
 use Rattle.summary_book.specs.declared.aims.Aim.{Aim}
 use Rattle.summary_book.specs.declared.answers.Next.{Next}
 use Rattle.summary_book.specs.declared.answers.Next.TheVariants as next

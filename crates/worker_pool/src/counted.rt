@@ -7,7 +7,8 @@ ghost use Rattle.shape_data.specs.WellFormed.{IsProgram};
 ghost use Rattle.summary_book.specs.Aims.{aimed};
 ghost use Rattle.summary_book.specs.Book.{met_by, met_events};
 ghost use Rattle.summary_book.specs.Next.{IsNext, IsSettled, events_by, slots_by};
-ghost use Rattle.summary_book.specs.Views.{slot_solution, solution_of};
+ghost use Rattle.summary_book.specs.Views.{slot_solution};
+ghost use Rattle.claim_core.specs.Views.{solution_of};
 ghost use Rattle.worker_pool.specs.Ended.{IsGivenBack, IsPublished};
 ghost use Rattle.worker_pool.specs.Entries.{AreEntries};
 

@@ -41,6 +41,11 @@ impl<'g, J: Job + Drop, G: Gate, A: Ledger, B: Ledger> Desk<'g, J, G, A, B> {
         }
     }
 
+    /// The gate that each claim's solving enters.
+    pub fn gate(&self) -> &'g G {
+        self.gate
+    }
+
     /// Makes a program the present one, and wakes the workers.
     pub fn start<R: Wait>(
         &self,

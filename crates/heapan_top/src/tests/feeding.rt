@@ -1,7 +1,7 @@
 //! Reporters are fed the entries of each report, when its reply was written.
 use super::stack::STACK;
 use super::worked::STACK_REPLY;
-use super::{put_as, steady};
+use super::{Nowhere, put_as, steady};
 use crate::{Outcome, Status, run};
 use io_ports::{MemorySink, OpenGate, SteadySink};
 use reporters::{CountReporter, Entry, Go, MemoryReporter, Reporter, TakeFault};
@@ -68,6 +68,7 @@ fn kept<R: Threads + Wait + Sync + Abort>(
         &["session"],
         &mut source,
         &mut sink,
+        &mut Nowhere,
         &OpenGate,
         reporters,
     );
@@ -104,6 +105,7 @@ fn one_that_stops_is_dropped_and_the_other_has_all(rt: HostRuntime) -> Result<()
             &["session"],
             &mut source,
             &mut sink,
+            &mut Nowhere,
             &OpenGate,
             reporters,
         );
@@ -173,6 +175,7 @@ fn one_that_fails_is_dropped_and_the_reply_is_the_same(rt: HostRuntime) -> Resul
         &["session"],
         &mut source,
         &mut sink,
+        &mut Nowhere,
         &OpenGate,
         reporters,
     );
@@ -199,6 +202,7 @@ fn a_report_that_is_not_written_is_fed_to_nobody(rt: HostRuntime) -> Result<(), 
         &["session"],
         &mut source,
         &mut sink,
+        &mut Nowhere,
         &OpenGate,
         reporters,
     );

@@ -153,11 +153,8 @@ g3 gen.c 5
     // There is no store to save to.
     (
         "report\nsave\nreport\n",
-        "total 0 0 0\nmalformed 2 7\n",
-        Status::Refused {
-            command: 2,
-            offset: 7,
-        },
+        "total 0 0 0\nerror 147\ntotal 0 0 0\n",
+        Status::Done,
     ),
     // The last report decides how the call ends, and only a report does.
     (

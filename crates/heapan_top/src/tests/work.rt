@@ -8,6 +8,22 @@ pub const PEEK_THRICE: (&[u8], &[u8]) = (
     b"RCPCPRCP",
 );
 
+/// The three files that are put there.
+pub const PEEKS: [(&str, &[u8]); 3] = [
+    (
+        "a.c",
+        b"struct node { int data; struct node *next; };\nint get(struct node *x) { return x->data; }\nint peek(struct node *x) { return get(x); }\n",
+    ),
+    (
+        "a.c",
+        b"struct node { int data; struct node *next; };\nint get(struct node *x) { /* c */ return x->data; }\nint peek(struct node *x) { return get(x); }\n",
+    ),
+    (
+        "a.c",
+        b"struct node { int data; struct node *next; };\nint get(struct node *x) { int d = x->data; return d; }\nint peek(struct node *x) { return get(x); }\n",
+    ),
+];
+
 const STARTED: (&[u8], &[u8]) = (
     b"put a.c 134\nstruct node { int data; struct node *next; };\nint get(struct node *x) { return x->data; }\nint peek(struct node *x) { return get(x); }\nstart\n",
     b"R",
@@ -33,7 +49,7 @@ const PAIR_TWICE: (&[u8], &[u8]) = (
     b"RCP",
 );
 
-const CHANGED_AND_BACK: (&[u8], &[u8]) = (
+pub const CHANGED_AND_BACK: (&[u8], &[u8]) = (
     b"put a.c 89\nstruct node { int data; struct node *next; };\nint get(struct node *x) { return x->data; }\nstart\nput a.c 102\nstruct node { int data; struct node *next; };\nvoid walk(struct node *x) { while (x) { x = x->next; } }\nstart\nput a.c 89\nstruct node { int data; struct node *next; };\nint get(struct node *x) { return x->data; }\nreport\n",
     b"RRRCP",
 );

@@ -2,7 +2,7 @@
 use super::stack::STACK;
 use super::work::PEEK_THRICE;
 use super::worked::STACK_REPLY;
-use super::{called, count_letter, put_as, steady};
+use super::{Nowhere, called, count_letter, put_as, steady};
 use crate::{Outcome, Status, run};
 use io_ports::{Gate, SteadySink};
 use std::alloc::{AllocError, Global};
@@ -97,6 +97,7 @@ fn the_leader_and_each_worker_solve_at_once(rt: HostRuntime) -> Result<(), Fail>
             &words,
             &mut source,
             &mut sink,
+            &mut Nowhere,
             &gate,
             Vec::new(alloc),
         );
@@ -156,6 +157,7 @@ fn a_storm_of_workers_and_edits_is_answered_as_by_none(rt: HostRuntime) -> Resul
         WORDS[4],
         &mut source,
         &mut beside,
+        &mut Nowhere,
         &gate,
         Vec::new(alloc),
     );

@@ -2,7 +2,7 @@
 use Rattle.std.proofs.Common.{map, take}
 use Rattle.std.specs.declared.option.Option.TheVariants.{Some}
 use Rattle.serde_json.specs.View.{view}
-use Rattle.store_json.specs.Entries.{solution_of}
+use Rattle.claim_core.specs.Views.{solution_of}
 use Rattle.store_json.specs.Reading.{AreEntriesOf}
 use Rattle.store_json.proofs.entries.read_entries.Given as goal
 

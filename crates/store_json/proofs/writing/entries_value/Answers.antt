@@ -3,7 +3,7 @@ use Rattle.std.proofs.lemmas.List.{take_all}
 use Rattle.serde_json.proofs.Views.{view-Array}
 use Rattle.shape_data.specs.declared.answer.Kept.{Kept}
 use Rattle.flow_json.specs.Forms.{tuple}
-use Rattle.store_json.specs.Entries.{solution_of}
+use Rattle.claim_core.specs.Views.{solution_of}
 use Rattle.store_json.specs.Texts.{entry_data}
 use Rattle.store_json.proofs.EntryLemmas.{each_written}
 use Rattle.store_json.proofs.writing.entries_value.Goals as goal

@@ -2,7 +2,7 @@
 use Rattle.std.proofs.Common.{◌≡◌, map, take}
 use Rattle.serde_json.specs.View.{view}
 use Rattle.shape_data.specs.declared.answer.Kept.{Kept}
-use Rattle.store_json.specs.Entries.{solution_of}
+use Rattle.claim_core.specs.Views.{solution_of}
 use Rattle.store_json.specs.Texts.{entry_data}
 use Rattle.store_json.proofs.writing.entries_value.Given as goal
 

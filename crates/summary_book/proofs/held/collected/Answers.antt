@@ -4,7 +4,8 @@ use Rattle.std.specs.List.{filter, filter_map, range_with_len}
 use Rattle.call_components.specs.Reaching.{marked}
 use Rattle.claim_core.specs.Told.{events_of}
 use Rattle.claim_laws.specs.Logs.{replay, settled_at}
-use Rattle.summary_book.specs.Views.{slot_solution, solution_of}
+use Rattle.summary_book.specs.Views.{slot_solution}
+use Rattle.claim_core.specs.Views.{solution_of}
 use Rattle.summary_book.proofs.Collecting.{collected_more, filter_range_out, has_answer, has_key, kept_at, no_slot}
 use Rattle.summary_book.proofs.Counts.{standings_count}
 use Rattle.summary_book.proofs.Rowed.{there_row}

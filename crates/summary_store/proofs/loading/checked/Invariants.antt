@@ -1,6 +1,6 @@
 -- What is left of the entries before, and how many others there were.
 use Rattle.std.proofs.Common.{map, take}
-use Rattle.store_json.specs.Entries.{solution_of}
+use Rattle.claim_core.specs.Views.{solution_of}
 use Rattle.summary_store.specs.Loading.{AreContents}
 use Rattle.summary_store.proofs.CheckLaws.{contents}
 use Rattle.summary_store.proofs.loading.checked.Given as goal

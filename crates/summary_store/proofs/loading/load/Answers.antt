@@ -2,7 +2,7 @@ use Rattle.std.specs.Prelude.{map}
 use Rattle.std.proofs.Common.{arith}
 use Rattle.std.proofs.lemmas.List.{length-map}
 use Rattle.std.proofs.lemmas.Result.{IfOk-weaker}
-use Rattle.store_json.specs.Entries.{solution_of}
+use Rattle.claim_core.specs.Views.{solution_of}
 use Rattle.summary_store.specs.Loading.{contents_of, AreLoaded, IsLeftOf}
 use Rattle.summary_store.specs.declared.loading.Loaded.{Loaded}
 use Rattle.summary_store.proofs.LoadLaws.{entries_are_read, left_is_good}

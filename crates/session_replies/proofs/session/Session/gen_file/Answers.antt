@@ -21,7 +21,7 @@ returns-clause-answers g c =
 
 pub returns-in-None-clause-answers : goal.returns-in-None-clause-answers
 returns-in-None-clause-answers g c =
-    IfOk-weaker c.total.result (λ text. (answer : Result Program Refused) × Reads c.place.new.self.files answer × (text.items ≡ text_of program_total answer))
+    IfOk-weaker c.total.result (λ text. (answer : Result Program Refused) × Reads c.place.new.self.files answer × (text.items ≡ text_of (program_total c.place.new.self.setting.loaded) answer))
     (λ text. Answers c.args.self.now (command.Gen c.args.n) text.items c.total.new.self)
     (λ text said. gen_answers c.args.self.now c.place.new.self c.total.new.self c.args.n _ _ text.items said.0 c.in_ok-name.ensures c.in_ok-bytes.ensures (sym c.in-None.is ∙ c.in_ok-place.ensures.refusal)
     c.in_ok-place.ensures.present c.total.ensures.same said.1 said.2)

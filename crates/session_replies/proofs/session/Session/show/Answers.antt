@@ -1,11 +1,11 @@
 -- By what the files are.
-use Rattle.std.proofs.Common.{◌≡◌, ◌≤◌, Ok, Err, ap, is_some, subst, true}
+use Rattle.std.proofs.Common.{◌≡◌, ◌≤◌, ◌∙◌, Ok, Err, ap, is_some, subst, true}
 use Rattle.std.specs.List.{position}
 use Rattle.std.proofs.lemmas.Result.{IfOk-weaker}
 use Rattle.summary_book.specs.declared.aims.Aim.TheVariants.{One}
 use Rattle.session_lines.specs.declared.command.Command.TheVariants as command
 use Rattle.project_form.specs.Reads.{Reads}
-use Rattle.session_replies.specs.Answers.{Answers}
+use Rattle.session_replies.specs.Answers.{Answers, Present}
 use Rattle.session_replies.specs.Parts.{answer_in}
 use Rattle.session_replies.specs.Texts.{block_named, is_named, refused_line}
 use Rattle.session_replies.specs.Work.{IsWorked, count_reached}
@@ -15,10 +15,11 @@ use Rattle.session_replies.proofs.session.Session.show.Goals as goal
 
 pub returns-in-Whole-clause-answers : goal.returns-in-Whole-clause-answers
 returns-in-Whole-clause-answers g c =
-    IfOk-weaker c.block_text.result (λ text. text.items ≡ block_named c.args.name.now c.in-Whole.program.value)
+    IfOk-weaker c.block_text.result (λ text. text.items ≡ block_named c.loaded.result.now c.args.name.now c.in-Whole.program.value)
     (λ text. Answers c.args.self.now (command.Show c.args.name.now) text.items _)
     (λ text says. show_answers c.args.self.now c.in_ok-program.field-0 (Ok c.in-Whole.program.value) c.in_ok-program.ensures.found (ap answer_in c.in-Whole.is)
-    _ c.args.name.now text.items c.found.ensures.same says)
+    _ c.args.name.now text.items c.found.ensures.same
+    (says ∙ ap (λ loaded. block_named loaded c.args.name.now c.in-Whole.program.value) (c.loaded.ensures.value ∙ ap (λ (present : Present). present.setting.loaded) c.found.ensures.same)))
     c.block_text.ensures.text
 
 pub returns-in-Whole-clause-worked : goal.returns-in-Whole-clause-worked

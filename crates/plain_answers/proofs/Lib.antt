@@ -1,0 +1,4 @@
+mod Named
+mod Storing
+mod Tabled
+mod Called

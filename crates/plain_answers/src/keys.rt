@@ -1,0 +1,107 @@
+//! The keys of components, over what a table has of their callees.
+ghost use Rattle.std.specs.Prelude.{◌≡◌, ◌<◌, map, length, All, IfOk};
+ghost use Rattle.std.specs.List.{filter_map};
+ghost use Rattle.std.specs.Option.{option_copied};
+ghost use Rattle.bottom_up.specs.BottomUp.{specs_known};
+ghost use Rattle.component_keys.specs.Keys.{flows_of, specs_in};
+ghost use Rattle.composed_keys.specs.Rows.{component_value, outer_value};
+ghost use Rattle.composed_keys.specs.Used.{AreStructures};
+ghost use Rattle.plain_answers.specs.Table.{answer_at, callee_as, callee_over, entry_answer, key_by};
+
+use composed_keys::{Component, Outer, Structures, key_of};
+use shape_data::answer::{Answer, Callee, Kept, Key};
+use shape_data::program::{Flow, Program};
+use shape_data::symbolic::Spec;
+use shape_data::{Name, Row, copy_of};
+use std::alloc::{AllocError, Global};
+
+/// The answer of an entry, where there is one.
+fn answer_in(entry: &Option<Kept>) -> Option<&Answer>
+    ensures { option_copied result ≡ entry_answer entry.now }
+{
+    match entry {
+        Some(kept) => {
+            let answer: &Answer = &kept.answer;
+            Some(answer)
+        }
+        None => None,
+    }
+}
+
+/// The answer that a table has of a component.
+fn answer_of(table: &[Option<Kept>], component: u32) -> Option<&Answer>
+    ensures { option_copied result ≡ answer_at table.now component }
+{
+    match table.get(component as usize) {
+        Some(entry) => answer_in(entry),
+        None => None,
+    }
+}
+
+/// The specs that an answer has for the procedure of a name.
+fn specs_from(alloc: Global, answer: &Answer, name: &Name) -> Result<Row<Spec>, AllocError>
+    ensures { IfOk result (λ specs. specs ≡ specs_in answer.now name.now) }
+{
+    match answer.procs.iter().find(|summary| summary.name == *name) {
+        Some(summary) => Ok(copy_of(&summary.specs)?),
+        None => Ok(Row::new(alloc)),
+    }
+}
+
+/// The specs that the answer of a component has for the procedure of a name; none where there is no answer.
+fn specs_of(alloc: Global, answer: Option<&Answer>, name: &Name) -> Result<Row<Spec>, AllocError>
+    ensures { IfOk result (λ specs. specs ≡ specs_known (option_copied answer.entry) name.now) }
+{
+    match answer {
+        Some(answer) => specs_from(alloc, answer, name),
+        None => Ok(Row::new(alloc)),
+    }
+}
+
+/// A procedure as a callee, with the specs that its component's answer has for it.
+fn callee_of(alloc: Global, flow: &Flow, answer: Option<&Answer>) -> Result<Callee, AllocError>
+    ensures { IfOk result (λ callee. callee ≡ callee_as flow.now (option_copied answer.entry)) }
+{
+    Ok(Callee {
+        name: copy_of(&flow.name)?,
+        params: copy_of(&flow.params)?,
+        specs: specs_of(alloc, answer, &flow.name)?,
+    })
+}
+
+/// The procedures outside of a component as callees.
+fn callees_of(
+    alloc: Global,
+    program: &Program,
+    table: &[Option<Kept>],
+    outers: &[Outer],
+) -> Result<Row<Callee>, AllocError>
+    requires { All (λ outer. outer.number < length program.now.procs) outers.now }
+    ensures { IfOk result (λ callees. callees ≡ map (callee_over (answer_at table.now)) (filter_map (outer_value (flows_of program.now)) outers.now)) }
+{
+    let mut callees = Row::new(alloc);
+    for outer in outers {
+        let flow = &program.procs[outer.number as usize].flow;
+        let answer = answer_of(table, outer.component);
+        callees.push(callee_of(alloc, flow, answer)?)?;
+    }
+    Ok(callees)
+}
+
+/// The key of a component, over what a table has of its callees.
+pub fn key_in(
+    alloc: Global,
+    program: &Program,
+    structures: &Structures,
+    table: &[Option<Kept>],
+    row: &Component,
+) -> Result<Key, AllocError>
+    requires small { length program.now.structs < 4294967296 }
+    requires structures { AreStructures program.now.structs structures.now }
+    requires members { All (λ number. number < length program.now.procs) row.now.members.items }
+    requires outer { All (λ outer. outer.number < length program.now.procs) row.now.outer.items }
+    ensures { IfOk result (λ key. key ≡ key_by program.now.structs (answer_at table.now) (component_value (flows_of program.now) row.now)) }
+{
+    let callees = callees_of(alloc, program, table, &row.outer)?;
+    key_of(alloc, program, structures, &row.members, callees)
+}
