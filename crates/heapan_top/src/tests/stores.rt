@@ -1,4 +1,8 @@
 //! Sessions that have a store: what they save answers the next one, and bytes that are no store are told and answer nothing.
+ghost use Rattle.std.specs.Prelude.{IfOk};
+ghost use Rattle.shape_data.specs.Sizes.{HasProgramSizes};
+ghost use Rattle.shape_data.specs.WellFormed.{IsProgram};
+
 use super::stack::STACK;
 use super::work::{CHANGED_AND_BACK, PEEK_THRICE, PEEKS};
 use super::worked::STACK_REPLY;
@@ -231,7 +235,16 @@ impl Noting {
 }
 
 /// The program that one file is.
-fn program_of(alloc: Global, name: &str, file: &[u8]) -> Result<Arc<Program>, Fail> {
+fn program_of<R: Abort>(
+    rt: &R,
+    alloc: Global,
+    name: &str,
+    file: &[u8],
+) -> Result<Arc<Program>, Fail>
+    ensures formed { IfOk result (λ program. IsProgram program.value) }
+    ensures sizes { IfOk result (λ program. HasProgramSizes program.value) }
+{
+    assert!(rt; !name.is_empty() && name.len() <= 64);
     let mut project = Project::new(alloc);
     let name = Name::of(alloc, name.as_bytes())?;
     let _put = project.put(alloc, &name, Vec::from_slice(alloc, file)?);
@@ -314,7 +327,7 @@ fn logs<R: Threads + Wait + Sync + Abort>(
     );
     assert!(rt; is_noted(&gate, log.as_slice()));
     for (name, file) in files {
-        let program = program_of(alloc, name, file)?;
+        let program = program_of(rt, alloc, name, file)?;
         let entries = plain(
             rt,
             alloc,
@@ -379,7 +392,7 @@ fn what_is_reported_was_claimed_and_published(rt: HostRuntime) -> Result<(), Fai
 #[test]
 fn the_stack_module_is_answered_plainly(rt: HostRuntime) -> Result<(), Fail> {
     let alloc = rt.alloc();
-    let program = program_of(alloc, "stack.c", STACK)?;
+    let program = program_of(&rt, alloc, "stack.c", STACK)?;
     let none = LoadedAnswers::none(alloc);
     let gate = Noting::new(alloc)?;
     let entries = plain(&rt, alloc, &none, &program, &Aim::All, &gate)?;
