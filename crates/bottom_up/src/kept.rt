@@ -1,5 +1,5 @@
 //! The summaries of a program's procedures from answers that are at hand, one for each component, callees first.
-ghost use Rattle.std.specs.Prelude.{◌≡◌, All, IfOk, IsSome};
+ghost use Rattle.std.specs.Prelude.{◌≡◌, length, All, IfOk, IsSome};
 ghost use Rattle.std.specs.List.{filter_map, find};
 ghost use Rattle.std.specs.Option.{option_copied};
 ghost use Rattle.std.specs.Str.{bytes_eq};
@@ -17,7 +17,7 @@ use shape_data::{Name, Row, copy_of};
 use std::alloc::{AllocError, Global};
 
 /// The summary at a place.
-fn kept_summary<'a>(kept: &'a [Kept], place: &Place) -> &'a ProcSummary
+pub fn kept_summary<'a>(kept: &'a [Kept], place: &Place) -> &'a ProcSummary
     requires { IsSome (summary_in (answers_kept kept.now) place.now) }
     ensures { summary_in (answers_kept kept.now) place.now ≡ Some result.now }
 {
@@ -40,6 +40,24 @@ fn kept_summaries(
     Ok(made)
 }
 
+/// Where the summaries of a program's procedures stand, in their order, among the answers of its components, each key having a right one.
+pub fn summary_places(
+    alloc: Global,
+    program: &Program,
+    kept: &[Kept],
+) -> Result<Vec<Place>, AllocError>
+    requires program { IsProgram program.now }
+    requires right { (answer_of : Key → Answer) × AreRight answer_of × (answers_kept kept.now ≡ answers_in (known_by answer_of program.now)) }
+    ensures one_each { IfOk result (λ places. length places.items ≡ length program.now.procs) }
+    ensures there { IfOk result (λ places. All (λ place. IsSome (summary_in (answers_kept kept.now) place)) places.items) }
+    ensures summaries { (answer_of : Key → Answer) → AreRight answer_of → answers_kept kept.now ≡ answers_in (known_by answer_of program.now) →
+        IfOk result (λ places. filter_map (summary_in (answers_kept kept.now)) places.items ≡ summaries_for (known_by answer_of program.now) program.now.procs) }
+{
+    let rows = components_of(alloc, program)?;
+    let places = places_of(alloc, program.procs.len(), &rows)?;
+    Ok(places)
+}
+
 /// The summaries of a program's procedures, in their order, where the answers are those of its components, each key having a right one.
 pub fn summaries_of(
     alloc: Global,
@@ -51,8 +69,7 @@ pub fn summaries_of(
     ensures { (answer_of : Key → Answer) → AreRight answer_of → answers_kept kept.now ≡ answers_in (known_by answer_of program.now) →
         IfOk result (λ made. made ≡ summaries_for (known_by answer_of program.now) program.now.procs) }
 {
-    let rows = components_of(alloc, program)?;
-    let places = places_of(alloc, program.procs.len(), &rows)?;
+    let places = summary_places(alloc, program, kept)?;
     kept_summaries(alloc, kept, &places)
 }
 

@@ -8,4 +8,5 @@ pub mod kept;
 pub mod laws;
 pub mod places;
 
-pub use kept::{summaries_of, summary_of};
+pub use kept::{kept_summary, summaries_of, summary_of, summary_places};
+pub use places::Place;

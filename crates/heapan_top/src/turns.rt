@@ -16,12 +16,13 @@ use crate::laws::{one_reply, some_reply};
 use crate::status::Status;
 use io_ports::{Gate, KeepFault, Keeper, Sink, SinkFault, Source, write_all};
 use report_text::reasons::push_decimal;
-use reporters::{Entry, Reporter, feed_all};
+use reporters::{Reporter, feed_all};
 use session_lines::laws::one_first;
 use session_lines::{Command, Commands, Taken, next_command};
 use session_replies::Session;
 use session_replies::laws::{answers_keep_limits, one_answer};
 use session_replies::reply::Reply;
+use session_replies::told::Told;
 use solve_job::SolveJob;
 use std::alloc::{AllocError, Global};
 use std::sync::Wait;
@@ -123,7 +124,7 @@ fn write_reply<R: Wait, K: Sink, P: Keeper, G: Gate, A: Ledger, B: Ledger>(
     keeper: &mut P,
     path: Option<&str>,
     asked: Command,
-) -> Result<Vec<Entry>, Status>
+) -> Result<Vec<Told>, Status>
     requires answered { IsAnswered asked }
     requires allowed { IsCommand asked }
     requires named { session.old.setting.saves ≡ is_some path }
@@ -184,9 +185,10 @@ fn reply<R: Wait, K: Sink, P: Keeper, G: Gate, A: Ledger, B: Ledger>(
 {
     match write_reply(rt, alloc, desk, hands, session, sink, keeper, path, asked) {
         Ok(entries) => {
-            for entry in entries.as_slice() {
-                feed_all(alloc, reporters, entry);
+            for told in entries.as_slice() {
+                feed_all(alloc, reporters, told.entry());
             }
+            session.keep(entries);
             None
         }
         Err(status) => Some(status),

@@ -6,8 +6,10 @@ pub mod blocks;
 pub mod laws;
 pub mod reasons;
 pub mod reports;
+pub mod summed;
 pub mod totals;
 
 pub use blocks::{block, push_block};
 pub use reports::push_report;
+pub use summed::HasSummary;
 pub use totals::{count_none, push_total, total};

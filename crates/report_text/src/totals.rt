@@ -1,41 +1,61 @@
 //! The total line of a report, of summaries or of answers.
-ghost use Rattle.std.specs.Prelude.{◌≡◌, ◌*◌, ◌≤◌, ◌^◌, ◌++◌, length, All, IfOk, OnOk};
+ghost use Rattle.std.specs.Prelude.{◌≡◌, ◌*◌, ◌≤◌, ◌^◌, ◌++◌, length, map, All, IfOk, OnOk};
 ghost use Rattle.std.specs.List.{flat_map};
 ghost use Rattle.shape_types.specs.declared.answer.Answer.{Answer};
 ghost use Rattle.shape_data.specs.WellFormed.{IsCountable};
 ghost use Rattle.report_text.specs.Parts.{AreCountable};
 ghost use Rattle.report_text.specs.Report.{none_count, spec_count, total_line, total_text};
 
+use crate::summed::HasSummary;
 use itoa::Buffer;
-use shape_data::answer::{Answer, ProcSummary};
+use shape_data::answer::Answer;
 use std::alloc::{AllocError, Global};
 use std::sync::Arc;
 
 /// How many specs the summaries have.
-fn count_specs(summaries: &[ProcSummary]) -> u128
-    requires { AreCountable summaries.now }
-    ensures exact { result ≡ spec_count summaries.now }
+fn count_specs<S: HasSummary>(summaries: &[S]) -> u128
+    requires { AreCountable (map S.its summaries.now) }
+    ensures exact { result ≡ spec_count (map S.its summaries.now) }
     ensures within { result ≤ length summaries.now * 4294967295 }
 {
     let mut count = 0u128;
-    for summary in summaries {
-        count += summary.specs.len() as u128;
+    for one in summaries {
+        count += one.summary().specs.len() as u128;
     }
     count
 }
 
 /// How many of the summaries have no spec.
-pub fn count_none(summaries: &[ProcSummary]) -> usize
-    ensures exact { result ≡ none_count summaries.now }
+pub fn count_none<S: HasSummary>(summaries: &[S]) -> usize
+    ensures exact { result ≡ none_count (map S.its summaries.now) }
     ensures within { result ≤ length summaries.now }
 {
     let mut count = 0;
-    for summary in summaries {
-        if summary.specs.is_empty() {
+    for one in summaries {
+        if one.summary().specs.is_empty() {
             count += 1;
         }
     }
     count
+}
+
+/// How many specs an answer has.
+#[tactic(auto, using(crate::proofs::Having::its_own))]
+fn specs_in(answer: &Answer) -> u128
+    requires { AreCountable answer.now.procs }
+    ensures exact { result ≡ spec_count answer.now.procs }
+    ensures within { result ≤ length answer.now.procs * 4294967295 }
+{
+    count_specs(answer.procs.as_slice())
+}
+
+/// How many of an answer's procedures have no spec.
+#[tactic(auto, using(crate::proofs::Having::its_own))]
+fn none_in(answer: &Answer) -> usize
+    ensures exact { result ≡ none_count answer.now.procs }
+    ensures within { result ≤ length answer.now.procs }
+{
+    count_none(answer.procs.as_slice())
 }
 
 /// Appends the line of these totals.
@@ -58,9 +78,9 @@ fn push_line(text: &mut Vec<u8>, procs: u128, specs: u128, none: u128) -> Result
 /// # Errors
 ///
 /// Only want of memory; what the text then is, is not said.
-pub fn push_total(text: &mut Vec<u8>, summaries: &[ProcSummary]) -> Result<(), AllocError>
-    requires { AreCountable summaries.now }
-    ensures { OnOk result (text.new.items ≡ text.old.items ++ total_text summaries.now) }
+pub fn push_total<S: HasSummary>(text: &mut Vec<u8>, summaries: &[S]) -> Result<(), AllocError>
+    requires { AreCountable (map S.its summaries.now) }
+    ensures { OnOk result (text.new.items ≡ text.old.items ++ total_text (map S.its summaries.now)) }
 {
     push_line(
         text,
@@ -81,10 +101,9 @@ pub fn total(alloc: Global, answers: &[Arc<Answer>]) -> Result<Vec<u8>, AllocErr
     let mut specs = 0u128;
     let mut none = 0u128;
     for answer in answers {
-        let summaries = answer.procs.as_slice();
-        procs += summaries.len() as u128;
-        specs += count_specs(summaries);
-        none += count_none(summaries) as u128;
+        procs += answer.procs.len() as u128;
+        specs += specs_in(answer);
+        none += none_in(answer) as u128;
     }
     let mut text = Vec::new(alloc);
     push_line(&mut text, procs, specs, none)?;

@@ -1,5 +1,5 @@
 -- What reporters are fed behind a report.
-use Rattle.std.specs.Prelude.{◌≢◌, Ok, Err, List, [], ◌∷◌}
+use Rattle.std.specs.Prelude.{◌≡◌, ◌≢◌, Ok, Err, Option, Some, List, [], ◌∷◌}
 use Rattle.reporters.specs.declared.reporter.Entry.{Entry}
 use Rattle.shape_data.specs.declared.answer.ProcSummary.{ProcSummary}
 use Rattle.shape_data.specs.declared.program.Proc.{Proc}
@@ -15,6 +15,14 @@ use Rattle.session_replies.specs.Answers.{Present}
 -- a procedure's place, with its summary
 abbrev pub entry_of : Proc → ProcSummary → Entry
 entry_of proc summary = record { file = proc.file; line = proc.line; summary = summary }
+
+-- the summary that an entry has
+abbrev pub summary_told : Entry → ProcSummary
+summary_told entry = entry.summary
+
+-- it is the entry of the procedure, with this summary
+abbrev pub IsEntryOf : Proc → Option ProcSummary → Entry → Type 0
+IsEntryOf proc summary entry = (summary ≡ Some entry.summary) × (entry ≡ entry_of proc entry.summary)
 
 -- one for each procedure, in their order
 abbrev pub entries_over : List Proc → List ProcSummary → List Entry

@@ -1,12 +1,13 @@
 //! What is known of programs. The desk has each component that an aim reaches answered under its key, callees first, unless it is settled
 //! already. Where what it then answers agrees with the loaded entries, it is what an analysis over these would answer; where it doesn't,
 //! that analysis is made here.
-ghost use Rattle.std.specs.Prelude.{◌≡◌, ◌≤◌, Some, true, is_some, All, IfOk, OnOk};
+ghost use Rattle.std.specs.Prelude.{◌≡◌, ◌≤◌, Some, true, is_some, map, All, IfOk, OnOk};
 ghost use Rattle.std.specs.List.{position};
 ghost use Rattle.bottom_up.specs.BottomUp.{program_summaries};
 ghost use Rattle.loaded_answers.specs.Lookup.{lookup};
 ghost use Rattle.claim_core.specs.Views.{solution_of, solutions_of};
 ghost use Rattle.report_text.specs.Parts.{AreReportable, IsPrintable};
+ghost use Rattle.session_replies.specs.Entries.{program_entries, summary_told};
 ghost use Rattle.session_replies.specs.Known.{named_summary};
 ghost use Rattle.session_replies.specs.Texts.{is_named, program_store};
 ghost use Rattle.session_replies.specs.Work.{count_reached};
@@ -17,8 +18,9 @@ ghost use Rattle.solve_job.specs.Solves.{IsStoredEntry};
 ghost use Rattle.store_json.specs.Entries.{IsStorable};
 ghost use Rattle.summary_book.specs.declared.aims.Aim.TheVariants as aim;
 
+use crate::told::{Told, told_of};
 use bottom_up::laws::each_is_reported;
-use bottom_up::{summaries_of, summary_of};
+use bottom_up::{summaries_of, summary_of, summary_places};
 use io_ports::Gate;
 use loaded_answers::{LoadedAnswers, agrees};
 use plain_answers::laws::stored_are_right;
@@ -90,6 +92,36 @@ pub fn summaries<R: Wait, G: Gate, A: Ledger, B: Ledger>(
     let all = Aim::All;
     let kept = answers_for(rt, alloc, desk, hands, loaded, program, &all)?;
     summaries_of(alloc, program, &kept)
+}
+
+/// What is told of the procedures of a program, in their order. What was not known yet is solved; what was told before is taken over where
+/// it stands in the same answers.
+pub fn entries<R: Wait, G: Gate, A: Ledger, B: Ledger>(
+    rt: &R,
+    alloc: Global,
+    desk: &Desk<'_, SolveJob, G, A, B>,
+    hands: &mut Hands<B>,
+    loaded: &LoadedAnswers,
+    program: &Arc<Program>,
+    before: Vec<Told>,
+) -> Result<Vec<Told>, AllocError>
+    requires formed { IsProgram program.now.value }
+    requires sizes { HasProgramSizes program.now.value }
+    requires loaded { All IsStoredEntry loaded.now }
+    ensures value { IfOk result (λ told. told.items ≡ program_entries loaded.now program.now.value) }
+    ensures summaries { IfOk result (λ told. map summary_told told.items ≡ program_summaries loaded.now program.now.value) }
+    ensures reportable { IfOk result (λ told. AreReportable program.now.value.structs program.now.value.procs (map summary_told told.items)) }
+    ensures worked { OnOk result (count_reached program.now.value aim.All ≤ hands.new.seen) }
+    ensures rises { hands.old.seen ≤ hands.new.seen }
+{
+    each_is_reported();
+    formed_is_printable();
+    stored_are_right();
+    settled_is_known::<SolveJob>();
+    let all = Aim::All;
+    let kept = answers_for(rt, alloc, desk, hands, loaded, program, &all)?;
+    let places = summary_places(alloc, program, &kept)?;
+    told_of(alloc, program.procs.as_slice(), &kept, &places, before)
 }
 
 /// What is known of the procedure of a name. Of what was not known yet, its component is solved, and those that it calls.

@@ -9,6 +9,7 @@ pub mod laws;
 pub mod reply;
 pub mod session;
 pub mod texts;
+pub mod told;
 
 pub use reply::Reply;
 pub use session::Session;

@@ -1,14 +1,14 @@
 //! A reply to a command.
 ghost use Rattle.std.specs.Prelude.{◌≡◌, None, []};
 
-use reporters::Entry;
+use crate::told::Told;
 
 /// The bytes that are written, an entry for each procedure of a report, which reporters are fed then, and the bytes that the store is to
 /// have before the reply is written, if it is to be replaced.
 #[derive(Drop)]
 pub struct Reply {
     pub text: Vec<u8>,
-    pub entries: Vec<Entry>,
+    pub entries: Vec<Told>,
     pub saved: Option<Vec<u8>>,
 }
 

@@ -21,6 +21,7 @@ use crate::reply::Reply;
 use crate::texts::{
     block_text, drop_text, error_text, make_report, make_store, ok_text, refused_text, total_text,
 };
+use crate::told::Told;
 use io_ports::Gate;
 use loaded_answers::LoadedAnswers;
 use project_form::laws::{limits_are_kept, one_answer};
@@ -31,6 +32,7 @@ use shape_data::Name;
 use solve_job::{SolveJob, StoredAnswers};
 use std::alloc::{AllocError, Global};
 use std::marker::Model;
+use std::mem;
 use std::sync::ledger::Ledger;
 use std::sync::{Arc, Wait};
 use worker_pool::desk::Desk;
@@ -49,6 +51,7 @@ pub struct Session {
     missing: usize,
     loaded: Arc<StoredAnswers>,
     saves: bool,
+    told: Vec<Told>,
 }
 
 impl Model for Session {
@@ -74,6 +77,7 @@ impl Session {
             missing: 0,
             loaded,
             saves,
+            told: Vec::new(alloc),
         }
     }
 
@@ -82,6 +86,22 @@ impl Session {
         ensures { result ≡ self.now.missing }
     {
         self.missing
+    }
+
+    /// Keeps what was told, if anything was, so that a later report need not copy it again.
+    pub fn keep(&mut self, told: Vec<Told>)
+        ensures { self.new ≡ self.old }
+    {
+        if !told.is_empty() {
+            self.told = told;
+        }
+    }
+
+    /// What was told.
+    fn take_told(&mut self, alloc: Global) -> Vec<Told>
+        ensures { self.new ≡ self.old }
+    {
+        mem::replace(&mut self.told, Vec::new(alloc))
     }
 
     /// The entries that were loaded.
@@ -199,7 +219,8 @@ impl Session {
         one_answer();
         match self.found(alloc)? {
             Found::Whole(program) => {
-                let report = make_report(rt, alloc, desk, hands, self.loaded(), &program)?;
+                let before = self.take_told(alloc);
+                let report = make_report(rt, alloc, desk, hands, self.loaded(), &program, before)?;
                 self.missing = report.missing;
                 Ok(report.reply)
             }

@@ -3,25 +3,24 @@ ghost use Rattle.std.specs.Prelude.{◌≡◌, ◌≤◌, None, true, is_some, [
 ghost use Rattle.std.specs.List.{position};
 ghost use Rattle.shape_data.specs.Sizes.{HasProgramSizes};
 ghost use Rattle.shape_data.specs.WellFormed.{IsProgram};
-ghost use Rattle.session_replies.specs.Entries.{entries_over, entry_of, program_entries};
+ghost use Rattle.session_replies.specs.Entries.{program_entries};
 ghost use Rattle.session_replies.specs.Parts.{bytes_saved};
 ghost use Rattle.session_replies.specs.Texts.{block_named, drop_line, error_line, is_named, ok_line, program_missing, program_report, program_stored_line, program_total, refused_line, stored_program};
 ghost use Rattle.session_replies.specs.Work.{count_reached};
 ghost use Rattle.solve_job.specs.Solves.{IsStoredEntry};
 ghost use Rattle.summary_book.specs.declared.aims.Aim.TheVariants as aim;
 
-use crate::known::{store_of, summaries, summary};
+use crate::known::{entries, store_of, summaries, summary};
 use crate::reply::Reply;
+use crate::told::Told;
 use io_ports::Gate;
 use loaded_answers::LoadedAnswers;
 use project_form::Refused;
 use report_text::reasons::push_decimal;
 use report_text::totals::push_total;
 use report_text::{block, count_none, push_report};
-use reporters::Entry;
-use shape_data::answer::ProcSummary;
-use shape_data::program::{Proc, Program};
-use shape_data::{Name, Row, copy_of};
+use shape_data::Name;
+use shape_data::program::Program;
 use solve_job::SolveJob;
 use std::alloc::{AllocError, Global};
 use std::sync::ledger::Ledger;
@@ -147,35 +146,6 @@ pub fn total_text<R: Wait, G: Gate, A: Ledger, B: Ledger>(
     Ok(text)
 }
 
-/// What is said of a procedure to reporters.
-fn entry_of(proc: &Proc, summary: ProcSummary) -> Result<Entry, AllocError>
-    ensures { IfOk result (λ entry. entry ≡ entry_of proc.now summary) }
-{
-    Ok(Entry {
-        file: copy_of(&proc.file)?,
-        line: proc.line,
-        summary,
-    })
-}
-
-/// The entries of procedures with these summaries, in their order.
-fn entries_of(
-    alloc: Global,
-    procs: &Row<Proc>,
-    summaries: Row<ProcSummary>,
-) -> Result<Vec<Entry>, AllocError>
-    ensures { IfOk result (λ entries. entries.items ≡ entries_over procs.now summaries) }
-{
-    let mut entries = Vec::with_capacity(alloc, procs.len())?;
-    for summary in summaries.into_vec() {
-        match procs.get(entries.len()) {
-            Some(proc) => entries.push(entry_of(proc, summary)?)?,
-            None => {}
-        }
-    }
-    Ok(entries)
-}
-
 /// A report on a program: its bytes with its entries, and how many procedures have no spec.
 #[derive(Drop)]
 pub struct Report {
@@ -183,7 +153,7 @@ pub struct Report {
     pub missing: usize,
 }
 
-/// The report on a program.
+/// The report on a program. What was told before is taken over where it stands in the same answers.
 pub fn make_report<R: Wait, G: Gate, A: Ledger, B: Ledger>(
     rt: &R,
     alloc: Global,
@@ -191,6 +161,7 @@ pub fn make_report<R: Wait, G: Gate, A: Ledger, B: Ledger>(
     hands: &mut Hands<B>,
     loaded: &LoadedAnswers,
     program: &Arc<Program>,
+    before: Vec<Told>,
 ) -> Result<Report, AllocError>
     requires formed { IsProgram program.now.value }
     requires sizes { HasProgramSizes program.now.value }
@@ -202,16 +173,15 @@ pub fn make_report<R: Wait, G: Gate, A: Ledger, B: Ledger>(
     ensures worked { OnOk result (count_reached program.now.value aim.All ≤ hands.new.seen) }
     ensures rises { hands.old.seen ≤ hands.new.seen }
 {
-    let summaries = summaries(rt, alloc, desk, hands, loaded, program)?;
+    let entries = entries(rt, alloc, desk, hands, loaded, program, before)?;
     let mut text = Vec::new(alloc);
     push_report(
         &mut text,
         program.structs.as_slice(),
         program.procs.as_slice(),
-        summaries.as_slice(),
+        entries.as_slice(),
     )?;
-    let missing = count_none(summaries.as_slice());
-    let entries = entries_of(alloc, &program.procs, summaries)?;
+    let missing = count_none(entries.as_slice());
     let reply = Reply {
         text,
         entries,
