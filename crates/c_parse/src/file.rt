@@ -34,7 +34,7 @@ fn read_file(alloc: Global, words: &mut Words<'_>) -> Result<Unit, SyntaxFault>
 
 /// The syntax tree of the file that the tokens are, or where and why they are refused (C11 6.9): 111 at the first token
 /// with which they begin no file, 112 at the first one that opens the 65th level of nesting.
-pub fn parse(alloc: Global, tokens: &[Token]) -> Result<Unit, SyntaxFault>
+pub fn parse(alloc: Global, tokens: &[Token<'_>]) -> Result<Unit, SyntaxFault>
     requires listed { IsTokenList tokens.now }
     ensures unit { IfOk result (λ unit. Spells (unit_tree unit) (words_of tokens.now)) }
     ensures levels { IfOk result (λ unit. file_nesting (unit_tree unit) ≤ MOST_LEVELS) }

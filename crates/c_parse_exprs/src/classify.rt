@@ -94,7 +94,7 @@ fn other_sign_class(text: &[u8]) -> Class
 }
 
 /// Whether the first token is this sign.
-fn begins_with_sign(text: &[u8], tokens: &[Token]) -> bool
+fn begins_with_sign(text: &[u8], tokens: &[Token<'_>]) -> bool
     ensures { result ≡ begins_with_sign text.now tokens.now }
 {
     match tokens {
@@ -104,7 +104,7 @@ fn begins_with_sign(text: &[u8], tokens: &[Token]) -> bool
 }
 
 /// Whether `*` and `)` stand first.
-fn begins_with_star(tokens: &[Token]) -> bool
+fn begins_with_star(tokens: &[Token<'_>]) -> bool
     ensures { result ≡ begins_with_star tokens.now }
 {
     match tokens {
@@ -114,7 +114,7 @@ fn begins_with_star(tokens: &[Token]) -> bool
 }
 
 /// Whether a `(` before these tokens begins a cast, if it stands where an operand may.
-fn begins_cast(tokens: &[Token]) -> bool
+fn begins_cast(tokens: &[Token<'_>]) -> bool
     ensures { result ≡ begins_cast tokens.now }
 {
     match tokens {
@@ -128,7 +128,7 @@ fn begins_cast(tokens: &[Token]) -> bool
 }
 
 /// The class of a sign before these tokens.
-fn sign_class(text: &[u8], tokens: &[Token]) -> Class
+fn sign_class(text: &[u8], tokens: &[Token<'_>]) -> Class
     ensures { result ≡ sign_class text.now tokens.now }
 {
     if !is_text(text, b"(") {
@@ -141,7 +141,7 @@ fn sign_class(text: &[u8], tokens: &[Token]) -> Class
 }
 
 /// The class of a token before these tokens.
-fn class_of(token: &Token, tokens: &[Token]) -> Class
+fn class_of(token: &Token<'_>, tokens: &[Token<'_>]) -> Class
     ensures { result ≡ class_of token.now.kind token.now.text tokens.now }
 {
     match token.kind {
@@ -154,7 +154,7 @@ fn class_of(token: &Token, tokens: &[Token]) -> Class
 }
 
 /// The class of each token.
-pub fn classes(alloc: Global, tokens: &[Token]) -> Result<Vec<Class>, AllocError>
+pub fn classes(alloc: Global, tokens: &[Token<'_>]) -> Result<Vec<Class>, AllocError>
     ensures { IfOk result (λ found. found.items ≡ classes_of tokens.now) }
 {
     let mut found = Vec::with_capacity(alloc, tokens.len())?;

@@ -52,7 +52,7 @@ fn digits_value(word: &[u8]) -> u64
 /// The words that are left. Contracts see the list of them.
 #[derive(Drop, Debug)]
 pub struct Words<'a> {
-    tokens: &'a [Token],
+    tokens: &'a [Token<'a>],
     classes: &'a [Class],
 }
 
@@ -72,7 +72,7 @@ impl<'a> Model for Words<'a> {
 
 impl<'a> Words<'a> {
     /// The words of the tokens, whose classes [`classes`](crate::classes) gives.
-    pub fn new(tokens: &'a [Token], classes: &'a [Class]) -> Words<'a>
+    pub fn new(tokens: &'a [Token<'a>], classes: &'a [Class]) -> Words<'a>
         requires classes { classes.now ≡ classes_of tokens.now }
         requires listed { IsTokenList tokens.now }
         ensures { result ≡ words_of tokens.now }

@@ -12,5 +12,5 @@ mod words;
 
 pub use places::{Place, Refusal};
 pub use reading::tokens;
-pub use token::{Token, TokenFault, TokenKind};
+pub use token::{Lexeme, Token, TokenFault, TokenKind};
 pub use words::is_reserved;

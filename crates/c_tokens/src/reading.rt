@@ -9,9 +9,11 @@ ghost use Rattle.c_tokens.specs.Steps.{HasRoom, Steps};
 
 use crate::pieces::{NO_INCLUDE, Part, Piece, first_piece};
 use crate::places::{Place, Refusal};
-use crate::token::{Token, TokenFault, TokenKind};
-use shape_data::name::Name;
-use std::alloc::{AllocError, Global};
+use crate::token::{Lexeme, Token, TokenFault, TokenKind};
+use std::alloc::Global;
+
+/// In most texts a token has at least so many bytes, with the blanks behind it. Room for the tokens of such a text is made at once.
+const BYTES_PER_TOKEN: usize = 2;
 
 /// What is left of a text.
 #[derive(Clone, Copy, Debug)]
@@ -30,17 +32,17 @@ enum Step<'a> {
 }
 
 /// A token at the place.
-fn token_at(alloc: Global, kind: TokenKind, word: &[u8], place: Place) -> Result<Token, AllocError>
+fn token_at<'a>(kind: TokenKind, word: &'a [u8], place: Place) -> Token<'a>
     requires some { 1 ≤ length word.now }
     requires short { length word.now ≤ 64 }
-    ensures { IfOk result (λ token. token ≡ token_at kind word.now place) }
+    ensures { result ≡ token_at kind word.now place }
 {
-    Ok(Token {
+    Token {
         kind,
-        text: Name::of(alloc, word)?,
+        text: Lexeme::of(word),
         line: place.line,
         column: place.column,
-    })
+    }
 }
 
 /// The rest behind its first bytes.
@@ -82,7 +84,7 @@ fn take_piece(cursor: Cursor<'_>) -> Step<'_>
 }
 
 /// The end of a text.
-fn end(alloc: Global, here: Place, part: Part) -> Result<Token, TokenFault>
+fn end<'a>(here: Place, part: Part) -> Result<Token<'a>, TokenFault>
     ensures token { IfOk result (λ token. at_end here part ≡ Tokens (token ∷ [])) }
     ensures fault { IfErr result (λ fault. IsFault fault (at_end here part)) }
 {
@@ -90,18 +92,18 @@ fn end(alloc: Global, here: Place, part: Part) -> Result<Token, TokenFault>
         Part::Hash(hash) => Err(TokenFault::Refused(hash.refusal(NO_INCLUDE))),
         Part::Include(hash) => Err(TokenFault::Refused(hash.refusal(NO_INCLUDE))),
         Part::LineStart | Part::InLine | Part::Header(_) => {
-            Ok(token_at(alloc, TokenKind::End, b"#", here)?)
+            Ok(token_at(TokenKind::End, b"#", here))
         }
     }
 }
 
 /// The tokens that are read piece by piece, and the end.
-fn read(alloc: Global, bytes: &[u8]) -> Result<Vec<Token>, TokenFault>
+fn read<'a>(alloc: Global, bytes: &'a [u8]) -> Result<Vec<Token<'a>>, TokenFault>
     requires { length bytes.now < 4294967295 }
     ensures tokens { IfOk result (λ found. reading bytes.now ≡ Tokens found.items) }
     ensures fault { IfErr result (λ fault. IsFault fault (reading bytes.now)) }
 {
-    let mut found = Vec::new(alloc);
+    let mut found = Vec::with_capacity(alloc, bytes.len() / BYTES_PER_TOKEN)?;
     let mut cursor = Cursor {
         rest: bytes,
         here: Place { line: 1, column: 1 },
@@ -111,21 +113,21 @@ fn read(alloc: Global, bytes: &[u8]) -> Result<Vec<Token>, TokenFault>
         match take_piece(cursor) {
             Step::Passed(next) => cursor = next,
             Step::Found(kind, word, next) => {
-                found.push(token_at(alloc, kind, word, cursor.here)?)?;
+                found.push(token_at(kind, word, cursor.here))?;
                 cursor = next;
             }
             Step::Refused(refusal) => return Err(TokenFault::Refused(refusal)),
         }
     }
-    found.push(end(alloc, cursor.here, cursor.part)?)?;
+    found.push(end(cursor.here, cursor.part)?)?;
     Ok(found)
 }
 
 /// The tokens of the text in their order, of which the last is its end, or else the text's first refusal (C11 6.4).
 ///
 /// Lines and columns count from 1, columns in bytes; the codes of refusals are those of [`TokenFault`]. The text may be
-/// any bytes.
-pub fn tokens(alloc: Global, bytes: &[u8]) -> Result<Vec<Token>, TokenFault>
+/// any bytes; the tokens borrow theirs from it.
+pub fn tokens<'a>(alloc: Global, bytes: &'a [u8]) -> Result<Vec<Token<'a>>, TokenFault>
     requires { length bytes.now < 4294967295 }
     ensures tokens { IfOk result (λ found. HasTokens bytes.now found.items) }
     ensures listed { IfOk result (λ found. IsTokenList found.items) }

@@ -1,7 +1,9 @@
 //! Tokens, and why a text has none.
+ghost use Rattle.std.specs.Prelude.{◌≡◌, ◌≤◌, length};
+
 use crate::places::Refusal;
-use shape_data::name::Name;
 use std::alloc::{AllocError, AllocFailed};
+use std::marker::Model;
 
 /// The kind of a token.
 #[derive(Clone, Copy, Debug, PartialEq, Eq)]
@@ -16,11 +18,47 @@ pub enum TokenKind {
     End,
 }
 
-/// A token and the place of its first byte. The text of the end is `#`.
+/// The 1 to 64 bytes of a token, where they stand. Contracts see the bytes.
 #[derive(Drop, Debug)]
-pub struct Token {
+pub struct Lexeme<'a> {
+    bytes: &'a [u8],
+}
+
+impl<'a> Model for Lexeme<'a> {
+    ghost use Rattle.std.specs.Prelude.{List, ℕ, ◌≤◌, length};
+
+    ghost Value = { List ℕ };
+
+    ghost view = { λ lexeme. lexeme.bytes.now };
+
+    ghost invariant = { λ lexeme. (1 ≤ length lexeme.bytes.now) × (length lexeme.bytes.now ≤ 64) };
+}
+
+impl<'a> Lexeme<'a> {
+    /// The lexeme of these bytes.
+    pub fn of(bytes: &'a [u8]) -> Lexeme<'a>
+        requires some { 1 ≤ length bytes.now }
+        requires short { length bytes.now ≤ 64 }
+        ensures { result ≡ bytes.now }
+    {
+        Lexeme { bytes }
+    }
+
+    /// The bytes.
+    pub fn as_bytes(&self) -> &'a [u8]
+        ensures value { result.now ≡ self.now }
+        ensures some { 1 ≤ length result.now }
+        ensures short { length result.now ≤ 64 }
+    {
+        self.bytes
+    }
+}
+
+/// A token of a text, and the place of its first byte. The bytes of the end are `#`.
+#[derive(Drop, Debug)]
+pub struct Token<'a> {
     pub kind: TokenKind,
-    pub text: Name,
+    pub text: Lexeme<'a>,
     pub line: u32,
     pub column: u32,
 }
@@ -45,13 +83,13 @@ impl From<AllocError> for TokenFault {
     }
 }
 
-impl From<AllocFailed<Token>> for TokenFault {
+impl<'a> From<AllocFailed<Token<'a>>> for TokenFault {
     ghost use Rattle.std.specs.Prelude.{◌≡◌};
     ghost use Rattle.c_tokens.specs.declared.token.TokenFault.TheVariants.{OutOfMemory};
 
     ghost from_gives = { λ _ fault. fault ≡ OutOfMemory };
 
-    fn from(_error: AllocFailed<Token>) -> TokenFault {
+    fn from(_error: AllocFailed<Token<'a>>) -> TokenFault {
         TokenFault::OutOfMemory
     }
 }

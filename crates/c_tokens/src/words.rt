@@ -67,14 +67,6 @@ const RESERVED: [&[u8]; 47] = [
     b"free",
 ];
 
-const LONG_SIGNS: [&[u8]; 12] = [
-    b"->", b"+=", b"-=", b"*=", b"++", b"--", b"==", b"!=", b"<=", b">=", b"&&", b"||",
-];
-
-const SHORT_SIGNS: [u8; 13] = [
-    b'(', b')', b'{', b'}', b';', b',', b'=', b'<', b'>', b'+', b'-', b'*', b'!',
-];
-
 /// Whether the word is a keyword (C11 6.4.1), `NULL`, `malloc` or `free`.
 #[tactic(auto, unfolding(crate::specs::Words::is_reserved))]
 pub fn is_reserved(word: &[u8]) -> bool
@@ -136,14 +128,31 @@ pub fn is_number(word: &[u8]) -> bool
 fn is_long_sign(word: &[u8]) -> bool
     ensures { result ≡ is_long_sign word.now }
 {
-    LONG_SIGNS.contains(&word)
+    matches!(
+        word,
+        b"->"
+            | b"+="
+            | b"-="
+            | b"*="
+            | b"++"
+            | b"--"
+            | b"=="
+            | b"!="
+            | b"<="
+            | b">="
+            | b"&&"
+            | b"||"
+    )
 }
 
 #[tactic(auto, unfolding(crate::specs::Words::is_short_sign))]
 fn is_short_sign(byte: u8) -> bool
     ensures { result ≡ is_short_sign byte }
 {
-    SHORT_SIGNS.contains(&byte)
+    matches!(
+        byte,
+        b'(' | b')' | b'{' | b'}' | b';' | b',' | b'=' | b'<' | b'>' | b'+' | b'-' | b'*' | b'!'
+    )
 }
 
 /// How long the longest sign is that the bytes begin with, or 0.

@@ -9,7 +9,7 @@ use Rattle.c_tokens.proofs.reading.read.Goals as goal
 
 pub loop-cursor-preserved : goal.loop-cursor-preserved
 loop-cursor-preserved c = record {
-  so_far = found_more c.loop-cursor.found.items c.push.new.self.items c.in_ok-token_at-in-Found.field-0 (token_at c.in-Found.kind c.in-Found.word.now c.loop-cursor.cursor.here) (read c.loop-cursor.cursor) (read c.in-Found.next) (reading c.args.bytes.now) c.in_ok-push-in-Found.ensures.items c.in_ok-token_at-in-Found.ensures c.in-Found.ensures.0 c.loop-cursor.invariant.so_far;
+  so_far = found_more c.loop-cursor.found.items c.push.new.self.items c.token_at.result (token_at c.in-Found.kind c.in-Found.word.now c.loop-cursor.cursor.here) (read c.loop-cursor.cursor) (read c.in-Found.next) (reading c.args.bytes.now) c.in_ok-push-in-Found.ensures.items c.token_at.ensures c.in-Found.ensures.0 c.loop-cursor.invariant.so_far;
   room = c.in-Found.ensures.1.1;
 }
 
