@@ -5,9 +5,12 @@ use Rattle.std.proofs.lemmas.Bool.{cases_eq, cases_lt}
 use Rattle.std.proofs.lemmas.List.{length-set, get_or-set_same, get_or-set_other}
 use Rattle.std.proofs.lemmas.Option.{slice_get_within}
 use Rattle.shape_data.specs.declared.answer.Key.{Key}
+use Rattle.shape_data.specs.declared.program.Flow.{Flow}
 use Rattle.shape_data.specs.declared.program.Program.{Program}
+use Rattle.shape_data.specs.declared.program.StructDef.{StructDef}
 use Rattle.component_keys.specs.Components.{same_names}
-use Rattle.component_keys.specs.Keys.{Component, names_of, program_components}
+use Rattle.component_keys.specs.Keys.{Component, key_over, names_of, program_components}
+use Rattle.component_keys.specs.Tests.{key_test}
 use Rattle.component_keys.proofs.Apart.{names_same}
 use Rattle.component_keys.proofs.Basics.{found, found_kept, not_none, some_same}
 use Rattle.claim_core.specs.declared.event.Event.{Event as Told}
@@ -16,12 +19,28 @@ use Rattle.claim_laws.specs.World.{Slot, World, is_present, slot_of}
 use Rattle.claim_laws.specs.Invariant.{IsOwnSlot}
 use Rattle.claim_laws.specs.Logs.{replay}
 use Rattle.claim_laws.proofs.Invariant.{all_at, replayed_world}
+use Rattle.summary_book.specs.declared.rows.Parts.{Parts}
 use Rattle.summary_book.specs.declared.rows.SlotRow.{SlotRow}
 use Rattle.summary_book.specs.Places.{key_at}
-use Rattle.summary_book.specs.Rows.{AreSlots, IsSlot, IsSlotAt, is_fit, is_fit_at, place_named}
+use Rattle.summary_book.specs.Rows.{AreSlots, IsComposed, IsSight, IsSlot, IsSlotAt, is_fit, is_fit_at, place_named}
 use Rattle.summary_book.proofs.Here.{no_place, own_place, place_is}
 use Rattle.summary_book.proofs.Lists.{there_is}
 use Rattle.summary_book.proofs.Present.{IsPresent, part_of, present_at, replayed_present}
+
+-- a key that fits is composed over the structures
+composed_where : (structs : List StructDef) (flows : List Flow) (key : Key) → key ≡ key_over structs flows key.callees → IsComposed structs key
+composed_where structs flows key is = is ∙ ap (λ fs. key_over structs fs key.callees) (sym (ap (λ (k : Key). k.procs) is))
+
+-- the key of a slot that fits is composed over the structures of another program, where they are the same
+pub slot_composed : (log : List Told) (old : Parts) (slots : List (Option SlotRow)) → IsSight log old slots → (program : Program) → old.program.value.structs ≡ program.structs → (place : ℕ) (row : SlotRow) (key : Key) →
+    place < length slots → slice_index_or slots place None ≡ Some row → key_at log row.claimed ≡ Some key → row.fits ≡ true → IsComposed program.structs key
+slot_composed log old slots sight program same place row key within row_is key_is fits =
+    let world = replay (events_of log) in
+    let part = there_is (program_components world.program) place (let e = sight.slots_are.lengths in omega (arith, within, e)) in
+    let slot : IsSlotAt log world.slots world.program part.0 row = subst (IsSlot log world.slots world.program part.0) row_is (sight.slots_are.each place part.0 part.1) in
+    let is : slot.key ≡ key_over world.program.structs part.0.flows slot.key.callees = (key_test.1 slot.key (key_over world.program.structs part.0.flows slot.key.callees)).0 (sym slot.fits ∙ fits) in
+    subst (λ (k : Key). IsComposed program.structs k) (some_same (sym slot.key_is ∙ key_is))
+    (subst (λ structs. IsComposed structs slot.key) (ap (λ (p : Program). p.structs) (sym sight.program_is) ∙ same) (composed_where world.program.structs part.0.flows slot.key is))
 
 -- no row before a place is a slot of these members
 abbrev pub HasNone : List Told → List (Option SlotRow) → ℕ → List (List ℕ) → Type 0

@@ -18,7 +18,7 @@ use Rattle.composed_keys.specs.declared.rows.Outer.{Outer as OuterRow}
 use Rattle.composed_keys.specs.Rows.{component_value}
 use Rattle.summary_book.specs.declared.rows.Parts.{Parts}
 use Rattle.summary_book.specs.Aims.{component_with, has_name}
-use Rattle.summary_book.specs.Rows.{AreParts, is_fit, place_named}
+use Rattle.summary_book.specs.Rows.{AreParts, IsComposed, is_fit, place_named}
 use Rattle.summary_book.proofs.Components.{components_length, part_of_row}
 use Rattle.summary_book.proofs.Here.{own_place}
 use Rattle.summary_book.proofs.Lists.{position_at, position_none, there_is, zipped_at_end}
@@ -108,6 +108,13 @@ module _ (parts : Parts) (are : AreParts parts) where
       let part : Component = component_value (flows_of program) row in
       same_bit b (key_test.0 key (key_over program.structs part.flows key.callees)) (λ t. (key_test.1 key (key_over program.structs part.flows key.callees)).1 (there t))
       (λ t. back ((key_test.1 key (key_over program.structs part.flows key.callees)).0 t)) ∙ ap (λ o. is_fit program o key) (sym (part_of_row parts are place row at))
+
+  -- of a key that is composed over the structures, by its procedures
+  pub fit_again : (place : ℕ) (row : ComponentRow) (key : Key) (b : Bool) → slice_get parts.components.items place ≡ Some row → IsComposed program.structs key →
+      (b ≡ true → key.procs ≡ filter_map (slice_get (flows_of program)) row.members.items) → (key.procs ≡ filter_map (slice_get (flows_of program)) row.members.items → b ≡ true) →
+      b ≡ is_fit program (slice_get all place) key
+  fit_again place row key b at composed there back =
+      fit_there place row key b at (λ t. composed ∙ ap (λ flows. key_over program.structs flows key.callees) (there t)) (λ e. back (ap (λ (k : Key). k.procs) e))
 
 -- the row at a place, as a loop or an index gives it
 pub row_at : {X : Type 0} (xs ys : List X) (i : ℕ) (x : X) → xs ≡ ys → i < length xs → x ≡ get_or xs i x → slice_get ys i ≡ Some x

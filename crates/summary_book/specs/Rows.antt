@@ -8,6 +8,7 @@ use Rattle.shape_data.specs.declared.answer.Callee.{Callee}
 use Rattle.shape_data.specs.declared.answer.Key.{Key}
 use Rattle.shape_data.specs.declared.program.Flow.{Flow}
 use Rattle.shape_data.specs.declared.program.Program.{Program}
+use Rattle.shape_data.specs.declared.program.StructDef.{StructDef}
 use Rattle.shape_data.specs.WellFormed.{IsProgram}
 use Rattle.call_components.specs.Reaching.{marked, rows}
 use Rattle.component_keys.specs.Components.{same_names}
@@ -50,6 +51,10 @@ is_fit program (Some part) key = key_test.0 key (key_over program.structs part.f
 abbrev pub is_fit_at : Program → Option ℕ → Key → Bool
 is_fit_at program None key = false
 is_fit_at program (Some place) key = is_fit program (slice_get (program_components program) place) key
+
+-- the key is one over these structures, of its own procedures and callees
+abbrev pub IsComposed : List StructDef → Key → Type 0
+IsComposed structs key = key ≡ key_over structs key.procs key.callees
 
 -- ---- slots
 

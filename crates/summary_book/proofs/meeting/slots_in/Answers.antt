@@ -1,4 +1,4 @@
--- One row after the other finds its component; what no row is left for has none.
+-- One row after the other finds its component; what no row is left for has none. A key that fitted is composed over the same structures.
 use Rattle.std.proofs.Common.{◌≡◌, ◌+◌, ◌∙◌, length, slice_index_or, sym, ap, subst, Some, None, arith}
 use Rattle.std.specs.Option.{option_copied}
 use Rattle.component_keys.specs.Keys.{names_of, program_components}
@@ -6,12 +6,24 @@ use Rattle.component_keys.proofs.Basics.{some_same}
 use Rattle.claim_core.specs.Told.{events_of}
 use Rattle.claim_laws.specs.Logs.{replay}
 use Rattle.shape_data.specs.declared.answer.Key.{Key}
+use Rattle.shape_data.specs.declared.program.Program.{Program}
 use Rattle.summary_book.specs.declared.rows.SlotRow.{SlotRow}
 use Rattle.summary_book.specs.Places.{key_at}
 use Rattle.summary_book.specs.Rows.{is_fit_at, place_named}
-use Rattle.summary_book.proofs.Revised.{AreFound, found_all, found_here, found_none}
-use Rattle.summary_book.proofs.meeting.slots_in.Goals.{in-Some-here, in_default-here}
+use Rattle.summary_book.proofs.Events.{not_both}
+use Rattle.summary_book.proofs.Revised.{AreFound, found_all, found_here, found_none, slot_composed}
+use Rattle.summary_book.proofs.meeting.slots_in.Goals.{else-same, in-Some-here, in_default-here, then-same}
 use Rattle.summary_book.proofs.meeting.slots_in.Goals as goal
+
+pub locate-requires-clause-composed : goal.locate-requires-clause-composed
+locate-requires-clause-composed c = λ t.
+    elim c.if-same.branch [
+      | then-same w ↦
+          slot_composed c.args.log.now c.args.old.now c.args.slots.now c.requires.sight c.args.new.now.program.value
+          (ap (λ (p : Program). p.structs) (sym c.deref.ensures) ∙ c.is_same-same.ensures.0 w.if-same.true ∙ ap (λ (p : Program). p.structs) c.deref-2.ensures) c.loop-place.place c.in-Some.row
+          c.in-Some-key_at.key.now c.loop-place-test.true (sym c.slot_at.ensures ∙ c.in-Some.is) (sym c.key_at.ensures ∙ ap option_copied c.in-Some-key_at.is) (sym w.locate-is ∙ t)
+      | else-same w ↦ not_both t (w.locate-is ∙ w.if-same.false)
+    ]
 
 pub loop-place-preserved : goal.loop-place-preserved
 loop-place-preserved c =
