@@ -3,7 +3,7 @@ pub mod Over
 pub mod Formed
 pub mod Named
 pub mod Reported
-pub mod Puts
+mod Firsts
 pub mod Summed
 pub mod Among
 pub mod LookedUp

@@ -17,12 +17,6 @@ front_at [] ys k lt = absurd (omega (arith, lt))
 front_at (x ∷ xs) ys zero lt = refl
 front_at (x ∷ xs) ys (suc k) lt = front_at xs ys k (omega (arith, lt))
 
-pub front_of : {X : Type 0} (xs : List X) (i k : ℕ) → k < i → slice_get (take i xs) k ≡ slice_get xs k
-front_of xs zero k lt = absurd (omega (arith, lt))
-front_of [] (suc i) k lt = refl
-front_of (x ∷ xs) (suc i) zero lt = refl
-front_of (x ∷ xs) (suc i) (suc k) lt = front_of xs i k (omega (arith, lt))
-
 pub behind_at : {X : Type 0} (xs ys : List X) (k : ℕ) → slice_get (xs ++ ys) (length xs + k) ≡ slice_get ys k
 behind_at [] ys k = ap (slice_get ys) (let e : 0 + k ≡ k = omega arith in e)
 behind_at (x ∷ xs) ys k = ap (slice_get ((x ∷ xs) ++ ys)) (let e : suc (length xs) + k ≡ suc (length xs + k) = omega arith in e) ∙ behind_at xs ys k

@@ -9,8 +9,7 @@ ghost use Rattle.bottom_up.specs.Placed.{answers_kept, summary_among, summary_in
 ghost use Rattle.shape_data.specs.declared.answer.Key.{Key};
 ghost use Rattle.shape_data.specs.WellFormed.{IsProgram};
 
-use crate::places::{Place, places_of};
-use composed_keys::components_of;
+use crate::places::{Place, places_named};
 use shape_data::answer::{Answer, Kept, ProcSummary};
 use shape_data::program::Program;
 use shape_data::{Name, Row, copy_of};
@@ -53,9 +52,7 @@ pub fn summary_places(
     ensures summaries { (answer_of : Key → Answer) → AreRight answer_of → answers_kept kept.now ≡ answers_in (known_by answer_of program.now) →
         IfOk result (λ places. filter_map (summary_in (answers_kept kept.now)) places.items ≡ summaries_for (known_by answer_of program.now) program.now.procs) }
 {
-    let rows = components_of(alloc, program)?;
-    let places = places_of(alloc, program.procs.len(), &rows)?;
-    Ok(places)
+    places_named(alloc, program.procs.as_slice(), kept)
 }
 
 /// The summaries of a program's procedures, in their order, where the answers are those of its components, each key having a right one.
