@@ -1,10 +1,13 @@
 //! Reporters through their bound.
-use reporters::{CountReporter, Entry, Go, MemoryReporter, Reporter, TakeFault, feed_all};
-use shape_data::answer::{ProcSummary, Reason};
+use reporters::{
+    CountReporter, Entry, Go, MemoryReporter, Reporter, SharedSummary, TakeFault, feed_all,
+};
+use shape_data::answer::{Answer, ProcSummary, Reason};
 use shape_data::symbolic::{Spec, SymHeap};
 use shape_data::{Name, Row};
 use std::alloc::{AllocError, Global};
 use std::process::Abort;
+use std::sync::Arc;
 use std::test::Fail;
 
 /// The entry of the procedure of this letter at this line, with one spec or none.
@@ -19,15 +22,19 @@ fn entry(alloc: Global, letter: u8, line: u32, has_spec: bool) -> Result<Entry, 
             posts: Row::new(alloc),
         })?;
     }
+    let mut procs = Row::new(alloc);
+    procs.push(ProcSummary {
+        name: Name::of(alloc, &[letter])?,
+        specs,
+        certs: Row::new(alloc),
+        reason: Some(Reason::Endless),
+    })?;
+    let stored = false;
+    let answer = Arc::new(alloc, Answer { stored, procs })?;
     Ok(Entry {
         file: Name::of(alloc, b"a.c")?,
         line,
-        summary: ProcSummary {
-            name: Name::of(alloc, &[letter])?,
-            specs,
-            certs: Row::new(alloc),
-            reason: Some(Reason::Endless),
-        },
+        summary: SharedSummary::of(&answer, 0)?,
     })
 }
 

@@ -188,7 +188,6 @@ fn reply<R: Wait, K: Sink, P: Keeper, G: Gate, A: Ledger, B: Ledger>(
             for told in entries.as_slice() {
                 feed_all(alloc, reporters, told.entry());
             }
-            session.keep(entries);
             None
         }
         Err(status) => Some(status),

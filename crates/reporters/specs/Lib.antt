@@ -1,3 +1,4 @@
 pub mod Known
 pub mod Feeding
 pub mod Scripts
+pub mod Shared

@@ -7,8 +7,10 @@ pub mod count;
 pub mod feeding;
 pub mod memory;
 pub mod reporter;
+pub mod shared;
 
 pub use count::CountReporter;
 pub use feeding::feed_all;
 pub use memory::MemoryReporter;
 pub use reporter::{Entry, Go, Reporter, TakeFault};
+pub use shared::SharedSummary;

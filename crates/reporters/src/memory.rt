@@ -27,14 +27,14 @@ impl Model for MemoryReporter {
     ghost view = { λ r. record { entries = r.entries.items; stop_at = r.stop_at; fail_at = r.fail_at.items; calls = r.calls; faults = r.faults } };
 }
 
-/// The same entry again, in memory of its own.
+/// The same entry again, whose summary is shared.
 fn entry_again(entry: &Entry) -> Result<Entry, AllocError>
     ensures { IfOk result (λ copied. copied ≡ entry.now) }
 {
     Ok(Entry {
         file: copy_of(&entry.file)?,
         line: entry.line,
-        summary: copy_of(&entry.summary)?,
+        summary: entry.summary.again()?,
     })
 }
 

@@ -4,16 +4,17 @@ ghost use Rattle.std.specs.Option.{option_map};
 ghost use Rattle.io_ports.specs.Counts.{Rose};
 ghost use Rattle.reporters.specs.Known.{after_taken, go_at};
 
+use crate::shared::SharedSummary;
 use shape_data::Name;
-use shape_data::answer::ProcSummary;
 use std::alloc::Global;
 
-/// What is said of one procedure: the file in which it stands, the line there, counted from 1, and its summary.
+/// What is said of one procedure: the file in which it stands, the line there, counted from 1, and its summary, which derefs to a
+/// [`ProcSummary`](shape_data::answer::ProcSummary).
 #[derive(Drop, Debug)]
 pub struct Entry {
     pub file: Name,
     pub line: u32,
-    pub summary: ProcSummary,
+    pub summary: SharedSummary,
 }
 
 /// Whether a reporter wants more entries.

@@ -94,8 +94,7 @@ pub fn summaries<R: Wait, G: Gate, A: Ledger, B: Ledger>(
     summaries_of(alloc, program, &kept)
 }
 
-/// What is told of the procedures of a program, in their order. What was not known yet is solved; what was told before is taken over where
-/// it stands in the same answers.
+/// What is told of the procedures of a program, in their order. What was not known yet is solved.
 pub fn entries<R: Wait, G: Gate, A: Ledger, B: Ledger>(
     rt: &R,
     alloc: Global,
@@ -103,7 +102,6 @@ pub fn entries<R: Wait, G: Gate, A: Ledger, B: Ledger>(
     hands: &mut Hands<B>,
     loaded: &LoadedAnswers,
     program: &Arc<Program>,
-    before: Vec<Told>,
 ) -> Result<Vec<Told>, AllocError>
     requires formed { IsProgram program.now.value }
     requires sizes { HasProgramSizes program.now.value }
@@ -121,7 +119,7 @@ pub fn entries<R: Wait, G: Gate, A: Ledger, B: Ledger>(
     let all = Aim::All;
     let kept = answers_for(rt, alloc, desk, hands, loaded, program, &all)?;
     let places = summary_places(alloc, program, &kept)?;
-    told_of(alloc, program.procs.as_slice(), &kept, &places, before)
+    told_of(alloc, program.procs.as_slice(), &kept, &places)
 }
 
 /// What is known of the procedure of a name. Of what was not known yet, its component is solved, and those that it calls.

@@ -21,7 +21,6 @@ use crate::reply::Reply;
 use crate::texts::{
     block_text, drop_text, error_text, make_report, make_store, ok_text, refused_text, total_text,
 };
-use crate::told::Told;
 use io_ports::Gate;
 use loaded_answers::LoadedAnswers;
 use project_form::laws::{limits_are_kept, one_answer};
@@ -32,7 +31,6 @@ use shape_data::Name;
 use solve_job::{SolveJob, StoredAnswers};
 use std::alloc::{AllocError, Global};
 use std::marker::Model;
-use std::mem;
 use std::sync::ledger::Ledger;
 use std::sync::{Arc, Wait};
 use worker_pool::desk::Desk;
@@ -51,7 +49,6 @@ pub struct Session {
     missing: usize,
     loaded: Arc<StoredAnswers>,
     saves: bool,
-    told: Vec<Told>,
 }
 
 impl Model for Session {
@@ -77,7 +74,6 @@ impl Session {
             missing: 0,
             loaded,
             saves,
-            told: Vec::new(alloc),
         }
     }
 
@@ -86,22 +82,6 @@ impl Session {
         ensures { result ≡ self.now.missing }
     {
         self.missing
-    }
-
-    /// Keeps what was told, if anything was, so that a later report need not copy it again.
-    pub fn keep(&mut self, told: Vec<Told>)
-        ensures { self.new ≡ self.old }
-    {
-        if !told.is_empty() {
-            self.told = told;
-        }
-    }
-
-    /// What was told.
-    fn take_told(&mut self, alloc: Global) -> Vec<Told>
-        ensures { self.new ≡ self.old }
-    {
-        mem::replace(&mut self.told, Vec::new(alloc))
     }
 
     /// The entries that were loaded.
@@ -219,8 +199,7 @@ impl Session {
         one_answer();
         match self.found(alloc)? {
             Found::Whole(program) => {
-                let before = self.take_told(alloc);
-                let report = make_report(rt, alloc, desk, hands, self.loaded(), &program, before)?;
+                let report = make_report(rt, alloc, desk, hands, self.loaded(), &program)?;
                 self.missing = report.missing;
                 Ok(report.reply)
             }

@@ -12,7 +12,6 @@ ghost use Rattle.summary_book.specs.declared.aims.Aim.TheVariants as aim;
 
 use crate::known::{entries, store_of, summaries, summary};
 use crate::reply::Reply;
-use crate::told::Told;
 use io_ports::Gate;
 use loaded_answers::LoadedAnswers;
 use project_form::Refused;
@@ -153,7 +152,7 @@ pub struct Report {
     pub missing: usize,
 }
 
-/// The report on a program. What was told before is taken over where it stands in the same answers.
+/// The report on a program.
 pub fn make_report<R: Wait, G: Gate, A: Ledger, B: Ledger>(
     rt: &R,
     alloc: Global,
@@ -161,7 +160,6 @@ pub fn make_report<R: Wait, G: Gate, A: Ledger, B: Ledger>(
     hands: &mut Hands<B>,
     loaded: &LoadedAnswers,
     program: &Arc<Program>,
-    before: Vec<Told>,
 ) -> Result<Report, AllocError>
     requires formed { IsProgram program.now.value }
     requires sizes { HasProgramSizes program.now.value }
@@ -173,7 +171,7 @@ pub fn make_report<R: Wait, G: Gate, A: Ledger, B: Ledger>(
     ensures worked { OnOk result (count_reached program.now.value aim.All ≤ hands.new.seen) }
     ensures rises { hands.old.seen ≤ hands.new.seen }
 {
-    let entries = entries(rt, alloc, desk, hands, loaded, program, before)?;
+    let entries = entries(rt, alloc, desk, hands, loaded, program)?;
     let mut text = Vec::new(alloc);
     push_report(
         &mut text,

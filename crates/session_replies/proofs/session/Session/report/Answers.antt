@@ -14,8 +14,8 @@ use Rattle.session_replies.proofs.session.Session.report.Goals as goal
 pub returns-in_ok-report-in-Whole-clause-answers : goal.returns-in_ok-report-in-Whole-clause-answers
 returns-in_ok-report-in-Whole-clause-answers g c =
     report_answers c.args.self.now c.in_ok-program.field-0 (Ok c.in-Whole.program.value) c.in_ok-program.ensures.found (ap answer_in c.in-Whole.is) _ c.in_ok-report-in-Whole.report.reply.text.items
-    (with_missing c.args.self.now _ c.self.inside.missing c.in_ok-report-in-Whole.report.missing _ _ (c.self.view_is ∙ c.take_told-before.ensures ∙ c.found.ensures.same) (c.in_ok-report-in-Whole.ensures.missing ∙ ap (λ loaded. program_missing loaded c.in-Whole.program.value) (c.loaded.ensures.value ∙ ap (λ (present : Present). present.setting.loaded) (c.take_told-before.ensures ∙ c.found.ensures.same))))
-    (c.in_ok-report-in-Whole.ensures.text ∙ ap (λ loaded. program_report loaded c.in-Whole.program.value) (c.loaded.ensures.value ∙ ap (λ (present : Present). present.setting.loaded) (c.take_told-before.ensures ∙ c.found.ensures.same)))
+    (with_missing c.args.self.now _ c.self.inside.missing c.in_ok-report-in-Whole.report.missing _ _ (c.self.view_is ∙ c.found.ensures.same) (c.in_ok-report-in-Whole.ensures.missing ∙ ap (λ loaded. program_missing loaded c.in-Whole.program.value) (c.loaded.ensures.value ∙ ap (λ (present : Present). present.setting.loaded) c.found.ensures.same)))
+    (c.in_ok-report-in-Whole.ensures.text ∙ ap (λ loaded. program_report loaded c.in-Whole.program.value) (c.loaded.ensures.value ∙ ap (λ (present : Present). present.setting.loaded) c.found.ensures.same))
 
 pub returns-in_ok-report-in-Whole-clause-worked : goal.returns-in_ok-report-in-Whole-clause-worked
 returns-in_ok-report-in-Whole-clause-worked g c =
@@ -24,7 +24,7 @@ returns-in_ok-report-in-Whole-clause-worked g c =
 
 pub returns-in_ok-report-in-Whole-clause-feeds : goal.returns-in_ok-report-in-Whole-clause-feeds
 returns-in_ok-report-in-Whole-clause-feeds g c =
-    subst (λ entries. Feeds c.args.self.now command.Report entries) (sym (c.in_ok-report-in-Whole.ensures.entries ∙ ap (λ loaded. program_entries loaded c.in-Whole.program.value) (c.loaded.ensures.value ∙ ap (λ (present : Present). present.setting.loaded) (c.take_told-before.ensures ∙ c.found.ensures.same))))
+    subst (λ entries. Feeds c.args.self.now command.Report entries) (sym (c.in_ok-report-in-Whole.ensures.entries ∙ ap (λ loaded. program_entries loaded c.in-Whole.program.value) (c.loaded.ensures.value ∙ ap (λ (present : Present). present.setting.loaded) c.found.ensures.same)))
     (Feeds.report c.in-Whole.program.value (subst (Reads c.args.self.now.files) (ap answer_in c.in-Whole.is) c.in_ok-program.ensures.found))
 
 pub returns-in_ok-refused_text-in-NoProgram-clause-answers : goal.returns-in_ok-refused_text-in-NoProgram-clause-answers
