@@ -2,10 +2,10 @@
 use crate::fault::Fault;
 use crate::rows::{part, text};
 use crate::scope::Scope;
-use crate::told::is_told;
+use crate::told::{is_told, told_heap, told_pair, told_post, told_state};
 use shape_data::Row;
 use shape_data::program::{Flow, HeadMark};
-use shape_data::symbolic::{Post, SymHeap, SymState};
+use shape_data::symbolic::{Post, SymState};
 use std::alloc::Global;
 use sym_abstract::{
     abstract_exit, abstract_head, abstract_pair, abstract_pre, have_few_fields, is_within_room,
@@ -32,31 +32,6 @@ fn mark(alloc: Global, row: &str) -> Result<HeadMark, Fault> {
     Ok(HeadMark { ints, dead })
 }
 
-/// The state of a row whose heap and locals stand behind these words.
-fn state(
-    alloc: Global,
-    scope: &Scope,
-    row: &str,
-    heap: &str,
-    locals: &str,
-) -> Result<SymState, Fault> {
-    scope.state(alloc, text(row, heap), part(row, locals).unwrap_or(""))
-}
-
-/// Whether the row tells that what it gives is a contradiction.
-fn is_none(row: &str) -> bool {
-    part(row, "none").is_some()
-}
-
-/// The state that a row tells, if it tells one.
-fn told_state(alloc: Global, scope: &Scope, row: &str) -> Result<Option<SymState>, Fault> {
-    if is_none(row) {
-        Ok(None)
-    } else {
-        Ok(Some(state(alloc, scope, row, "gives", "slots")?))
-    }
-}
-
 /// The abstraction of a state at the head of a loop.
 fn head(
     alloc: Global,
@@ -78,21 +53,12 @@ pub fn abstracts_at_head(
     scope: &Scope,
     row: &str,
 ) -> Result<bool, Fault> {
-    let given = state(alloc, scope, row, "head", "locals")?;
+    let given = scope.state_of(alloc, row, "head", "locals")?;
     let mark = mark(alloc, row)?;
     let flow = scope.flow(alloc, None)?;
     let found = head(alloc, scope, &given, &flow, &mark)?;
     let told = told_state(alloc, scope, row)?;
     is_told(rt, &found, &told)
-}
-
-/// The post that a row tells, if it tells one.
-fn told_post(alloc: Global, scope: &Scope, row: &str) -> Result<Option<Post>, Fault> {
-    if is_none(row) {
-        Ok(None)
-    } else {
-        Ok(Some(scope.post(alloc, text(row, "gives"))?))
-    }
 }
 
 /// The abstraction of a post at an exit.
@@ -124,16 +90,6 @@ pub fn abstracts_at_exit(
     is_told(rt, &found, &told)
 }
 
-/// The pair that a row tells, if it tells one.
-fn told_pair(alloc: Global, scope: &Scope, row: &str) -> Result<Option<Pair>, Fault> {
-    if is_none(row) {
-        return Ok(None);
-    }
-    let missing = scope.heap(alloc, text(row, "misses"))?;
-    let state = state(alloc, scope, row, "gives", "slots")?;
-    Ok(Some(Pair { missing, state }))
-}
-
 /// The abstraction of a pair at the head of a loop.
 fn pair(
     alloc: Global,
@@ -159,21 +115,12 @@ pub fn abstracts_pair(
     row: &str,
 ) -> Result<bool, Fault> {
     let missing = scope.heap(alloc, text(row, "missing"))?;
-    let state = state(alloc, scope, row, "pair", "locals")?;
+    let state = scope.state_of(alloc, row, "pair", "locals")?;
     let mark = mark(alloc, row)?;
     let flow = scope.flow(alloc, None)?;
     let found = pair(alloc, scope, &Pair { missing, state }, &flow, &mark)?;
     let told = told_pair(alloc, scope, row)?;
     is_told(rt, &found, &told)
-}
-
-/// The candidate that a row tells, if it tells one.
-fn told_candidate(alloc: Global, scope: &Scope, row: &str) -> Result<Option<SymHeap>, Fault> {
-    if is_none(row) {
-        Ok(None)
-    } else {
-        Ok(Some(scope.heap(alloc, text(row, "gives"))?))
-    }
 }
 
 /// Whether the candidate of a recursive component becomes what the row tells.
@@ -188,6 +135,6 @@ pub fn abstracts_candidate(
         return Err(Fault::Row);
     }
     let found = abstract_pre(alloc, &missing, PARAMS)?;
-    let told = told_candidate(alloc, scope, row)?;
+    let told = told_heap(alloc, scope, row)?;
     is_told(rt, &found, &told)
 }

@@ -1,4 +1,4 @@
-//! Worked rows of matching, of samples and of abstraction. Each line of standard input is a row: a question, and the answer that was worked for it
+//! Worked rows of matching, of samples, of abstraction, and of the normal and the canonical form. Each line of standard input is a row: a question, and the answer that was worked for it
 //! by hand from the rules (or by a second program that shares nothing with this one). Rows with another answer are printed with
 //! what was found, and at the end how many rows agree. Lines that are empty or begin with `#` are no rows. [`rows`] says what a
 //! row is.
@@ -7,6 +7,7 @@
 mod abstractions;
 mod coverings;
 mod fault;
+mod forms;
 mod matches;
 mod rows;
 mod samples;
@@ -28,6 +29,11 @@ fn agrees(rt: &impl Print, alloc: Global, scope: &Scope, row: &str) -> Result<bo
         "state" => coverings::covers_as_state(alloc, scope, row),
         "post" => coverings::covers_as_post(alloc, scope, row),
         "sample" => samples::samples(rt, alloc, scope, row),
+        "normal" => forms::has_normal_form(rt, alloc, scope, row),
+        "differ" => forms::differ(alloc, scope, row),
+        "canonical" => forms::has_canonical_form(rt, alloc, scope, row),
+        "canonical-post" => forms::has_canonical_post(rt, alloc, scope, row),
+        "canonical-pair" => forms::has_canonical_pair(rt, alloc, scope, row),
         "head" => abstractions::abstracts_at_head(rt, alloc, scope, row),
         "exit" => abstractions::abstracts_at_exit(rt, alloc, scope, row),
         "pair" => abstractions::abstracts_pair(rt, alloc, scope, row),

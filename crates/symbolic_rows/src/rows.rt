@@ -5,6 +5,13 @@
 //! - `both HEAP ; wanted HEAP`, where subtraction and abduction have the same answer and nothing is missing;
 //! - `state HEAP ; locals EXPRESSIONS ; by HEAP ; slots EXPRESSIONS`, whether the second state covers the first: `yes` or `no`;
 //! - `post POST ; by POST`, whether the second post covers the first: `yes` or `no`;
+//! - `normal HEAP ; locals EXPRESSIONS`, a state and its normal form, with the answer `gives HEAP ; slots EXPRESSIONS` or `none`; the form is to be
+//!   normal and its own form, and the state normal only where it is its form;
+//! - `differ HEAP ; sides EXPRESSIONS`, whether two expressions are known to differ, whichever comes first: `yes` or `no`;
+//! - `canonical HEAP ; locals EXPRESSIONS`, a state and its canonical form, with the answer `gives HEAP ; slots EXPRESSIONS`;
+//! - `canonical-post POST`, a post and its canonical form, with the answer `gives POST`;
+//! - `canonical-pair HEAP ; locals EXPRESSIONS ; missing HEAP`, a pair and its canonical form, with the answer
+//!   `gives HEAP ; slots EXPRESSIONS ; misses HEAP`;
 //! - `head HEAP ; locals EXPRESSIONS ; ints SLOTS ; dead SLOTS`, a state at the head of a loop with the int slots and the dead slots of
 //!   its mark, with the answer `gives HEAP ; slots EXPRESSIONS` or `none`;
 //! - `exit POST ; pointer STRUCTURE ; recursive`, a post at an exit: where there is no structure the result is an int, and `recursive` may be

@@ -3,6 +3,7 @@ ghost use Rattle.std.specs.Prelude.{◌↔◌, IsTrue};
 ghost use Rattle.shape_data.specs.WellFormed.{AreParams};
 
 use crate::fault::Fault;
+use crate::rows::{part, text};
 use shape_data::names::{have_different_names, is_c_name};
 use shape_data::program::{Field, Flow, Program, StructDef, Ty};
 use shape_data::symbolic::{Exp, Fact, Post, SymHeap, SymState};
@@ -167,10 +168,21 @@ impl Scope {
     }
 
     /// The state of the texts of a heap and of locals.
-    pub fn state(&self, alloc: Global, heap: &str, locals: &str) -> Result<SymState, Fault> {
+    fn state(&self, alloc: Global, heap: &str, locals: &str) -> Result<SymState, Fault> {
         let locals = self.exps(alloc, locals)?;
         let heap = self.heap(alloc, heap)?;
         Ok(SymState { locals, heap })
+    }
+
+    /// The state of a row whose heap and locals stand behind these words.
+    pub fn state_of(
+        &self,
+        alloc: Global,
+        row: &str,
+        heap: &str,
+        locals: &str,
+    ) -> Result<SymState, Fault> {
+        self.state(alloc, text(row, heap), part(row, locals).unwrap_or(""))
     }
 
     /// Puts the expression of a text behind others.

@@ -1,4 +1,4 @@
-//! Tests of the machine, of symbolic heaps, and of their texts. Tests alone: beside the libraries they would have these proved a second time.
+//! Tests of the machine, of what symbolic crates share, and of texts. Tests alone: beside the libraries they would have these proved a second time.
 #![tactic(auto)]
 
 #[cfg(test)]
@@ -6,10 +6,6 @@ mod heap_run_tests;
 #[cfg(test)]
 mod report_text_tests;
 #[cfg(test)]
-mod sym_canon_tests;
-#[cfg(test)]
 mod sym_parts_tests;
-#[cfg(test)]
-mod sym_pure_tests;
 #[cfg(test)]
 mod sym_text_tests;
