@@ -8,8 +8,6 @@ mod opening;
 mod outcome;
 mod session;
 mod status;
-#[cfg(test)]
-mod tests;
 mod turns;
 
 pub use loaded_answers::{LoadedAnswers, agrees};

@@ -9,8 +9,8 @@ mod work;
 mod worked;
 mod workers;
 
-use crate::{Outcome, Status, run};
 use claim_core::Event;
+use heapan_top::{Outcome, Status, run};
 use io_ports::{
     Held, InPieces, KeepFault, Keeper, MemorySink, MemorySource, OpenGate, ReadEnd, Sink, Source,
     SteadySink, SteadySource, read_up_to,

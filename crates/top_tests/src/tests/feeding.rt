@@ -2,7 +2,7 @@
 use super::stack::STACK;
 use super::worked::STACK_REPLY;
 use super::{Nowhere, put_as, steady};
-use crate::{Outcome, Status, run};
+use heapan_top::{Outcome, Status, run};
 use io_ports::{MemorySink, OpenGate, SteadySink};
 use reporters::{CountReporter, Entry, Go, MemoryReporter, Reporter, TakeFault};
 use std::alloc::{AllocError, Global};

@@ -1,5 +1,5 @@
 //! Sessions that have a store: what they save answers the next one, and bytes that are no store are told and answer nothing.
-ghost use Rattle.std.specs.Prelude.{IfOk};
+ghost use Rattle.std.specs.Prelude.{◌<◌, IfOk, length};
 ghost use Rattle.shape_data.specs.Sizes.{HasProgramSizes};
 ghost use Rattle.shape_data.specs.WellFormed.{IsProgram};
 
@@ -7,9 +7,8 @@ use super::stack::STACK;
 use super::work::{CHANGED_AND_BACK, PEEK_THRICE, PEEKS};
 use super::worked::STACK_REPLY;
 use super::{count_letter, put_as, steady};
-use crate::opening::open;
-use crate::{LoadedAnswers, Outcome, Status, agrees, plain, run};
 use claim_core::Event;
+use heapan_top::{LoadedAnswers, Outcome, Status, agrees, plain, run};
 use io_ports::{Gate, Keeper, MemoryKeeper, OpenGate, SteadyKeeper, SteadySink};
 use project_form::Project;
 use session_generator::generate;
@@ -17,6 +16,7 @@ use shape_data::Name;
 use shape_data::answer::Kept;
 use shape_data::exact::is_same_shared;
 use shape_data::program::Program;
+use solve_job::StoredAnswers;
 use std::alloc::{AllocError, Global};
 use std::process::Abort;
 use std::sync::atomic::{AtomicU64, Ordering};
@@ -24,7 +24,7 @@ use std::sync::{Arc, Wait};
 use std::test::Fail;
 use std::thread::Threads;
 use summary_book::Aim;
-use summary_store::encode;
+use summary_store::{Loaded, encode, load};
 
 /// Words that name a store.
 const WITH_STORE: [&str; 3] = ["session", "--store", "s"];
@@ -295,6 +295,38 @@ fn is_noted(gate: &Noting, log: &[Event]) -> bool {
     gate.count(0) == Some(0)
 }
 
+/// The entries that are loaded of these bytes, none where they are no store.
+fn loaded_of(alloc: Global, bytes: &[u8]) -> Result<StoredAnswers, AllocError>
+    requires { length bytes.now < 4294967296 }
+{
+    match load(alloc, bytes)? {
+        Loaded::Entries {
+            entries,
+            dropped: _,
+        } => StoredAnswers::of(alloc, entries),
+        Loaded::Unread { why: _ } => Ok(StoredAnswers::none(alloc)),
+    }
+}
+
+/// The entries of the keeper's store, none where no path names it.
+fn opened<R: Abort>(
+    rt: &R,
+    alloc: Global,
+    keeper: &SteadyKeeper,
+    path: Option<&str>,
+) -> Result<StoredAnswers, Fail> {
+    let Some(path) = path else {
+        return Ok(StoredAnswers::none(alloc));
+    };
+    match keeper.get(path) {
+        Some(bytes) => {
+            assert!(rt; bytes.len() < 4_294_967_296);
+            Ok(loaded_of(alloc, bytes)?)
+        }
+        None => Ok(StoredAnswers::none(alloc)),
+    }
+}
+
 /// A session with so many workers answers the stream, with the store of the keeper or none. Of each of these files it reported on, what
 /// plainly answering its program over the entries of the store gives was claimed, each claim behind the gate, and published.
 fn logs<R: Threads + Wait + Sync + Abort>(
@@ -306,10 +338,7 @@ fn logs<R: Threads + Wait + Sync + Abort>(
     path: Option<&str>,
     files: &[(&str, &[u8])],
 ) -> Result<(), Fail> {
-    let opened = match open(alloc, keeper, path) {
-        Ok(opened) => opened,
-        Err(_) => return Err(AllocError)?,
-    };
+    let stored = opened(rt, alloc, keeper, path)?;
     let words = ["session", "--workers", workers, "--store", "s"];
     let named = if path.is_some() { 5 } else { 3 };
     let gate = Noting::new(alloc)?;
@@ -328,14 +357,7 @@ fn logs<R: Threads + Wait + Sync + Abort>(
     assert!(rt; is_noted(&gate, log.as_slice()));
     for (name, file) in files {
         let program = program_of(rt, alloc, name, file)?;
-        let entries = plain(
-            rt,
-            alloc,
-            opened.loaded.answers(),
-            &program,
-            &Aim::All,
-            &OpenGate,
-        )?;
+        let entries = plain(rt, alloc, stored.answers(), &program, &Aim::All, &OpenGate)?;
         for entry in entries.as_slice() {
             assert!(rt; has_entry(log.as_slice(), entry), "of {name}");
         }

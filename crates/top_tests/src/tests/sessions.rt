@@ -1,6 +1,6 @@
 //! Sessions of several commands, each with its replies and the status that goes with them; and lines that are no command.
 
-use crate::Status;
+use heapan_top::Status;
 
 /// Streams, their replies, and how the call ends.
 pub const SESSIONS: [(&str, &str, Status); 19] = [

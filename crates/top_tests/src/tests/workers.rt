@@ -3,7 +3,7 @@ use super::stack::STACK;
 use super::work::PEEK_THRICE;
 use super::worked::STACK_REPLY;
 use super::{Nowhere, called, count_letter, put_as, steady};
-use crate::{Outcome, Status, run};
+use heapan_top::{Outcome, Status, run};
 use io_ports::{Gate, SteadySink};
 use std::alloc::{AllocError, Global};
 use std::sync::Wait;

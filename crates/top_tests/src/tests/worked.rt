@@ -1,6 +1,6 @@
 //! Files whose reports were worked by hand, each with the reply and the status that goes with it.
 
-use crate::Status;
+use heapan_top::Status;
 
 /// Files that are put as `a.c`.
 pub const WORKED: [(&str, &str, Status); 14] = [
