@@ -10,3 +10,4 @@ pub mod Printing
 pub mod Placeless
 pub mod Laws
 pub mod Readers
+pub mod FirstPlaces

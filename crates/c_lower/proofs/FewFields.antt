@@ -6,12 +6,11 @@ use Rattle.std.specs.List.{AllByRecursion}
 use Rattle.std.specs.Str.{bytes_eq}
 use Rattle.std.proofs.lemmas.List.{length-append, length-map}
 use Rattle.c_grammar.specs.Trees.{Declarator, Fields, Item, File}
-use Rattle.c_types_rules.specs.Tables.{Structure, Tables, FieldKind, declared_by, items_of, structure_in, field_kind, field_kinds}
+use Rattle.c_types_rules.specs.Tables.{Structure, Tables, FieldKind, declared_by, items_of, structure_in, field_kind, field_kinds, place_in, place_by}
 use Rattle.c_types_rules.specs.Items.{field_names}
 use Rattle.c_types_rules.specs.Programs.{tables_of}
 use Rattle.c_types_rules.proofs.KnownTables.{look_up, all_append}
 use Rattle.c_lower_rules.specs.Numbers.{IsIntNumber}
-use Rattle.c_lower_rules.specs.Contexts.{place_in, place_by}
 use Rattle.c_lower_rules.specs.Fields.{ItemHasCountableFields, HasCountableFields}
 use Rattle.c_lower_exprs.specs.Contexts.{FieldsFit}
 

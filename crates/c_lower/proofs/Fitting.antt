@@ -7,7 +7,7 @@ use Rattle.c_grammar.specs.Trees as tree
 use Rattle.c_tree.specs.declared.stmts.Block.{Block}
 use Rattle.c_tree.specs.declared.stmts.Stmt.TheFolds.{fold_out-Block}
 use Rattle.c_tree.specs.Syntax.{BlockTree, stmt_level, block_level, block_tree, stmts_tree}
-use Rattle.c_types_rules.specs.FirstPlaces.{place_of_head}
+use Rattle.c_grammar.specs.FirstPlaces.{place_of_head}
 use Rattle.c_types_rules.specs.Types.{unless}
 use Rattle.c_types_rules.specs.Tables.{Tables}
 use Rattle.c_types_rules.specs.Items.{listed}

@@ -4,7 +4,7 @@ use Rattle.c_grammar.specs.Trees.{Head}
 use Rattle.c_types_rules.specs.Tables.{Tables}
 use Rattle.c_lower_rules.specs.Code.{onto}
 use Rattle.c_lower_rules.specs.Programs.{lowered_body, temp_kind}
-use Rattle.c_lower_marks.specs.Seen.{loop_seen}
+use Rattle.c_lower_emit.specs.Seen.{loop_seen}
 use Rattle.c_types_names.specs.Seen.{type_seen}
 use Rattle.c_tree.specs.Syntax.{BlockTree}
 use Rattle.c_lower.specs.declared.body.Body.{Body}

@@ -13,7 +13,7 @@ use Rattle.c_lower_rules.specs.Temporaries.{Temp, Taken, take_temp}
 use Rattle.c_lower_rules.specs.Values.{Piece, slot_taken}
 use Rattle.c_lower_rules.specs.Statements.{Lowered, stmts, stmts_kinds}
 use Rattle.c_lower_rules.specs.Programs.{at_body, result_type, closed, temp_kind}
-use Rattle.c_lower_marks.specs.Seen.{loop_seen}
+use Rattle.c_lower_emit.specs.Seen.{loop_seen}
 use Rattle.c_types_names.specs.Seen.{type_seen}
 use Rattle.c_tree.specs.Syntax.{BlockTree}
 use Rattle.c_lower_emit.specs.declared.drafts.Target.{Target}

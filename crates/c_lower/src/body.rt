@@ -12,9 +12,9 @@ ghost use Rattle.c_lower.specs.Closing.{opening, closed_of, behind_opening, no_o
 use crate::closing::closed_body;
 use crate::finish::finish;
 use c_lower_emit::drafts::Target;
+use c_lower_emit::loops::Loop;
 use c_lower_emit::output::Output;
 use c_lower_exprs::context::Context;
-use c_lower_marks::Loop;
 use c_lower_sizes::laws::{code_has_its_size, locals_have_nodes, locals_have_types};
 use c_tree::{Block, Head};
 use c_types_names::kinds::CType;

@@ -14,8 +14,8 @@ use crate::sizes::{MOST_NODES, NODES, Sizes, param_count};
 use c_lower_exprs::context::Context;
 use c_lower_sizes::laws::{bodies_are_no_larger, locals_have_nodes, locals_have_types};
 use c_lower_sizes::{body_size, local_count};
+use c_tree::places::place_of_specifier;
 use c_tree::{Block, Head, Item, Name};
-use c_types_names::objects::place_of_specifier;
 use std::alloc::{AllocError, Global};
 
 /// A procedure whose body has few nodes.

@@ -15,22 +15,10 @@ use c_lower_exprs::context::Context;
 use c_tree::{Name, Unit};
 use c_types::Typed;
 use c_types_names::first::First;
-use c_types_names::tables::Tables;
 use c_types_rules::laws::first_refusal;
+use shape_data::Row;
 use shape_data::program::Program;
-use shape_data::{Row, copy_of};
 use std::alloc::{AllocError, Global};
-
-/// What the files declare.
-fn declared<'a>(alloc: Global, units: &'a [Unit]) -> Result<Tables<'a>, AllocError>
-    ensures { IfOk result (λ tables. tables ≡ typing.tables_of (files_of units.now)) }
-{
-    let mut tables = Tables::new(alloc);
-    for unit in units {
-        tables.declare_all(unit.items.as_slice())?;
-    }
-    Ok(tables)
-}
 
 /// What is too large in the files, and the procedures where nothing is.
 fn build<'a>(
@@ -73,25 +61,27 @@ fn build<'a>(
 /// # Errors
 ///
 /// The first refusal of what is too large, by file, line, column and code: `unit` counts the files from 0. And want of memory.
-pub fn lower(alloc: Global, typed: &Typed<'_>, files: &[Name]) -> Result<Program, LowerFault>
-    requires names { length files.now ≡ length typed.now.units.now }
-    requires countable { length typed.now.units.now < 4294967296 }
-    requires numbers { All FileHasIntNumbers (files_of typed.now.units.now) }
-    requires fields { All HasCountableFields (files_of typed.now.units.now) }
-    ensures program { IfOk result (λ program. program ≡ program_of files.now (files_of typed.now.units.now)) }
-    ensures small { IfOk result (λ _. first_too_large (files_of typed.now.units.now) ≡ None) }
-    ensures fault { IfErr result (λ fault. IsLowerFault (files_of typed.now.units.now) fault) }
+pub fn lower(alloc: Global, typed: Typed<'_>, files: &[Name]) -> Result<Program, LowerFault>
+    requires names { length files.now ≡ length typed.units.now }
+    requires countable { length typed.units.now < 4294967296 }
+    requires numbers { All FileHasIntNumbers (files_of typed.units.now) }
+    requires fields { All HasCountableFields (files_of typed.units.now) }
+    ensures program { IfOk result (λ program. program ≡ program_of files.now (files_of typed.entry.units.now)) }
+    ensures small { IfOk result (λ _. first_too_large (files_of typed.entry.units.now) ≡ None) }
+    ensures fault { IfErr result (λ fault. IsLowerFault (files_of typed.entry.units.now) fault) }
 {
     first_refusal();
-    let units = typed.units;
-    let mut context = Context::new(alloc, declared(alloc, units)?);
+    let Typed {
+        units,
+        tables,
+        structs,
+        kinds: _kinds,
+    } = typed;
+    let mut context = Context::new(alloc, tables);
     let built = build(alloc, &mut context, units, files)?;
     let Building { first, procs } = built;
     match first.found {
         Some(at) => Err(LowerFault::Refused(at)),
-        None => Ok(Program {
-            structs: copy_of(&typed.structs)?,
-            procs,
-        }),
+        None => Ok(Program { structs, procs }),
     }
 }

@@ -3,5 +3,6 @@
 #![tactic(auto)]
 
 pub mod drafts;
+pub mod loops;
 pub mod output;
 pub mod uses;

@@ -2,13 +2,12 @@
 ghost use Rattle.std.specs.Prelude.{◌≡◌, ◌<◌, ◌≤◌, ◌++◌, ◌∷◌, [], OnOk, IfOk, length, map, take, drop};
 ghost use Rattle.c_lower_rules.specs.Temporaries.{is_free, take_temp, released};
 ghost use Rattle.c_types_names.specs.Seen.{type_seen};
-ghost use Rattle.c_lower_marks.specs.Seen.{loop_seen};
-ghost use Rattle.c_lower_emit.specs.Seen.{temp_seen};
+ghost use Rattle.c_lower_emit.specs.Seen.{loop_seen, temp_seen};
 ghost use Rattle.c_lower_emit.specs.Emitting.{led_out, with_draft, with_loop};
 ghost use Rattle.c_lower_emit.specs.Drafts.{next_at};
 
 use crate::drafts::{AS_THEY_ARE, Draft, Target, Ways};
-use c_lower_marks::Loop;
+use crate::loops::Loop;
 use c_types_names::kinds::{CType, may_agree};
 use shape_data::program::Cmd;
 use std::alloc::{AllocError, Global};
@@ -41,7 +40,7 @@ impl<'a> Model for Output<'a> {
     ghost use Rattle.std.specs.Prelude.{map};
     ghost use Rattle.c_lower_emit.specs.Emitting.{Out};
     ghost use Rattle.c_lower_emit.specs.Seen.{temp_seen};
-    ghost use Rattle.c_lower_marks.specs.Seen.{loop_seen};
+    ghost use Rattle.c_lower_emit.specs.Seen.{loop_seen};
 
     ghost Value = { Out };
 

@@ -3,12 +3,12 @@ use Rattle.std.proofs.Common.{◌≡◌, ℕ, ◌+◌, ◌<◌, min, List, [], l
 use Rattle.std.proofs.Math.Nat.{min-eq_left}
 use Rattle.shape_data.specs.declared.program.Ty.{Ty}
 use Rattle.c_grammar.specs.Trees.{Head}
-use Rattle.c_types_rules.specs.FirstPlaces.{place_of_head}
+use Rattle.c_grammar.specs.FirstPlaces.{place_of_head}
 use Rattle.c_types_rules.specs.Tables.{Tables, kind_of_result}
 use Rattle.c_types_rules.specs.Scopes.{Env}
 use Rattle.c_types_rules.specs.Items.{listed}
 use Rattle.c_types_rules.specs.Programs.{known}
-use Rattle.c_types.specs.Behind.{behind_params}
+use Rattle.c_types_names.specs.Behind.{behind_params}
 use Rattle.c_lower_rules.specs.Programs.{bound_params, at_body, result_type}
 use Rattle.c_lower_exprs.specs.declared.context.Bound.{Bound}
 use Rattle.c_lower_exprs.specs.Seen.{stacked}

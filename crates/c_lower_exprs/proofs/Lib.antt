@@ -5,4 +5,3 @@ mod Operating
 mod Weights
 mod Arguing
 mod Chaining
-mod Trees

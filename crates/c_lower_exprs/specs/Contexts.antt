@@ -1,9 +1,9 @@
 -- Places of a body, and the line of their nodes.
 use Rattle.std.specs.Prelude.{◌≡◌, ℕ, ◌<◌, List, ◌∷◌, ◌++◌}
-use Rattle.c_types_rules.specs.Tables.{Tables}
+use Rattle.c_types_rules.specs.Tables.{Tables, field_place}
 use Rattle.c_types_rules.specs.Scopes.{with_variable}
 use Rattle.c_types_rules.specs.Types.{Kind}
-use Rattle.c_lower_rules.specs.Contexts.{Context, Bound, field_place}
+use Rattle.c_lower_rules.specs.Contexts.{Context, Bound}
 
 -- the places of fields are 32-bit numbers
 abbrev pub FieldsFit : Tables → Type 0

@@ -12,10 +12,11 @@ ghost use Rattle.c_lower_exprs.specs.Seen.{stacked};
 ghost use Rattle.c_lower_exprs.specs.Contexts.{FieldsFit, behind_variable, IsWithin};
 
 use crate::params::{add_params, param_count};
+use c_tree::places::place_of_specifier;
 use c_tree::{Head, Name, Place};
 use c_types_names::env::Env;
 use c_types_names::kinds::{CType, Kind, same_name};
-use c_types_names::objects::{kind_of_result, place_of_specifier};
+use c_types_names::objects::kind_of_result;
 use c_types_names::tables::Tables;
 use std::alloc::{AllocError, Global};
 use std::marker::Model;

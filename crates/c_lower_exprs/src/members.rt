@@ -1,8 +1,8 @@
 //! Expressions that are in hand, and members of what they point to (C11 6.5.2.3).
 ghost use Rattle.std.specs.Prelude.{◌≡◌, ◌∷◌, map, IfOk};
 ghost use Rattle.c_tree.specs.Syntax.{ident_tree};
-ghost use Rattle.c_types_names.specs.Seen.{type_seen, field_seen};
-ghost use Rattle.c_lower_rules.specs.Contexts.{place_in, field_place, tag_of};
+ghost use Rattle.c_types_names.specs.Seen.{type_seen};
+ghost use Rattle.c_lower_rules.specs.Contexts.{tag_of};
 ghost use Rattle.c_lower_rules.specs.Values.{Lowering};
 ghost use Rattle.c_lower_rules.specs.Expressions.{slot_read, field_behind, member, members};
 ghost use Rattle.c_lower_emit.specs.Emitting.{Out};
@@ -15,11 +15,8 @@ use crate::context::{Context, known};
 use c_lower_emit::output::Output;
 use c_lower_emit::uses::{Spot, Use};
 use c_tree::{Ident, Name};
-use c_types::fields::Fields;
 use c_types_exprs::exprs::kind_of_member;
-use c_types_names::kinds::{CType, same_name};
-use c_types_names::objects::FieldKind;
-use c_types_names::tables::Tables;
+use c_types_names::kinds::CType;
 use shape_data::copy_of;
 use shape_data::program::{Cmd, Operand};
 use std::alloc::{AllocError, Global};
@@ -60,35 +57,6 @@ pub fn tag_of(alloc: Global, kind: CType) -> Result<Name, AllocError>
     }
 }
 
-/// The place of the first field of the name, or how many fields there are.
-#[tactic(auto, unfolding(c_types_names::specs::Seen::field_seen))]
-fn place_in(fields: &[FieldKind], name: &Name) -> usize
-    ensures { result ≡ place_in (map field_seen fields.now) name.now }
-{
-    for (place, field) in fields.iter().enumerate() {
-        if same_name(&field.name.text, name) {
-            return place;
-        }
-    }
-    fields.len()
-}
-
-/// The place of a field among those of its structure.
-fn field_place<'a>(c: &Context<'a>, tag: &Name, name: &Name) -> Result<u32, AllocError>
-    ensures { IfOk result (λ place. place ≡ field_place c.now.env.tables tag.now name.now) }
-{
-    let tables = c.tables();
-    match tables.structure(tag) {
-        None => Ok(0),
-        Some(found) => {
-            let mut fields = Fields::new(c.alloc());
-            fields.push_lines(tables, found.lines.as_slice())?;
-            let place = place_in(fields.as_slice(), name);
-            Ok(u32::try_from(place).unwrap_or(u32::MAX))
-        }
-    }
-}
-
 /// The field of what a pointer of the type points to.
 pub fn field_behind<'a>(
     c: &Context<'a>,
@@ -98,7 +66,8 @@ pub fn field_behind<'a>(
     ensures { IfOk result (λ found. field_found found ≡ field_behind c.now (type_seen pointer.entry) (ident_tree field.now)) }
 {
     let tag = tag_of(c.alloc(), pointer)?;
-    let place = field_place(c, &tag, &field.text)?;
+    let place = c.tables().field_place(&tag, &field.text);
+    let place = u32::try_from(place).unwrap_or(u32::MAX);
     let kind = known(kind_of_member(c.tables(), Some(pointer), field));
     Ok(Field { tag, place, kind })
 }

@@ -3,7 +3,7 @@ ghost use Rattle.std.specs.Prelude.{◌≡◌, ◌∷◌, ◌+◌, ◌<◌, [], 
 ghost use Rattle.c_types_rules.specs.Items.{listed};
 ghost use Rattle.c_lower_rules.specs.Programs.{bound_params};
 ghost use Rattle.c_tree.specs.Syntax.{param_tree, params_tree};
-ghost use Rattle.c_types.specs.Behind.{behind_params};
+ghost use Rattle.c_types_names.specs.Behind.{behind_params};
 ghost use Rattle.c_lower_exprs.specs.Seen.{stacked};
 
 use crate::context::Bound;

@@ -91,9 +91,9 @@ pub fn lower<'a>(
             let operands = values(c, line, args, out)?;
             called(c, line, callee, operands, used, out)
         }
-        Expr::Malloc(_, _, target) => {
-            let pointer = known(pointer_of(c.tables(), target));
-            new(c, line, pointer, target, used, out)
+        Expr::Malloc(_, types) => {
+            let pointer = known(pointer_of(c.tables(), &types.target));
+            new(c, line, pointer, &types.target, used, out)
         }
     }
 }

@@ -1,9 +1,9 @@
 //! Which slots the nodes of loops assign.
 ghost use Rattle.std.specs.Prelude.{◌≡◌, ◌==◌, map, take, drop};
 ghost use Rattle.c_lower_rules.specs.Marks.{goes_to, assigns, assigned, nodes_of, assigned_in, loops_at};
-ghost use Rattle.c_lower_marks.specs.Seen.{loop_seen};
+ghost use Rattle.c_lower_emit.specs.Seen.{loop_seen};
 
-use crate::loops::Loop;
+use c_lower_emit::loops::Loop;
 use shape_data::program::{Cmd, Node};
 
 /// Whether there is a number, and it is this one.

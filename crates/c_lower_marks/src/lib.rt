@@ -2,8 +2,6 @@
 #![tactic(auto)]
 
 mod assigned;
-pub mod loops;
 mod marking;
 
-pub use loops::Loop;
 pub use marking::mark;

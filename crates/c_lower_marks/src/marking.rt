@@ -1,11 +1,11 @@
 //! Marks, and nodes with them.
 ghost use Rattle.std.specs.Prelude.{◌≡◌, ◌<◌, ◌≤◌, ◌&&◌, not, IfOk, map, option_map, length};
 ghost use Rattle.c_lower_rules.specs.Marks.{is_int, is_listed, assigned_in, slots_that, loops_at, mark_by, marked};
-ghost use Rattle.c_lower_marks.specs.Seen.{loop_seen};
+ghost use Rattle.c_lower_emit.specs.Seen.{loop_seen};
 ghost use Rattle.c_lower_marks.specs.Placed.{first_loop, marks_from, with_marks};
 
 use crate::assigned::assigned_at;
-use crate::loops::Loop;
+use c_lower_emit::loops::Loop;
 use shape_data::Row;
 use shape_data::program::{HeadMark, Node, Ty};
 use std::alloc::{AllocError, Global};

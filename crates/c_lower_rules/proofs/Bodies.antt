@@ -9,7 +9,7 @@ use Rattle.shape_data.specs.WellFormed.{IsTy}
 use Rattle.c_tokens.specs.declared.places.Place.{Place}
 use Rattle.c_grammar.specs.Readers.{place_of_specifier}
 use Rattle.c_grammar.specs.Trees.{Specifier, Expr, Simple, Initialized, Local, ForInit, Stmt, Stmts}
-use Rattle.c_types_rules.specs.FirstPlaces.{place_of_expr, place_of_local}
+use Rattle.c_grammar.specs.FirstPlaces.{place_of_expr, place_of_local}
 use Rattle.c_types_rules.specs.Types.{Kind}
 use Rattle.c_types_rules.specs.Tables.{Tables, specifier_refusals}
 use Rattle.c_types_rules.specs.Scopes.{Env, entered}

@@ -10,16 +10,16 @@ use Rattle.shape_data.specs.Names.{IsCName}
 use Rattle.shape_data.specs.WellFormed.{IsTy, IsField, IsKind, IsCountable}
 use Rattle.c_tokens.specs.declared.places.Place.{Place}
 use Rattle.c_grammar.specs.Trees.{Name, BinaryOp, PrefixOp, Expr, Links, Args}
-use Rattle.c_types_rules.specs.FirstPlaces.{place_of_expr}
+use Rattle.c_grammar.specs.FirstPlaces.{place_of_expr}
 use Rattle.c_types_rules.specs.Types.{Kind}
-use Rattle.c_types_rules.specs.Tables.{Tables, FieldKind, procedure_in, is_defined, field_of}
+use Rattle.c_types_rules.specs.Tables.{Tables, FieldKind, procedure_in, is_defined, field_of, field_place}
 use Rattle.c_types_rules.specs.Items.{listed}
 use Rattle.c_types_rules.specs.Scopes.{Variable, variable_in, variable}
 use Rattle.c_types_rules.specs.Expressions.{kind_of_variable, kind_of_member, kind_of_members, kind_of_binary, kind_of_prefix, kind_of, kind_of_chain, is_null, Given, may_stand_by, lacks, member_refusals, members_refusals, expr_refusals, links_refusals, args_refusals}
 use Rattle.c_types_rules.specs.Programs.{known}
 use Rattle.c_types_rules.proofs.KnownTables.{nil_left, nil_right, holds, IsSound}
 use Rattle.c_types_rules.proofs.KnownExprs.{SoundEnv, plain_known, gives_kind, binary_sound, member_sound}
-use Rattle.c_lower_rules.specs.Contexts.{Bound, Context, slot_in, slot_of, field_place}
+use Rattle.c_lower_rules.specs.Contexts.{Bound, Context, slot_in, slot_of}
 use Rattle.c_lower_rules.specs.Values.{Lowering, is_pointer}
 use Rattle.c_lower_rules.specs.Expressions.{binary, prefix, field_behind, member, members, lowering, chain, lowerings}
 use Rattle.c_lower_rules.proofs.Uses.{IsLined, GoodLowering, at_hand_good}

@@ -16,7 +16,7 @@ use Rattle.shape_data.specs.Names.{IsCName}
 use Rattle.shape_data.specs.WellFormed.{IsTy, AreParams, IsNode, IsFlow}
 use Rattle.c_tokens.specs.declared.places.Place.{Place}
 use Rattle.c_grammar.specs.Trees.{Name, Param, Head, Stmts}
-use Rattle.c_types_rules.specs.FirstPlaces.{place_of_head}
+use Rattle.c_grammar.specs.FirstPlaces.{place_of_head}
 use Rattle.c_types_rules.specs.Types.{unless}
 use Rattle.c_types_rules.specs.Tables.{Tables, param_kind, kind_of_result}
 use Rattle.c_types_rules.specs.Scopes.{Variable, Env}

@@ -9,7 +9,7 @@ use Rattle.c_grammar.specs.Words.{Word}
 use Rattle.c_grammar.specs.Trees.{Name, Specifier, Declarator, Fields, Param, Params, Head}
 use Rattle.c_grammar.specs.Readers.{place_of_specifier}
 use Rattle.c_grammar.specs.Spelling.{each, name, specifier, stars, declarator, fields, struct_body, param, params, head}
-use Rattle.c_types_rules.specs.FirstPlaces.{place_of_head}
+use Rattle.c_grammar.specs.FirstPlaces.{place_of_head}
 use Rattle.c_types_rules.specs.Items.{listed, with_name, param_names, field_names}
 use Rattle.c_types_rules.proofs.KnownTables.{all_append}
 use Rattle.c_lower_rules.specs.Texts.{IsNamed, IsLine, IsHeadNamed}

@@ -6,7 +6,7 @@ use Rattle.std.proofs.lemmas.Option.{IfSome_then}
 use Rattle.c_grammar.specs.Classes
 use Rattle.c_grammar.specs.Trees.{Local, ForInit, Stmt, Stmts}
 use Rattle.c_grammar.specs.Spelling.{◌⨾◌, word, maybe, expr_at, simple, initialized, local, for_init, stmt, stmts}
-use Rattle.c_types_rules.specs.FirstPlaces.{place_of_local}
+use Rattle.c_grammar.specs.FirstPlaces.{place_of_local}
 use Rattle.c_lower_rules.specs.Texts.{IsLine, AreStmtLines, AreStmtsLines}
 use Rattle.c_lower_rules.specs.Numbers.{HasIntNumbers, InitializedHasIntNumbers, LocalHasIntNumbers, InitHasIntNumbers, StmtHasIntNumbers, StmtsHaveIntNumbers}
 use Rattle.c_lower_rules.proofs.Steps.{nothing_else, then, ends, a_word, a_word_at, an_open, Shows, Takes, more_shown, maybe_shown}

@@ -16,11 +16,10 @@ use Rattle.shape_data.specs.Names.{IsCName}
 use Rattle.shape_data.specs.WellFormed.{IsTy, IsStruct, AreStructs, IsCountable, IsKind, IsField}
 use Rattle.c_grammar.specs.Trees.{Specifier, Declarator, Fields, Item}
 use Rattle.c_types_rules.specs.Types.{Kind}
-use Rattle.c_types_rules.specs.Tables.{Structure, Tables, FieldKind, declared_by, structure_in, is_defined, field_kind, field_kinds, field_in, field_by, field_of}
+use Rattle.c_types_rules.specs.Tables.{Structure, Tables, FieldKind, declared_by, structure_in, is_defined, field_kind, field_kinds, field_in, field_by, field_of, place_in, place_by, field_place}
 use Rattle.c_types_rules.specs.Items.{field_names, twice, lines_refusals}
 use Rattle.c_types_rules.specs.Programs.{known, field_def, struct_def, is_among, first_structures}
 use Rattle.c_types_rules.proofs.KnownTables.{nil_left, nil_right, holds, IsAccepted, IsSound, IsFieldSound, IsStructureSound}
-use Rattle.c_lower_rules.specs.Contexts.{place_in, place_by, field_place}
 use Rattle.c_lower_rules.specs.Programs.{name_text, MOST_FIELDS, items_refusals}
 use Rattle.c_lower_rules.specs.Texts.{IsNamed, IsItemNamed}
 use Rattle.c_lower_rules.proofs.Different.{Distinct, all_of_map, map_of_all, all_more, different_names, unequal, equal, twice_distinct}

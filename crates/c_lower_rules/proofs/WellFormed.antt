@@ -15,7 +15,7 @@ use Rattle.shape_data.specs.WellFormed.{IsCountable, IsFlow, FitsCall, HasLines}
 use Rattle.c_tokens.specs.declared.places.Place.{Place}
 use Rattle.c_grammar.specs.Trees.{Head, Stmts, Item, File}
 use Rattle.c_types_rules.specs.declared.at.At.{At}
-use Rattle.c_types_rules.specs.FirstPlaces.{place_of_head}
+use Rattle.c_grammar.specs.FirstPlaces.{place_of_head}
 use Rattle.c_types_rules.specs.Types.{unless, SECOND}
 use Rattle.c_types_rules.specs.Tables.{Tables, Procedure, procedure_in, declared_by, items_of, no_tables}
 use Rattle.c_types_rules.specs.Items.{listed, param_names, procedure_refusals, definitions, is_defined_before, unnamed_refusals}

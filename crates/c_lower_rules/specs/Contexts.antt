@@ -1,11 +1,10 @@
 -- Where in a procedure a piece of text stands: what its names mean, and which slots and line its nodes get.
-use Rattle.std.specs.Prelude.{ℕ, suc, ◌-◌, Option, Some, None, List, [], ◌∷◌, map, codes, if◌then◌else◌}
+use Rattle.std.specs.Prelude.{ℕ, ◌-◌, List, [], ◌∷◌, map, codes, if◌then◌else◌}
 use Rattle.std.specs.Str.{bytes_eq}
 use Rattle.shape_data.specs.declared.program.Ty.{Ty}
 use Rattle.shape_data.specs.declared.program.Ty.TheVariants.{Ptr}
 use Rattle.c_tokens.specs.declared.places.Place.{Place}
 use Rattle.c_grammar.specs.Trees.{Name}
-use Rattle.c_types_rules.specs.Tables.{Tables, Structure, FieldKind, structure_in, field_kinds}
 use Rattle.c_types_rules.specs.Scopes.{Env, entered}
 
 -- a variable in scope, and its slot
@@ -57,17 +56,3 @@ within_scope c = record c { env = entered c.env }
 abbrev pub tag_of : Ty → List ℕ
 tag_of (Ptr tag) = tag
 tag_of _ = codes "_"
-
--- the place of the first of these fields that has the name
-abbrev pub place_in : List FieldKind → List ℕ → ℕ
-place_in [] n = 0
-place_in (first ∷ others) n = if bytes_eq first.name.text n then 0 else suc (place_in others n)
-
--- the place of a field in the structure that was found
-abbrev pub place_by : Tables → Option Structure → List ℕ → ℕ
-place_by tables None n = 0
-place_by tables (Some found) n = place_in (field_kinds tables found.lines) n
-
--- the place of a field among those of its structure, counted from 0
-abbrev pub field_place : Tables → List ℕ → List ℕ → ℕ
-field_place tables tag n = place_by tables (structure_in tables.structures tag) n

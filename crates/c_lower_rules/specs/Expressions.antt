@@ -10,13 +10,13 @@ use Rattle.shape_data.specs.declared.program.TestOp.TheVariants as test
 use Rattle.shape_data.specs.declared.program.Ty.{Ty}
 use Rattle.shape_data.specs.declared.program.Ty.TheVariants.{Int}
 use Rattle.c_grammar.specs.Trees.{Name, Specifier, BinaryOp, PrefixOp, Expr, Links, Args}
-use Rattle.c_types_rules.specs.Tables.{procedure_in, pointer_of}
+use Rattle.c_types_rules.specs.Tables.{procedure_in, pointer_of, field_place}
 use Rattle.c_types_rules.specs.Scopes.{variable}
 use Rattle.c_types_rules.specs.Expressions.{kind_of_variable, kind_of_member, kind_of_call}
 use Rattle.c_types_rules.specs.Programs.{known}
 use Rattle.c_lower_rules.specs.Code.{Straight, no_nodes, ◌⊹◌, branch, test_behind, opposite, both, either}
 use Rattle.c_lower_rules.specs.Temporaries.{Temp}
-use Rattle.c_lower_rules.specs.Contexts.{Context, slot_of, tag_of, field_place}
+use Rattle.c_lower_rules.specs.Contexts.{Context, slot_of, tag_of}
 use Rattle.c_lower_rules.specs.Values.{◌▹◌, Value, Tested, Making, Lowering, is_pointer, at_hand, made, truth}
 
 -- ARITHMETIC (C11 6.5.3.3, 6.5.5, 6.5.6)

@@ -11,7 +11,7 @@ use Rattle.c_tokens.specs.declared.places.Place.{Place}
 use Rattle.c_tokens.specs.declared.places.Refusal.{Refusal}
 use Rattle.c_grammar.specs.Trees.{Name, Fields, Param, Head, Stmts, Item, File}
 use Rattle.c_types_rules.specs.declared.at.At.{At}
-use Rattle.c_types_rules.specs.FirstPlaces.{place_of_head}
+use Rattle.c_grammar.specs.FirstPlaces.{place_of_head}
 use Rattle.c_types_rules.specs.Types.{unless}
 use Rattle.c_types_rules.specs.Tables.{Tables, param_kind, kind_of_result}
 use Rattle.c_types_rules.specs.Items.{listed, param_names, param_variables, field_names}

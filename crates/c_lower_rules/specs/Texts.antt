@@ -5,7 +5,7 @@ use Rattle.shape_data.specs.Names.{IsCName}
 use Rattle.shape_data.specs.WellFormed.{IsCountable}
 use Rattle.c_tokens.specs.declared.places.Place.{Place}
 use Rattle.c_grammar.specs.Trees.{Name, Head, Expr, Simple, Stmt, Stmts, Item, File}
-use Rattle.c_types_rules.specs.FirstPlaces.{place_of_expr, place_of_local, place_of_head}
+use Rattle.c_grammar.specs.FirstPlaces.{place_of_expr, place_of_local, place_of_head}
 use Rattle.c_types_rules.specs.Tables.{tag_or}
 use Rattle.c_types_rules.specs.Items.{listed, param_names, field_names}
 use Rattle.c_lower_rules.specs.Statements.{place_of_simple}

@@ -3,7 +3,7 @@ ghost use Rattle.std.specs.Prelude.{◌≡◌, ◌++◌, ◌∷◌, [], List, �
 ghost use Rattle.shape_data.specs.declared.program.Cmd.TheVariants as cmd;
 ghost use Rattle.c_grammar.specs.Trees as tree;
 ghost use Rattle.c_grammar.specs.Readers.{place_of_specifier};
-ghost use Rattle.c_types_rules.specs.FirstPlaces.{place_of_local};
+ghost use Rattle.c_grammar.specs.FirstPlaces.{place_of_local};
 ghost use Rattle.c_tree.specs.Syntax.{expr_tree, specifier_tree, initialized_tree, local_tree};
 ghost use Rattle.c_types_names.specs.Seen.{type_seen};
 ghost use Rattle.c_lower_rules.specs.Code.{command};
@@ -22,9 +22,10 @@ use c_lower_emit::output::Output;
 use c_lower_emit::uses::Use;
 use c_lower_exprs::context::{Context, known};
 use c_lower_exprs::values::lower;
+use c_tree::places::place_of_specifier;
 use c_tree::{Expr, Initialized, Local, Place, TypeSpecifier};
 use c_types_names::kinds::CType;
-use c_types_names::objects::{object_kind, place_of_specifier};
+use c_types_names::objects::object_kind;
 use shape_data::program::Cmd;
 use std::alloc::AllocError;
 

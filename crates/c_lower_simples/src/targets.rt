@@ -48,7 +48,7 @@ pub fn target_of<'a>(c: &Context<'a>, left: &'a Expr) -> Target<'a>
         Expr::Null(_) => Target::Variable(0),
         Expr::Paren(_, inner) => target_of(c, inner),
         Expr::Call(_, _) => Target::Variable(0),
-        Expr::Malloc(_, _, _) => Target::Variable(0),
+        Expr::Malloc(_, _) => Target::Variable(0),
     }
 }
 

@@ -52,7 +52,7 @@ fn is_call(expr: &Expr) -> bool
         Expr::Null(_) => false,
         Expr::Paren(_, inner) => is_call(inner),
         Expr::Call(_, _) => true,
-        Expr::Malloc(_, _, _) => false,
+        Expr::Malloc(_, _) => false,
     }
 }
 

@@ -37,6 +37,6 @@ pub fn wanted<'a>(
         Expr::Null(_) => lower(c, line, expr, used, out),
         Expr::Paren(_, inner) => wanted(c, line, kind, inner, used, out),
         Expr::Call(_, _) => lower(c, line, expr, used, out),
-        Expr::Malloc(_, _, target) => new(c, line, kind, target, used, out),
+        Expr::Malloc(_, types) => new(c, line, kind, &types.target, used, out),
     }
 }

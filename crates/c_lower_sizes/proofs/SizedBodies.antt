@@ -8,7 +8,7 @@ use Rattle.shape_data.specs.declared.program.Ty.{Ty}
 use Rattle.shape_data.specs.declared.program.Ty.TheVariants.{Int, Ptr, Void}
 use Rattle.c_tokens.specs.declared.places.Place.{Place}
 use Rattle.c_grammar.specs.Trees.{Specifier, Expr, Simple, Initialized, Local, ForInit, Stmt, Stmts}
-use Rattle.c_types_rules.specs.FirstPlaces.{place_of_local}
+use Rattle.c_grammar.specs.FirstPlaces.{place_of_local}
 use Rattle.c_lower_rules.specs.Code.{onto, Code, nothing, choose, branch, begun_at}
 use Rattle.c_lower_rules.specs.Temporaries.{Temp, take_temp}
 use Rattle.c_lower_rules.specs.Contexts.{Context, visible}

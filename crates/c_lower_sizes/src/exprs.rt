@@ -66,7 +66,7 @@ pub fn expr(one: &Expr) -> UseCounts
         Expr::Null(_) => at_hand(),
         Expr::Paren(_, inner) => expr(inner),
         Expr::Call(_, args) => made(arguments(args)),
-        Expr::Malloc(_, _, _) => made(0),
+        Expr::Malloc(_, _) => made(0),
     }
 }
 
@@ -107,6 +107,6 @@ pub fn target(one: &Expr) -> Option<u32>
         Expr::Null(_) => None,
         Expr::Paren(_, inner) => target(inner),
         Expr::Call(_, _) => None,
-        Expr::Malloc(_, _, _) => None,
+        Expr::Malloc(_, _) => None,
     }
 }

@@ -1,6 +1,6 @@
 //! How many nodes statements have (C11 6.8). The calls nest as deep as the blocks, branches and loops do.
 ghost use Rattle.std.specs.Prelude.{◌≡◌, option_map};
-ghost use Rattle.c_tree.specs.Syntax.{expr_tree, simple_tree, init_tree, stmt_tree, stmts_tree, block_tree};
+ghost use Rattle.c_tree.specs.Syntax.{expr_tree, simple_tree, for_step_tree, init_tree, stmt_tree, stmts_tree, block_tree};
 ghost use Rattle.c_lower_sizes.specs.Sizes.{init_size, condition_size, step_size, return_size, stmt_size, stmts_size};
 ghost use Rattle.c_lower_sizes.specs.Counts.{capped};
 
@@ -31,8 +31,8 @@ fn condition(one: &Option<Expr>) -> u32
 }
 
 /// The step of a `for`.
-fn step_of(one: &Option<Simple>) -> u32
-    ensures { result ≡ capped (step_size (option_map simple_tree one.now)) }
+fn step_of(one: &Option<Box<Simple>>) -> u32
+    ensures { result ≡ capped (step_size (option_map for_step_tree one.now)) }
 {
     match one {
         None => 0,

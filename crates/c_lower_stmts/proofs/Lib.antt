@@ -4,4 +4,3 @@ mod Branching
 mod Rounds
 mod Rows
 mod Scopes
-mod Trees

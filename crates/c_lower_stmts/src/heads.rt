@@ -1,6 +1,6 @@
 //! Statements and the heads of statements that hold no other statements.
-ghost use Rattle.std.specs.Prelude.{◌≡◌, ℕ, None, IfSome, OnOk, IfOk, option_map};
-ghost use Rattle.c_tree.specs.Syntax.{expr_tree, simple_tree, local_tree, init_tree};
+ghost use Rattle.std.specs.Prelude.{◌≡◌, ℕ, None, Some, IfSome, OnOk, IfOk, option_map};
+ghost use Rattle.c_tree.specs.Syntax.{expr_tree, simple_tree, for_step_tree, local_tree, init_tree};
 ghost use Rattle.c_lower_rules.specs.Statements.{condition, for_condition, for_init, for_step, from_place, simple_from, return_from, declaration};
 ghost use Rattle.c_lower_rules.specs.Numbers.{HasIntNumbers, SimpleHasIntNumbers, LocalHasIntNumbers, InitHasIntNumbers};
 ghost use Rattle.c_lower_emit.specs.Emitting.{EmitsTested};
@@ -17,8 +17,8 @@ use c_lower_exprs::context::Context;
 use c_lower_exprs::operators::spot;
 use c_lower_simples::declaring::declaration;
 use c_lower_simples::simples::place_of_simple;
+use c_tree::places::place_of_expr;
 use c_tree::{Expr, ForInit, Local, Place, Simple};
-use c_types_exprs::exprs::place_of_expr;
 use c_types_names::kinds::CType;
 use shape_data::program::Operand;
 use std::alloc::AllocError;
@@ -72,22 +72,35 @@ pub fn once<'a>(
     Ok(Laid { begin, locals })
 }
 
+/// A simple statement that is the step of a `for`.
+fn stepped<'a>(
+    c: &Context<'a>,
+    locals: u32,
+    one: &'a Simple,
+    out: &mut Output<'a>,
+) -> Result<Laid, AllocError>
+    ensures { IfOk result (λ laid. SimpleHasIntNumbers (simple_tree one.now) → (line : ℕ)
+        → EmitsWithin (for_step (state (on_line c.now line) locals out.old) (Some (simple_tree one.now))) c.now locals laid out.old out.new) }
+{
+    once(c, locals, place_of_simple(one), one, out)
+}
+
 /// The step of a `for`.
 pub fn step<'a>(
     c: &Context<'a>,
     locals: u32,
-    one: &'a Option<Simple>,
+    one: &'a Option<Box<Simple>>,
     out: &mut Output<'a>,
 ) -> Result<Laid, AllocError>
-    ensures { IfOk result (λ laid. IfSome (option_map simple_tree one.now) SimpleHasIntNumbers → (line : ℕ)
-        → EmitsWithin (for_step (state (on_line c.now line) locals out.old) (option_map simple_tree one.now)) c.now locals laid out.old out.new) }
+    ensures { IfOk result (λ laid. IfSome (option_map for_step_tree one.now) SimpleHasIntNumbers → (line : ℕ)
+        → EmitsWithin (for_step (state (on_line c.now line) locals out.old) (option_map for_step_tree one.now)) c.now locals laid out.old out.new) }
 {
     match one {
         None => Ok(Laid {
             begin: Target::Next,
             locals,
         }),
-        Some(one) => once(c, locals, place_of_simple(one), one, out),
+        Some(one) => stepped(c, locals, one, out),
     }
 }
 

@@ -7,7 +7,7 @@ use Rattle.c_grammar.specs.Words.{Word}
 use Rattle.c_grammar.specs.Readers as readers
 use Rattle.c_grammar.specs.Trees as tree
 use Rattle.c_grammar.specs.Readers.{Got, ◌>>=◌, class_at, place_at, behind, take, take_open, is_class, if_of, read_else, read_maybe, begins_expr, read_expr, begins_simple, read_simple, begins_clause, read_clause, other_by, stmt_of, init_of, flat_by, read_test, read_stmts}
-use Rattle.c_tree.specs.Syntax.{BlockTree, expr_tree, simple_tree, local_tree, init_tree}
+use Rattle.c_tree.specs.Syntax.{BlockTree, expr_tree, simple_tree, for_step_tree, local_tree, init_tree}
 use Rattle.c_parse.specs.declared.locals.Clause.{Clause}
 use Rattle.c_parse.specs.declared.locals.Clause.TheVariants as clause
 use Rattle.c_parse.specs.declared.plain.ForHead.{ForHead}
@@ -42,7 +42,7 @@ pub record ForHeadTree : Type 0 where
   pub step : Option tree.Simple
 
 abbrev pub for_head_tree : ForHead → ForHeadTree
-for_head_tree head = record { init = init_tree head.init; test = option_map expr_tree head.test; step = option_map simple_tree head.step }
+for_head_tree head = record { init = init_tree head.init; test = option_map expr_tree head.test; step = option_map for_step_tree head.step }
 
 -- what stands behind `for`, from its `(` to its `)`
 abbrev pub read_for_head : ℕ → List Word → Got ForHeadTree

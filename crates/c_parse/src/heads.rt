@@ -208,10 +208,12 @@ impl Iteration {
     }
 }
 
-/// The block between these places.
+/// The block between these places. It has no room for more statements, since most blocks are short.
 fn block_of(place: Place, stmts: Vec<Stmt>, end: Place) -> Block
     ensures { block_tree result ≡ record { place = place; body = stmts_tree stmts.items; end = end } }
 {
+    let mut stmts = stmts;
+    stmts.shrink_to_fit();
     Block {
         open: place,
         stmts,

@@ -3,7 +3,7 @@ ghost use Rattle.std.specs.Prelude.{◌≡◌, ◌≤◌, ◌<◌, length, optio
 ghost use Rattle.c_grammar.specs.Readers as readers;
 ghost use Rattle.c_grammar.specs.Readers.{class_at};
 ghost use Rattle.c_grammar.specs.Trees as tree;
-ghost use Rattle.c_tree.specs.Syntax.{expr_tree, simple_tree, init_tree, stmt_tree};
+ghost use Rattle.c_tree.specs.Syntax.{expr_tree, simple_tree, init_tree, for_step_tree, stmt_tree};
 ghost use Rattle.c_parse_exprs.specs.Reads.{Reads};
 ghost use Rattle.c_parse.specs.Clauses.{clause_tree, read_plain, read_return, read_do_test, read_for_head, for_head_tree};
 
@@ -20,7 +20,7 @@ use std::alloc::{AllocError, Global};
 pub struct ForHead {
     init: ForInit,
     test: Option<Expr>,
-    step: Option<Simple>,
+    step: Option<Box<Simple>>,
 }
 
 impl Drop for ForHead {
@@ -63,13 +63,23 @@ fn stmt_of(clause: Clause) -> Stmt
 }
 
 /// What a `for` begins with.
-fn init_of(clause: Option<Clause>) -> ForInit
-    ensures { init_tree result ≡ readers.init_of (option_map clause_tree clause) }
+fn init_of(alloc: Global, clause: Option<Clause>) -> Result<ForInit, AllocError>
+    ensures { IfOk result (λ init. init_tree init ≡ readers.init_of (option_map clause_tree clause)) }
 {
     match clause {
-        None => ForInit::Empty,
-        Some(Clause::Local(local)) => ForInit::Local(local),
-        Some(Clause::Simple(simple)) => ForInit::Simple(simple),
+        None => Ok(ForInit::Empty),
+        Some(Clause::Local(local)) => Ok(ForInit::Local(Box::new(alloc, local)?)),
+        Some(Clause::Simple(simple)) => Ok(ForInit::Simple(Box::new(alloc, simple)?)),
+    }
+}
+
+/// The step of a `for`, if there is one.
+fn step_of(alloc: Global, step: Option<Simple>) -> Result<Option<Box<Simple>>, AllocError>
+    ensures { IfOk result (λ found. option_map for_step_tree found ≡ option_map simple_tree step) }
+{
+    match step {
+        None => Ok(None),
+        Some(simple) => Ok(Some(Box::new(alloc, simple)?)),
     }
 }
 
@@ -205,11 +215,13 @@ pub fn read_for_head(
     ensures stays { length words.new ≤ length words.old }
 {
     words.take_open()?;
-    let init = init_of(read_maybe_clause(alloc, levels, words)?);
+    let clause = read_maybe_clause(alloc, levels, words)?;
+    let init = init_of(alloc, clause)?;
     words.take(Class::Semicolon)?;
     let test = read_maybe_expr(alloc, levels, words)?;
     words.take(Class::Semicolon)?;
-    let step = read_maybe_simple(alloc, levels, words)?;
+    let simple = read_maybe_simple(alloc, levels, words)?;
+    let step = step_of(alloc, simple)?;
     words.take(Class::Close)?;
     Ok(ForHead { init, test, step })
 }

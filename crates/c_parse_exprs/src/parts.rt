@@ -9,7 +9,7 @@ ghost use Rattle.c_parse_exprs.specs.Levels.{level_of, level_tree};
 
 use crate::types::{read_name, read_specifier};
 use crate::{Class, SyntaxFault, Words};
-use c_tree::{BinaryOp, Expr, Ident, Link, TypeSpecifier};
+use c_tree::{BinaryOp, Expr, Ident, Link, MallocTypes, Place, TypeSpecifier};
 use std::alloc::{AllocError, Global};
 
 /// Whether an expression begins with a word of the class.
@@ -121,6 +121,19 @@ fn read_size_of(alloc: Global, words: &mut Words<'_>) -> Result<TypeSpecifier, S
     Ok(target)
 }
 
+/// A `malloc` of these types.
+fn malloc_of(
+    alloc: Global,
+    place: Place,
+    cast: Option<TypeSpecifier>,
+    target: TypeSpecifier,
+) -> Result<Expr, AllocError>
+    ensures { IfOk result (λ made. expr_tree made ≡ ExprTree.Malloc place (option_map specifier_tree cast) (specifier_tree target)) }
+{
+    let types = Box::new(alloc, MallocTypes { cast, target })?;
+    Ok(Expr::Malloc(place, types))
+}
+
 /// `malloc(sizeof(TYPE))` without a cast (C11 7.22.3.4).
 #[tactic(auto, unfolding(c_grammar::specs::Readers::read_malloc))]
 pub(crate) fn read_malloc(alloc: Global, words: &mut Words<'_>) -> Result<Expr, SyntaxFault>
@@ -129,7 +142,8 @@ pub(crate) fn read_malloc(alloc: Global, words: &mut Words<'_>) -> Result<Expr, 
 {
     let place = words.place();
     words.step();
-    Ok(Expr::Malloc(place, None, read_size_of(alloc, words)?))
+    let target = read_size_of(alloc, words)?;
+    Ok(malloc_of(alloc, place, None, target)?)
 }
 
 /// `malloc(sizeof(TYPE))` behind a cast, from the cast on (C11 6.5.4).
@@ -144,5 +158,6 @@ pub(crate) fn read_cast(alloc: Global, words: &mut Words<'_>) -> Result<Expr, Sy
     words.take(Class::Star)?;
     words.take(Class::Close)?;
     words.take(Class::Malloc)?;
-    Ok(Expr::Malloc(place, Some(as_type), read_size_of(alloc, words)?))
+    let target = read_size_of(alloc, words)?;
+    Ok(malloc_of(alloc, place, Some(as_type), target)?)
 }

@@ -8,7 +8,8 @@ ghost use Rattle.c_tree.specs.Syntax.{ident_tree, specifier_tree, declarator_tre
 ghost use Rattle.c_parse_exprs.specs.Reads.{Reads};
 
 use crate::{Class, SyntaxFault, Words};
-use c_tree::{Declarator, FieldDecl, Ident, Param, Params, Place, TypeSpecifier};
+use c_tree::places::place_of_specifier;
+use c_tree::{Declarator, FieldDecl, Ident, Param, Params, TypeSpecifier};
 use std::alloc::Global;
 
 /// A name.
@@ -184,17 +185,6 @@ fn is_void_alone(first: &Param, others: &[Param]) -> bool
         && first.stars == 0
         && first.name.is_none()
         && others.is_empty()
-}
-
-/// Where a type specifier begins.
-fn place_of_specifier(specifier: &TypeSpecifier) -> Place
-    ensures { result ≡ readers.place_of_specifier (specifier_tree specifier.now) }
-{
-    match specifier {
-        TypeSpecifier::Int(place) | TypeSpecifier::Void(place) | TypeSpecifier::Struct(place, _) =>
-            *place,
-        TypeSpecifier::Alias(alias) => alias.place,
-    }
 }
 
 /// What stands between the parentheses of a function's declarator (C11 6.7.6.3).

@@ -124,7 +124,7 @@ pub fn write_expr(text: &mut Vec<u8>, expr: &Expr) -> Result<(), AllocError>
             write_word(text, b")")
         }
         Expr::Call(callee, args) => write_call(text, callee, args),
-        Expr::Malloc(_, as_type, target) => write_malloc(text, as_type, target),
+        Expr::Malloc(_, types) => write_malloc(text, &types.cast, &types.target),
     }
 }
 

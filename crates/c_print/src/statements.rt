@@ -2,7 +2,7 @@
 ghost use Rattle.std.specs.Prelude.{◌≡◌, OnOk, map, option_map};
 ghost use Rattle.c_grammar.specs.Printing.{print_more, print_maybe, text_of_assign, text_of_step, print_simple, print_initialized, print_local, print_init, print_stmt, print_stmts};
 ghost use Rattle.c_print.specs.Writing.{Prints, print_value, print_for, print_block};
-ghost use Rattle.c_tree.specs.Syntax.{expr_tree, assign_tree, step_tree, simple_tree, initialized_tree, local_tree, init_tree, stmt_tree, stmts_tree, block_tree};
+ghost use Rattle.c_tree.specs.Syntax.{expr_tree, assign_tree, step_tree, simple_tree, for_step_tree, initialized_tree, local_tree, init_tree, stmt_tree, stmts_tree, block_tree};
 
 use crate::expressions::{write_call, write_expr, write_in_parens, write_optional_expr};
 use crate::types::{write_declarator, write_specifier};
@@ -52,8 +52,8 @@ fn write_simple(text: &mut Vec<u8>, simple: &Simple) -> Result<(), AllocError>
 }
 
 /// Writes the simple statement, if there is one.
-fn write_optional_simple(text: &mut Vec<u8>, simple: &Option<Simple>) -> Result<(), AllocError>
-    ensures { OnOk result (Prints (print_maybe print_simple (option_map simple_tree simple.now)) text.old.items text.new.items) }
+fn write_optional_simple(text: &mut Vec<u8>, simple: &Option<Box<Simple>>) -> Result<(), AllocError>
+    ensures { OnOk result (Prints (print_maybe print_simple (option_map for_step_tree simple.now)) text.old.items text.new.items) }
 {
     match simple {
         None => Ok(()),
@@ -118,9 +118,9 @@ fn write_for(
     text: &mut Vec<u8>,
     init: &ForInit,
     test: &Option<Expr>,
-    step: &Option<Simple>,
+    step: &Option<Box<Simple>>,
 ) -> Result<(), AllocError>
-    ensures { OnOk result (Prints (print_for (init_tree init.now) (option_map expr_tree test.now) (option_map simple_tree step.now)) text.old.items text.new.items) }
+    ensures { OnOk result (Prints (print_for (init_tree init.now) (option_map expr_tree test.now) (option_map for_step_tree step.now)) text.old.items text.new.items) }
 {
     write_word(text, b"for")?;
     write_word(text, b"(")?;

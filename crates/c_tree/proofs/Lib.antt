@@ -1,2 +1,2 @@
-pub mod Copies
 pub mod Branches
+pub mod Trees

@@ -1,5 +1,6 @@
 -- Which syntax tree of the grammar each value of the crate's types stands for.
-use Rattle.std.specs.Prelude.{ℕ, Option, Some, None, List, [], ◌∷◌, map, option_map}
+use Rattle.std.specs.Prelude.{ℕ, Option, Some, None, Box, List, [], ◌∷◌, map, option_map}
+use Rattle.std.specs.Global.{Global}
 use Rattle.c_tokens.specs.declared.places.Place.{Place}
 use Rattle.c_grammar.specs.Trees as tree
 use Rattle.c_tree.specs.declared.names.Ident.{Ident}
@@ -111,7 +112,7 @@ expr_level (Expr-F.Number place value) = tree.Expr.Number place value
 expr_level (Expr-F.Null place) = tree.Expr.Null place
 expr_level (Expr-F.Paren place inner) = tree.Expr.Paren place inner.value
 expr_level (Expr-F.Call callee args) = tree.Expr.Call (ident_tree callee) (args_of args.items)
-expr_level (Expr-F.Malloc place as_type target) = tree.Expr.Malloc place (option_map specifier_tree as_type) (specifier_tree target)
+expr_level (Expr-F.Malloc place types) = tree.Expr.Malloc place (option_map specifier_tree types.value.cast) (specifier_tree types.value.target)
 
 abbrev pub link_level : Link-F tree.Expr LinkTree → LinkTree
 link_level link = record { op = binary_tree link.op; operand = link.operand }
@@ -156,8 +157,12 @@ local_tree local = record {
 
 abbrev pub init_tree : ForInit → tree.ForInit
 init_tree init.Empty = tree.ForInit.NoInit
-init_tree (init.Local local) = tree.ForInit.Locals (local_tree local)
-init_tree (init.Simple simple) = tree.ForInit.Once (simple_tree simple)
+init_tree (init.Local local) = tree.ForInit.Locals (local_tree local.value)
+init_tree (init.Simple simple) = tree.ForInit.Once (simple_tree simple.value)
+
+-- the step of a `for`
+abbrev pub for_step_tree : Box Simple Global → tree.Simple
+for_step_tree step = simple_tree step.value
 
 -- the statements in braces, with the places of the braces
 pub record BlockTree : Type 0 where
@@ -184,7 +189,7 @@ stmt_level (Stmt-F.If place test body other) = if_of place (expr_tree test) body
 stmt_level (Stmt-F.While place test body) = tree.Stmt.While place (expr_tree test) body.value
 stmt_level (Stmt-F.DoWhile place body test) = tree.Stmt.DoWhile place body.value (expr_tree test)
 stmt_level (Stmt-F.For place init test step body) =
-    tree.Stmt.For place (init_tree init) (option_map expr_tree test) (option_map simple_tree step) body.value
+    tree.Stmt.For place (init_tree init) (option_map expr_tree test) (option_map for_step_tree step) body.value
 stmt_level (Stmt-F.Break place) = tree.Stmt.Break place
 stmt_level (Stmt-F.Continue place) = tree.Stmt.Continue place
 stmt_level (Stmt-F.Return place value) = tree.Stmt.Return place (option_map expr_tree value)

@@ -38,6 +38,15 @@ pub enum PrefixOp {
     Not,
 }
 
+/// The types of a `malloc`. They stand by themselves, since they would be the largest part of an expression.
+#[derive(Drop)]
+pub struct MallocTypes {
+    /// The type of the cast before it, if there is one (C11 6.5.4).
+    pub cast: Option<TypeSpecifier>,
+    /// The type in its `sizeof`.
+    pub target: TypeSpecifier,
+}
+
 /// An expression (C11 6.5).
 #[cycle(expr)]
 #[derive(Drop)]
@@ -58,8 +67,8 @@ pub enum Expr {
     Paren(Place, Box<Expr>),
     /// A call of a function by its name (C11 6.5.2.2).
     Call(Ident, Vec<Expr>),
-    /// `malloc(sizeof(TYPE))`, with the type of the cast before it, if there is one (C11 6.5.4, 7.22.3.4).
-    Malloc(Place, Option<TypeSpecifier>, TypeSpecifier),
+    /// `malloc(sizeof(TYPE))` (C11 7.22.3.4).
+    Malloc(Place, Box<MallocTypes>),
 }
 
 /// An operator of a chain, and the operand behind it.

@@ -2,14 +2,14 @@
 //! `c_grammar`, each value stands for; what reads, prints and checks C speaks of that tree alone.
 #![tactic(auto)]
 
-mod clones;
 pub mod exprs;
 pub mod items;
 pub mod names;
+pub mod places;
 pub mod stmts;
 
 pub use c_tokens::Place;
-pub use exprs::{BinaryOp, Expr, Link, PrefixOp};
+pub use exprs::{BinaryOp, Expr, Link, MallocTypes, PrefixOp};
 pub use items::{Item, Unit};
 pub use names::{Declarator, FieldDecl, Head, Ident, Param, Params, TypeSpecifier};
 pub use shape_data::Name;

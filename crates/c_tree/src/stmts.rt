@@ -53,15 +53,15 @@ pub struct Local {
     pub others: Vec<Initialized>,
 }
 
-/// What a `for` begins with (C11 6.8.5.3).
+/// What a `for` begins with (C11 6.8.5.3). Its parts stand by themselves, as its step does, since a `for` would be the largest of the statements.
 #[derive(Drop)]
 pub enum ForInit {
     /// Nothing.
     Empty,
     /// A declaration.
-    Local(Local),
+    Local(Box<Local>),
     /// A simple statement.
-    Simple(Simple),
+    Simple(Box<Simple>),
 }
 
 /// A statement (C11 6.8).
@@ -100,7 +100,7 @@ pub enum Stmt {
         place: Place,
         init: ForInit,
         test: Option<Expr>,
-        step: Option<Simple>,
+        step: Option<Box<Simple>>,
         body: Box<Stmt>,
     },
     /// `break` (C11 6.8.6.3).

@@ -13,7 +13,7 @@ use Rattle.c_types_stmts.specs.Adding.{Adds}
 use Rattle.c_types_stmts.specs.Behind.{behind_stmts}
 use Rattle.c_types_stmts.proofs.Adding.{refused, ends, ends_same}
 use Rattle.c_types_stmts.proofs.Leaving.{stmts_within}
-use Rattle.c_types.specs.Behind.{behind_params}
+use Rattle.c_types_names.specs.Behind.{behind_params}
 
 pub refused_on : {T E : Type 0} (r : Result T E) (all : List Refusal) (f : Finding) (first : First) → OnOk r (first ≡ lowered f.first all)
     → OnOk r (Adds (refuses all) f (record { first = first; kinds = f.kinds }))

@@ -1,4 +1,3 @@
-pub mod Appending
 pub mod Naming
 pub mod Params
 pub mod Sameness

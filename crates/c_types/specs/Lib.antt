@@ -1,4 +1,3 @@
-pub mod Behind
 pub mod Names
 pub mod Firsts
 pub mod Typing

@@ -6,7 +6,7 @@ ghost use Rattle.c_types_rules.specs.Programs as program;
 ghost use Rattle.c_types.specs.Typing.{files_of};
 ghost use Rattle.c_types.specs.Checking.{IsFault};
 
-use crate::defs::{known_kinds, struct_defs};
+use crate::defs::struct_defs;
 use crate::items::items;
 use crate::typed::{TypeFault, Typed};
 use c_tree::Unit;
@@ -51,23 +51,24 @@ fn find<'a>(alloc: Global, env: &mut Env<'a>, units: &'a [Unit]) -> Result<Findi
     Ok(found)
 }
 
-/// The well typed program, with its structures and types.
+/// The well typed program, with what is declared in it, its structures and types.
 fn typed<'a>(
     alloc: Global,
-    tables: &Tables<'a>,
-    kinds: &Kinds<'a>,
+    tables: Tables<'a>,
+    kinds: Kinds<'a>,
     units: &'a [Unit],
 ) -> Result<Typed<'a>, AllocError>
-    requires tables { tables.now ≡ program.tables_of (files_of units.now) }
+    requires tables { tables ≡ program.tables_of (files_of units.now) }
     requires well_typed { program.IsWellTyped (files_of units.now) }
-    requires kinds { kinds.now ≡ program.kinds_of (files_of units.now) }
-    ensures { IfOk result (λ typed. typed.units.now ≡ units.now) }
+    requires kinds { kinds ≡ program.kinds_of (files_of units.now) }
+    ensures units { IfOk result (λ typed. typed.units.now ≡ units.now) }
+    ensures well_typed { IfOk result (λ _. program.IsWellTyped (files_of units.now)) }
 {
     types_are_known();
-    let structs = struct_defs(alloc, tables)?;
-    let kinds = known_kinds(alloc, kinds.as_slice())?;
+    let structs = struct_defs(alloc, &tables)?;
     Ok(Typed {
         units,
+        tables,
         structs,
         kinds,
     })
@@ -76,20 +77,22 @@ fn typed<'a>(
 /// The answer, where this is what was found.
 fn answer<'a>(
     alloc: Global,
-    tables: &Tables<'a>,
-    found: &Finding<'a>,
+    tables: Tables<'a>,
+    found: Finding<'a>,
     units: &'a [Unit],
 ) -> Result<Typed<'a>, TypeFault>
-    requires tables { tables.now ≡ program.tables_of (files_of units.now) }
-    requires refusal { found.now.first.found ≡ program.first_refusal (files_of units.now) }
-    requires kinds { found.now.kinds ≡ program.kinds_of (files_of units.now) }
+    requires tables { tables ≡ program.tables_of (files_of units.now) }
+    requires refusal { found.first.found ≡ program.first_refusal (files_of units.now) }
+    requires kinds { found.kinds ≡ program.kinds_of (files_of units.now) }
     ensures units { IfOk result (λ typed. typed.units.now ≡ units.now) }
+    ensures well_typed { IfOk result (λ _. program.IsWellTyped (files_of units.now)) }
     ensures fault { IfErr result (λ fault. IsFault (files_of units.now) fault) }
 {
     first_refusal();
-    match found.first.found {
+    let Finding { first, kinds } = found;
+    match first.found {
         Some(at) => Err(TypeFault::Refused(at)),
-        None => Ok(typed(alloc, tables, &found.kinds, units)?),
+        None => Ok(typed(alloc, tables, kinds, units)?),
     }
 }
 
@@ -106,5 +109,5 @@ pub fn check<'a>(alloc: Global, units: &'a [Unit]) -> Result<Typed<'a>, TypeFaul
 {
     let mut env = Env::new(alloc, declared(alloc, units)?);
     let found = find(alloc, &mut env, units)?;
-    answer(alloc, env.tables(), &found, units)
+    answer(alloc, env.into_tables(), found, units)
 }

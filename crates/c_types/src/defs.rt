@@ -6,8 +6,9 @@ ghost use Rattle.c_types_names.specs.Seen.{kind_seen, field_seen, structure_seen
 use crate::fields::Fields;
 use c_types_names::declared::Structure;
 use c_types_names::kinds::{CType, Kind};
+use c_types_names::named::Structures;
 use c_types_names::objects::FieldKind;
-use c_types_names::tables::{Tables, structure_among};
+use c_types_names::tables::Tables;
 use shape_data::program::{Field, StructDef, Ty};
 use shape_data::{Row, copy_of};
 use std::alloc::{AllocError, Global};
@@ -22,17 +23,6 @@ fn known(kind: Kind) -> Result<Ty, AllocError>
         Some(CType::Pointer(tag)) => Ok(Ty::Ptr(copy_of(tag)?)),
         Some(CType::Void) => Ok(Ty::Void),
     }
-}
-
-/// The types, where they are known.
-pub fn known_kinds(alloc: Global, kinds: &[Kind]) -> Result<Row<Ty>, AllocError>
-    ensures { IfOk result (λ types. types ≡ map known (map kind_seen kinds.now)) }
-{
-    let mut types = Vec::new(alloc);
-    for kind in kinds {
-        types.push(known(*kind)?)?;
-    }
-    Ok(Row::from_vec(types))
 }
 
 /// The field as data of its own.
@@ -77,12 +67,12 @@ fn struct_def<'a>(
 fn first_structures<'a>(
     alloc: Global,
     structures: &[Structure<'a>],
-) -> Result<Vec<Structure<'a>>, AllocError>
-    ensures { IfOk result (λ firsts. map structure_seen firsts.items ≡ first_structures [] (map structure_seen structures.now)) }
+) -> Result<Structures<'a>, AllocError>
+    ensures { IfOk result (λ firsts. firsts ≡ first_structures [] (map structure_seen structures.now)) }
 {
-    let mut firsts = Vec::new(alloc);
+    let mut firsts = Structures::new(alloc);
     for one in structures {
-        if structure_among(firsts.as_slice(), one.tag).is_none() {
+        if firsts.first(one.tag).is_none() {
             firsts.push(*one)?;
         }
     }

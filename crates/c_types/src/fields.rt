@@ -6,10 +6,12 @@ ghost use Rattle.c_types_rules.specs.Tables.{field_kind, field_kinds};
 ghost use Rattle.c_types_rules.specs.Items.{same_fields};
 ghost use Rattle.c_tree.specs.Syntax.{specifier_tree, declarator_tree, fields_tree};
 ghost use Rattle.c_types_names.specs.Seen.{field_seen};
+ghost use Rattle.c_types_names.specs.StructFields.{declared_seen, kind_of_declared};
 
 use c_tree::FieldDecl;
 use c_types_names::kinds::{may_agree, same_name};
 use c_types_names::objects::{FieldKind, field_kind};
+use c_types_names::struct_fields::{DeclaredField, StructFields};
 use c_types_names::tables::Tables;
 use std::alloc::{AllocError, Global};
 use std::marker::Model;
@@ -39,16 +41,24 @@ fn same_field(one: FieldKind, other: FieldKind) -> bool
     same_name(&one.name.text, &other.name.text) && may_agree(one.kind, other.kind)
 }
 
-/// Whether the fields are the same, in one order.
+/// Whether a declared field has the same name as the other, and a type that may agree with its.
+fn same_declared<'a>(tables: &Tables<'a>, one: DeclaredField<'a>, other: FieldKind) -> bool
+    ensures { let this = kind_of_declared tables.now (declared_seen one.entry) in let that = field_seen other.entry in
+        result ≡ (bytes_eq this.name.text that.name.text && may_agree this.kind that.kind) }
+{
+    same_field(field_kind(tables, one.specifier, one.declarator), other)
+}
+
+/// Whether the fields of a structure are the same as others, in one order.
 #[tactic(auto, using(crate::proofs::Sameness::fields))]
-fn same_fields_of(ones: &[FieldKind], others: &[FieldKind]) -> bool
-    ensures { result ≡ same_fields (map field_seen ones.now) (map field_seen others.now) }
+fn same_fields_of<'a>(tables: &Tables<'a>, ones: &[DeclaredField<'a>], others: &[FieldKind]) -> bool
+    ensures { result ≡ same_fields (map (kind_of_declared tables.now) (map declared_seen ones.now)) (map field_seen others.now) }
 {
     for (place, one) in ones.iter().enumerate() {
         if place >= others.len() {
             return false;
         }
-        if !same_field(*one, others[place]) {
+        if !same_declared(tables, *one, others[place]) {
             return false;
         }
     }
@@ -74,7 +84,7 @@ impl<'a> Fields<'a> {
     }
 
     /// The fields in a declaration.
-    #[tactic(auto, using(crate::proofs::Appending::appending))]
+    #[tactic(auto, using(c_types_names::proofs::Appending::appending))]
     fn push_line(&mut self, tables: &Tables<'a>, line: &'a FieldDecl) -> Result<(), AllocError>
         ensures { let seen = fields_tree line.now in
             OnOk result (self.new ≡ self.old ++ map (field_kind tables.now seen.specifier) (seen.first ∷ seen.others)) }
@@ -87,7 +97,7 @@ impl<'a> Fields<'a> {
     }
 
     /// The fields of a structure.
-    #[tactic(auto, using(crate::proofs::Appending::appending))]
+    #[tactic(auto, using(c_types_names::proofs::Appending::appending))]
     pub fn push_lines(
         &mut self,
         tables: &Tables<'a>,
@@ -101,11 +111,11 @@ impl<'a> Fields<'a> {
         Ok(())
     }
 
-    /// Whether the fields are the same, in one order.
-    pub fn same(&self, other: &Fields) -> bool
-        ensures { result ≡ same_fields self.now other.now }
+    /// Whether a structure has the same fields, in one order.
+    pub fn same(&self, tables: &Tables<'a>, one: &StructFields<'a>) -> bool
+        ensures { result ≡ same_fields (map (kind_of_declared tables.now) one.now) self.now }
     {
-        same_fields_of(self.found.as_slice(), other.found.as_slice())
+        same_fields_of(tables, one.as_slice(), self.found.as_slice())
     }
 
     /// The fields, in order.

@@ -1,25 +1,25 @@
 //! Declarations of procedures (C11 6.7.6.3).
 ghost use Rattle.std.specs.Prelude.{◌≡◌, ◌&&◌, ◌++◌, ◌∷◌, [], not, IfOk, OnOk, List, map, option_map};
 ghost use Rattle.c_grammar.specs.Trees.{Name as NameTree};
-ghost use Rattle.c_types_rules.specs.FirstPlaces.{place_of_head};
+ghost use Rattle.c_grammar.specs.FirstPlaces.{place_of_head};
 ghost use Rattle.c_types_rules.specs.Types.{may_agree, unless as unless_of, SECOND, CLASH};
-ghost use Rattle.c_types_rules.specs.Tables.{is_alias, param_kind, param_kinds, kind_of_result};
+ghost use Rattle.c_types_rules.specs.Tables.{Tables as TypeTables, is_alias, param_kind, param_kinds, kind_of_result};
 ghost use Rattle.c_types_rules.specs.Items.{is_hidden_by, param_refusals, each_param_refusals, listed, with_name, head_refusals, same_kinds, same_head};
 ghost use Rattle.c_tree.specs.Syntax.{ident_tree, specifier_tree, param_tree, params_tree, head_tree};
-ghost use Rattle.c_types_names.specs.Seen.{kind_seen, procedure_seen};
+ghost use Rattle.c_types_names.specs.Seen.{procedure_seen};
 ghost use Rattle.c_types_names.specs.Lowered.{lowered};
 ghost use Rattle.c_types.specs.Names.{Lists};
 
 use crate::names::Names;
+use c_tree::places::place_of_specifier;
 use c_tree::{Head, Ident, Param, Params, TypeSpecifier};
-use c_types_exprs::listed::Kinds;
 use c_types_names::declared::Procedure;
 use c_types_names::first::First;
-use c_types_names::kinds::{Kind, may_agree};
+use c_types_names::kinds::may_agree;
 use c_types_names::name_set::NameSet;
 use c_types_names::objects::{
     CLASH, LEFT_OUT, SECOND, is_alias, kind_of_result, may_be_object, may_be_result, param_kind,
-    place_of_specifier, specifier_refusals,
+    specifier_refusals,
 };
 use c_types_names::tables::Tables;
 use std::alloc::{AllocError, Global};
@@ -120,70 +120,49 @@ fn head_refusals<'a>(
     names.refuse_second(alloc, first)
 }
 
-/// The types of parameters.
-#[tactic(auto, using(crate::proofs::Appending::appending))]
-fn push_param_kinds<'a>(
-    tables: &Tables<'a>,
-    params: &'a [Param],
-    list: &mut Kinds<'a>,
-) -> Result<(), AllocError>
-    ensures { OnOk result (list.new ≡ list.old ++ map (param_kind tables.now) (map param_tree params.now)) }
-{
-    for param in params {
-        list.push(param_kind(tables, param))?;
-    }
-    Ok(())
-}
-
-/// The types of a procedure's parameters.
-#[tactic(auto, using(crate::proofs::Appending::appending))]
-fn push_kinds_of<'a>(
-    tables: &Tables<'a>,
-    params: &'a Params,
-    list: &mut Kinds<'a>,
-) -> Result<(), AllocError>
-    ensures { OnOk result (list.new ≡ list.old ++ param_kinds tables.now (params_tree params.now)) }
-{
-    match params {
-        Params::Empty => Ok(()),
-        Params::Void(_) => Ok(()),
-        Params::Listed(param, others) => {
-            list.push(param_kind(tables, param))?;
-            push_param_kinds(tables, others.as_slice(), list)
-        }
-    }
-}
-
-/// Whether the types may agree, one by one.
+/// Whether the types of parameters may agree, one by one.
 #[tactic(auto, using(crate::proofs::Sameness::kinds))]
-fn same_kinds_of(ones: &[Kind], others: &[Kind]) -> bool
-    ensures { result ≡ same_kinds (map kind_seen ones.now) (map kind_seen others.now) }
+fn same_listed<'a>(tables: &Tables<'a>, ones: &'a [Param], others: &'a [Param]) -> bool
+    ensures { result ≡ same_kinds (map (param_kind tables.now) (map param_tree ones.now)) (map (param_kind tables.now) (map param_tree others.now)) }
 {
     for (place, one) in ones.iter().enumerate() {
         if place >= others.len() {
             return false;
         }
-        if !may_agree(*one, others[place]) {
+        if !may_agree(param_kind(tables, one), param_kind(tables, &others[place])) {
             return false;
         }
     }
     others.len() <= ones.len()
 }
 
-/// Whether the types of parameters may agree.
-fn same_params<'a>(
-    alloc: Global,
-    tables: &Tables<'a>,
-    ones: &'a Params,
-    others: &'a Params,
-) -> Result<bool, AllocError>
-    ensures { IfOk result (λ same. same ≡ same_kinds (param_kinds tables.now (params_tree ones.now)) (param_kinds tables.now (params_tree others.now))) }
+/// Whether no parameter is listed.
+fn has_none(params: &Params) -> bool
+    ensures { (tables : TypeTables) → result ≡ same_kinds [] (param_kinds tables (params_tree params.now)) }
 {
-    let mut one = Kinds::new(alloc);
-    push_kinds_of(tables, ones, &mut one)?;
-    let mut other = Kinds::new(alloc);
-    push_kinds_of(tables, others, &mut other)?;
-    Ok(same_kinds_of(one.as_slice(), other.as_slice()))
+    match params {
+        Params::Empty => true,
+        Params::Void(_) => true,
+        Params::Listed(_, _) => false,
+    }
+}
+
+/// Whether the types of parameters may agree.
+fn same_params<'a>(tables: &Tables<'a>, ones: &'a Params, others: &'a Params) -> bool
+    ensures { result ≡ same_kinds (param_kinds tables.now (params_tree ones.now)) (param_kinds tables.now (params_tree others.now)) }
+{
+    match ones {
+        Params::Listed(one, more) => match others {
+            Params::Listed(other, others) => {
+                may_agree(param_kind(tables, one), param_kind(tables, other))
+                    && same_listed(tables, more.as_slice(), others.as_slice())
+            }
+            Params::Empty => false,
+            Params::Void(_) => false,
+        },
+        Params::Empty => has_none(others),
+        Params::Void(_) => has_none(others),
+    }
 }
 
 /// Whether the types of the results may agree.
@@ -195,19 +174,14 @@ fn same_results<'a>(tables: &Tables<'a>, one: &'a Head, other: &'a Head) -> bool
 
 /// Whether a procedure that was declared before has the same types.
 #[tactic(auto, unfolding(c_types_names::specs::Seen::procedure_seen))]
-fn same_head<'a>(
-    alloc: Global,
-    tables: &Tables<'a>,
-    before: Option<Procedure<'a>>,
-    head: &'a Head,
-) -> Result<bool, AllocError>
-    ensures { IfOk result (λ same. same ≡ same_head tables.now (option_map procedure_seen before.entry) (head_tree head.now)) }
+fn same_head<'a>(tables: &Tables<'a>, before: Option<Procedure<'a>>, head: &'a Head) -> bool
+    ensures { result ≡ same_head tables.now (option_map procedure_seen before.entry) (head_tree head.now) }
 {
     match before {
-        None => Ok(true),
+        None => true,
         Some(before) => {
-            let params = same_params(alloc, tables, &before.head.params, &head.params)?;
-            Ok(same_results(tables, before.head, head) && params)
+            same_results(tables, before.head, head)
+                && same_params(tables, &before.head.params, &head.params)
         }
     }
 }
@@ -232,7 +206,7 @@ pub fn procedure_refusals<'a>(
     let name = &head.declarator.name;
     let alias = is_alias(before, &name.text);
     first.unless(!alias, name.place, SECOND);
-    let same = same_head(alloc, tables, declared, head)?;
+    let same = same_head(tables, declared, head);
     first.unless(same, place_of_specifier(&head.specifier), CLASH);
     Ok(())
 }

@@ -8,15 +8,16 @@ ghost use Rattle.c_types_rules.specs.Programs as program;
 ghost use Rattle.c_tree.specs.Syntax.{ident_tree, fields_tree, param_tree, params_tree, head_tree, block_tree, item_tree};
 ghost use Rattle.c_types_names.specs.Lowered.{lowered};
 ghost use Rattle.c_types_stmts.specs.Adding.{Adds};
-ghost use Rattle.c_types.specs.Behind.{behind_params};
+ghost use Rattle.c_types_names.specs.Behind.{behind_params};
 
 use crate::heads::procedure_refusals;
 use crate::structures::{alias_refusals, structure_refusals};
+use c_tree::places::place_of_specifier;
 use c_tree::{Block, FieldDecl, Head, Ident, Item, Param, Params};
 use c_types_names::env::Env;
 use c_types_names::first::First;
 use c_types_names::objects::{
-    LEFT_OUT, SECOND, UNDECLARED, is_defined, kind_of_result, param_kind, place_of_specifier,
+    LEFT_OUT, SECOND, UNDECLARED, is_defined, kind_of_result, param_kind,
 };
 use c_types_names::tables::{Tables, tag_or};
 use c_types_stmts::finding::Finding;

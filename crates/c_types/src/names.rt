@@ -54,7 +54,7 @@ impl<'a> Names<'a> {
     }
 
     /// The names of the fields in a declaration.
-    #[tactic(auto, using(crate::proofs::Appending::appending))]
+    #[tactic(auto, using(c_types_names::proofs::Appending::appending))]
     fn push_line(&mut self, line: &'a FieldDecl) -> Result<(), AllocError>
         ensures { let seen = fields_tree line.now in
             OnOk result (self.new ≡ self.old ++ map (λ (one : DeclaratorTree). one.name) (seen.first ∷ seen.others)) }
@@ -67,7 +67,7 @@ impl<'a> Names<'a> {
     }
 
     /// The names of fields.
-    #[tactic(auto, using(crate::proofs::Appending::appending))]
+    #[tactic(auto, using(c_types_names::proofs::Appending::appending))]
     pub fn push_lines(&mut self, lines: &'a [FieldDecl]) -> Result<(), AllocError>
         ensures { OnOk result (self.new ≡ self.old ++ field_names (map fields_tree lines.now)) }
     {
@@ -78,7 +78,7 @@ impl<'a> Names<'a> {
     }
 
     /// The name of the parameter, if it has one.
-    #[tactic(auto, using(crate::proofs::Appending::appending))]
+    #[tactic(auto, using(c_types_names::proofs::Appending::appending))]
     fn push_param(&mut self, param: &'a Param) -> Result<(), AllocError>
         ensures { OnOk result (self.new ≡ self.old ++ with_name (param_tree param.now).name []) }
     {

@@ -5,18 +5,19 @@ ghost use Rattle.c_grammar.specs.Readers.{place_of_specifier};
 ghost use Rattle.c_types_rules.specs.Types.{unless as unless_of, LEFT_OUT};
 ghost use Rattle.c_types_rules.specs.Tables.{field_kinds, structure_in, alias_in, specifier_refusals, may_be_object};
 ghost use Rattle.c_tree.specs.Syntax.{ident_tree, specifier_tree, declarator_tree, fields_tree};
-ghost use Rattle.c_types_names.specs.Seen.{structure_seen, alias_seen};
+ghost use Rattle.c_types_names.specs.Seen.{alias_seen};
+ghost use Rattle.c_types_names.specs.StructFields.{kind_of_declared};
 ghost use Rattle.c_types_names.specs.Lowered.{lowered};
 
 use crate::fields::Fields;
 use crate::names::Names;
+use c_tree::places::place_of_specifier;
 use c_tree::{Declarator, FieldDecl, Ident, TypeSpecifier};
-use c_types_names::declared::{Alias, Structure};
+use c_types_names::declared::Alias;
 use c_types_names::first::First;
 use c_types_names::kinds::same_name;
-use c_types_names::objects::{
-    DIFFERS, LEFT_OUT, SECOND, may_be_object, place_of_specifier, specifier_refusals,
-};
+use c_types_names::objects::{DIFFERS, LEFT_OUT, SECOND, may_be_object, specifier_refusals};
+use c_types_names::struct_fields::StructFields;
 use c_types_names::tables::Tables;
 use std::alloc::{AllocError, Global};
 
@@ -61,20 +62,18 @@ fn lines_refusals(tables: &Tables, lines: &[FieldDecl], first: &mut First)
     }
 }
 
-/// Whether two structures have the same fields.
+/// Whether a structure has the fields of the declarations.
 fn same_lines<'a>(
     alloc: Global,
     tables: &Tables<'a>,
-    ones: &'a [FieldDecl],
-    others: &'a [FieldDecl],
+    before: &StructFields<'a>,
+    lines: &'a [FieldDecl],
 ) -> Result<bool, AllocError>
-    ensures { IfOk result (λ same. same ≡ same_fields (field_kinds tables.now (map fields_tree ones.now)) (field_kinds tables.now (map fields_tree others.now))) }
+    ensures { IfOk result (λ same. same ≡ same_fields (map (kind_of_declared tables.now) before.now) (field_kinds tables.now (map fields_tree lines.now))) }
 {
-    let mut one = Fields::new(alloc);
-    one.push_lines(tables, ones)?;
-    let mut other = Fields::new(alloc);
-    other.push_lines(tables, others)?;
-    Ok(one.same(&other))
+    let mut fields = Fields::new(alloc);
+    fields.push_lines(tables, lines)?;
+    Ok(fields.same(tables, before))
 }
 
 /// Refuses a structure that was defined before with other fields.
@@ -82,17 +81,18 @@ fn same_lines<'a>(
 fn repeated_refusals<'a>(
     alloc: Global,
     tables: &Tables<'a>,
-    before: Option<Structure<'a>>,
+    before: &Tables<'a>,
     tag: &Ident,
     lines: &'a Vec<FieldDecl>,
     first: &mut First,
 ) -> Result<(), AllocError>
-    ensures { OnOk result (first.new ≡ lowered first.old (repeated_refusals tables.now (option_map structure_seen before.entry) (ident_tree tag.now) (map fields_tree lines.now.items))) }
+    ensures { let name = ident_tree tag.now in
+        OnOk result (first.new ≡ lowered first.old (repeated_refusals tables.now (structure_in before.now.structures name.text) name (map fields_tree lines.now.items))) }
 {
-    match before {
+    match before.fields(&tag.text) {
         None => Ok(()),
         Some(before) => {
-            let same = same_lines(alloc, tables, before.lines.as_slice(), lines.as_slice())?;
+            let same = same_lines(alloc, tables, before, lines.as_slice())?;
             first.unless(same, tag.place, DIFFERS);
             Ok(())
         }
@@ -115,14 +115,7 @@ pub fn structure_refusals<'a>(
     let mut names = Names::new(alloc);
     names.push_lines(lines.as_slice())?;
     names.refuse_second(alloc, first)?;
-    repeated_refusals(
-        alloc,
-        tables,
-        before.structure(&tag.text),
-        tag,
-        lines,
-        first,
-    )
+    repeated_refusals(alloc, tables, before, tag, lines, first)
 }
 
 /// Whether a name of a type that was given before is that of the same structure.

@@ -2,19 +2,22 @@
 ghost use Rattle.c_types.specs.Typing.{IsTyped, files_of};
 
 use c_tree::Unit;
+use c_types_exprs::listed::Kinds;
+use c_types_names::tables::Tables;
 use c_types_rules::At;
 use shape_data::Row;
-use shape_data::program::{StructDef, Ty};
+use shape_data::program::StructDef;
 use std::alloc::{AllocError, AllocFailed};
 
-/// A program that keeps the typing rules: its files, which are lent, its structures in the order of their first definitions, and the
-/// types of all its expressions in the order of the text. That the types are those is part of the type.
+/// A program that keeps the typing rules: its files, which are lent, what is declared in them, its structures in the order of their first
+/// definitions, and the types of all its expressions in the order of the text. That they are those is part of the type.
 #[derive(Drop)]
 pub struct Typed<'a> {
     pub units: &'a [Unit],
+    pub tables: Tables<'a>,
     pub structs: Row<StructDef>,
-    pub kinds: Row<Ty>,
-    pub ghost typed: { IsTyped (files_of units.now) structs kinds },
+    pub kinds: Kinds<'a>,
+    pub ghost typed: { IsTyped (files_of units.now) tables structs kinds },
 }
 
 /// Why a program is not well typed: the first refusal in the order of the text. The codes are 121, a name that is not declared; 122,

@@ -3,12 +3,11 @@ ghost use Rattle.std.specs.Prelude.{◌≡◌, map, option_map};
 ghost use Rattle.c_types_rules.specs.Tables.{procedure_in};
 ghost use Rattle.c_types_rules.specs.Scopes.{variable};
 ghost use Rattle.c_types_rules.specs.Expressions.{kind_of_variable, kind_of_call, kind_of_member, kind_of_members, int_of, kind_of_binary, kind_of_prefix, kind_of, kind_of_chain, is_null};
-ghost use Rattle.c_types_rules.specs.FirstPlaces.{place_of_expr};
 ghost use Rattle.c_grammar.specs.Trees.{BinaryOp as BinaryOpTree};
 ghost use Rattle.c_tree.specs.Syntax.{ident_tree, binary_tree, prefix_tree, expr_tree, links_tree};
 ghost use Rattle.c_types_names.specs.Seen.{kind_seen};
 
-use c_tree::{BinaryOp, Expr, Ident, Link, Name, Place, PrefixOp};
+use c_tree::{BinaryOp, Expr, Ident, Link, Name, PrefixOp};
 use c_types_names::env::Env;
 use c_types_names::kinds::{CType, Kind};
 use c_types_names::objects::{field_of, kind_of_result, pointer_of};
@@ -119,7 +118,7 @@ pub fn kind_of<'a>(env: &Env<'a>, expr: &'a Expr) -> Kind<'a>
         Expr::Null(_) => Some(CType::Int),
         Expr::Paren(_, inner) => kind_of(env, inner),
         Expr::Call(callee, _) => kind_of_call(env.tables(), &callee.text),
-        Expr::Malloc(_, _, target) => pointer_of(env.tables(), target),
+        Expr::Malloc(_, types) => pointer_of(env.tables(), &types.target),
     }
 }
 
@@ -148,23 +147,6 @@ pub fn is_null(expr: &Expr) -> bool
         Expr::Null(_) => true,
         Expr::Paren(_, inner) => is_null(inner),
         Expr::Call(_, _) => false,
-        Expr::Malloc(_, _, _) => false,
-    }
-}
-
-/// Where the expression begins.
-pub fn place_of_expr(expr: &Expr) -> Place
-    ensures { result ≡ place_of_expr (expr_tree expr.now) }
-{
-    match expr {
-        Expr::Chain(first, _) => place_of_expr(first),
-        Expr::Prefix(place, _, _) => *place,
-        Expr::Members(base, _, _) => place_of_expr(base),
-        Expr::Variable(name) => name.place,
-        Expr::Number(place, _) => *place,
-        Expr::Null(place) => *place,
-        Expr::Paren(place, _) => *place,
-        Expr::Call(callee, _) => callee.place,
-        Expr::Malloc(place, _, _) => *place,
+        Expr::Malloc(_, _) => false,
     }
 }

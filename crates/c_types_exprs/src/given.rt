@@ -42,7 +42,7 @@ pub fn given_by<'a>(env: &Env<'a>, expr: &'a Expr) -> Given<'a>
         Expr::Null(_) => Given::OfKind(kind_of(env, expr)),
         Expr::Paren(_, inner) => given_by(env, inner),
         Expr::Call(_, _) => Given::OfKind(kind_of(env, expr)),
-        Expr::Malloc(_, as_type, _) => given_by_malloc(env, as_type),
+        Expr::Malloc(_, types) => given_by_malloc(env, &types.cast),
     }
 }
 

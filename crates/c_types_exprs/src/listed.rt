@@ -114,7 +114,7 @@ fn push_first<'a>(env: &Env<'a>, expr: &'a Expr, list: &mut Kinds<'a>) -> Result
         Expr::Null(_) => list.push(kind_of(env, expr)),
         Expr::Paren(_, _) => list.push(kind_of(env, expr)),
         Expr::Call(_, _) => list.push(kind_of(env, expr)),
-        Expr::Malloc(_, _, _) => list.push(kind_of(env, expr)),
+        Expr::Malloc(_, _) => list.push(kind_of(env, expr)),
     }
 }
 
@@ -142,7 +142,7 @@ fn push_later<'a>(env: &Env<'a>, expr: &'a Expr, list: &mut Kinds<'a>) -> Result
             push_later(env, inner, list)
         }
         Expr::Call(_, args) => push_args(env, args, list),
-        Expr::Malloc(_, _, _) => Ok(()),
+        Expr::Malloc(_, _) => Ok(()),
     }
 }
 

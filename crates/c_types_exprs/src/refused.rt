@@ -9,8 +9,9 @@ ghost use Rattle.c_types_names.specs.Seen.{kind_seen};
 ghost use Rattle.c_types_exprs.specs.Seen.{given_seen};
 ghost use Rattle.c_types_names.specs.Lowered.{lowered};
 
-use crate::exprs::{is_null, kind_of, kind_of_binary, kind_of_member, place_of_expr};
+use crate::exprs::{is_null, kind_of, kind_of_binary, kind_of_member};
 use crate::given::{Given, fits, given_by, may_stand_behind, may_stand_by};
+use c_tree::places::place_of_expr;
 use c_tree::{Expr, Ident, Link, Name, Param, Params, Place, TypeSpecifier};
 use c_types_names::env::Env;
 use c_types_names::first::First;
@@ -215,9 +216,9 @@ pub fn expr_refusals<'a>(env: &Env<'a>, expr: &'a Expr, first: &mut First)
             args_refusals(env, args, first);
             callee_refusals(env, callee, args.as_slice(), first);
         }
-        Expr::Malloc(place, as_type, target) => {
+        Expr::Malloc(place, types) => {
             first.unless(false, *place, LEFT_OUT);
-            malloc_refusals(env, *place, as_type, target, first);
+            malloc_refusals(env, *place, &types.cast, &types.target, first);
         }
     }
 }
@@ -295,8 +296,8 @@ pub fn whole_refusals<'a>(env: &Env<'a>, expr: &'a Expr, first: &mut First)
         Expr::Null(_) => expr_refusals(env, expr, first),
         Expr::Paren(_, inner) => whole_refusals(env, inner, first),
         Expr::Call(callee, args) => call_refusals(env, callee, args, first),
-        Expr::Malloc(place, as_type, target) => {
-            malloc_refusals(env, *place, as_type, target, first);
+        Expr::Malloc(place, types) => {
+            malloc_refusals(env, *place, &types.cast, &types.target, first);
         }
     }
 }

@@ -1,7 +1,8 @@
 pub mod Noting
 pub mod Stacking
+pub mod Binding
+pub mod Appending
 pub mod Definitions
 pub mod Stars
-pub mod Searching
 pub mod Fields
 pub mod Lowering

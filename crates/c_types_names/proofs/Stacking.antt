@@ -5,7 +5,7 @@ use Rattle.std.proofs.Math.Seq.{drop-length, take-length}
 use Rattle.c_types_rules.specs.Tables.{Tables}
 use Rattle.c_types_rules.specs.Scopes.{Env, with_variable, entered}
 use Rattle.c_types_rules.specs.Scopes as scopes
-use Rattle.c_types_names.specs.declared.env.Variable.{Variable}
+use Rattle.c_types_names.specs.declared.variables.Variable.{Variable}
 use Rattle.c_types_names.specs.Seen.{kind_seen, variable_seen, stacked}
 
 pub stacked-append : (one other : List Variable) → stacked (one ++ other) ≡ stacked other ++ stacked one

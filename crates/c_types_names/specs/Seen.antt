@@ -9,7 +9,7 @@ use Rattle.c_types_names.specs.declared.declared.Alias.{Alias}
 use Rattle.c_types_names.specs.declared.declared.Procedure.{Procedure}
 use Rattle.c_tree.specs.Syntax.{ident_tree, fields_tree, head_tree}
 use Rattle.c_types_rules.specs.Types.{Kind}
-use Rattle.c_types_names.specs.declared.env.Variable.{Variable}
+use Rattle.c_types_names.specs.declared.variables.Variable.{Variable}
 use Rattle.c_types_names.specs.declared.objects.FieldKind.{FieldKind}
 use Rattle.c_types_rules.specs.Tables as tables
 use Rattle.c_types_rules.specs.Scopes as scopes

@@ -3,24 +3,18 @@ ghost use Rattle.std.specs.Prelude.{◌≡◌, ◌++◌, ◌≤◌, option_map, 
 ghost use Rattle.c_types_rules.specs.Scopes.{Variable as ScopeVariable, variable, variable_in, stands_here, with_variable, entered};
 ghost use Rattle.c_types_names.specs.Seen.{kind_seen, variable_seen, stacked};
 
-use crate::kinds::{Kind, same_name};
+use crate::kinds::Kind;
 use crate::tables::Tables;
+use crate::variables::{Variable, Variables};
 use c_tree::Name;
 use std::alloc::{AllocError, Global};
 use std::marker::Model;
-
-/// A variable and its type.
-#[derive(Clone, Copy)]
-pub struct Variable<'a> {
-    pub name: &'a Name,
-    pub kind: Kind<'a>,
-}
 
 /// A program, and the variables that stand at a place: the innermost one is the last.
 #[derive(Drop)]
 pub struct Env<'a> {
     tables: Tables<'a>,
-    variables: Vec<Variable<'a>>,
+    variables: Variables<'a>,
     begin: usize,
 }
 
@@ -31,23 +25,9 @@ impl<'a> Model for Env<'a> {
 
     ghost Value = { Env };
 
-    ghost view = { λ e. record { tables = e.tables; scopes = record { here = stacked (drop e.begin e.variables.items); around = stacked (take e.begin e.variables.items) } } };
+    ghost view = { λ e. record { tables = e.tables; scopes = record { here = stacked (drop e.begin e.variables); around = stacked (take e.begin e.variables) } } };
 
-    ghost invariant = { λ e. e.begin ≤ length e.variables.items };
-}
-
-/// The last variable of the name.
-#[tactic(auto, using(crate::proofs::Stacking::stacking))]
-fn last_of_name<'a>(variables: &[Variable<'a>], name: &Name) -> Option<Variable<'a>>
-    ensures { option_map variable_seen result ≡ variable_in (stacked variables.now) name.now }
-{
-    let mut last = None;
-    for variable in variables {
-        if same_name(variable.name, name) {
-            last = Some(*variable);
-        }
-    }
-    last
+    ghost invariant = { λ e. e.begin ≤ length e.variables };
 }
 
 impl<'a> Env<'a> {
@@ -58,7 +38,7 @@ impl<'a> Env<'a> {
     {
         Env {
             tables,
-            variables: Vec::new(alloc),
+            variables: Variables::new(alloc),
             begin: 0,
         }
     }
@@ -70,12 +50,24 @@ impl<'a> Env<'a> {
         &self.tables
     }
 
+    /// The program, which is taken out again.
+    pub fn into_tables(self) -> Tables<'a>
+        ensures { result ≡ self.entry.tables }
+    {
+        let Env {
+            tables,
+            variables: _variables,
+            begin: _begin,
+        } = self;
+        tables
+    }
+
     /// Where no variable stands.
     #[tactic(auto, using(crate::proofs::Stacking::stacking))]
     pub fn clear(&mut self)
         ensures { self.new ≡ record { tables = self.old.tables; scopes = record { here = []; around = [] } } }
     {
-        self.variables.clear();
+        self.variables.truncate(0);
         self.begin = 0;
     }
 
@@ -84,14 +76,14 @@ impl<'a> Env<'a> {
     pub fn variable(&self, name: &Name) -> Option<Variable<'a>>
         ensures { option_map variable_seen result ≡ variable self.now name.now }
     {
-        last_of_name(self.variables.as_slice(), name)
+        self.variables.last(name)
     }
 
     /// Whether the innermost scope has a variable of the name.
     pub fn stands_here(&self, name: &Name) -> bool
         ensures { result ≡ stands_here self.now name.now }
     {
-        last_of_name(&self.variables.as_slice()[self.begin..], name).is_some()
+        self.variables.has_from(self.begin, name)
     }
 
     /// With one more variable in the innermost scope.

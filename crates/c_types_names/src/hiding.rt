@@ -8,7 +8,8 @@ ghost use Rattle.c_types_names.specs.Lowered.{lowered};
 use crate::env::Env;
 use crate::first::First;
 use crate::kinds::Kind;
-use crate::objects::{LEFT_OUT, is_alias, place_of_specifier, pointer_of, specifier_refusals};
+use crate::objects::{LEFT_OUT, is_alias, pointer_of, specifier_refusals};
+use c_tree::places::place_of_specifier;
 use c_tree::{Name, TypeSpecifier};
 
 /// Whether a variable of the name stands there.

@@ -1,5 +1,5 @@
 //! What is declared, in the order of the text, and by its name.
-ghost use Rattle.std.specs.Prelude.{◌≡◌, [], ◌∷◌, ◌++◌, map, option_map, OnOk};
+ghost use Rattle.std.specs.Prelude.{◌≡◌, [], ◌∷◌, ◌++◌, map, option_map, OnOk, OnErr};
 ghost use Rattle.c_types_rules.specs.Tables.{structure_in, alias_in, procedure_in};
 ghost use Rattle.c_types_rules.specs.Items.{definitions};
 ghost use Rattle.c_types_names.specs.Seen.{structure_seen, alias_seen, procedure_seen};
@@ -58,7 +58,8 @@ impl<'a> Structures<'a> {
 
     /// With one more structure.
     pub fn push(&mut self, one: Structure<'a>) -> Result<(), AllocError>
-        ensures { OnOk result (self.new ≡ self.old ++ structure_seen one.entry ∷ []) }
+        ensures more { OnOk result (self.new ≡ self.old ++ structure_seen one.entry ∷ []) }
+        ensures same { OnErr result (self.new ≡ self.old) }
     {
         self.all.reserve(1)?;
         self.first.reserve(1)?;

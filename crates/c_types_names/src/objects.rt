@@ -1,17 +1,15 @@
 //! The types of objects: variables, parameters, fields and results.
-ghost use Rattle.std.specs.Prelude.{◌≡◌, ◌∷◌, map, option_map};
-ghost use Rattle.std.specs.Str.{bytes_eq};
-ghost use Rattle.c_grammar.specs.Readers.{place_of_specifier};
-ghost use Rattle.c_types_rules.specs.Tables.{pointer_to, pointer_of, specifier_refusals, names_structure, object_kind, may_be_object, result_kind, may_be_result, field_in, field_kind, field_kinds, field_of, param_kind, kind_of_result, is_defined, is_alias};
-ghost use Rattle.c_tree.specs.Syntax.{specifier_tree, declarator_tree, fields_tree, param_tree, head_tree};
+ghost use Rattle.std.specs.Prelude.{◌≡◌, option_map};
+ghost use Rattle.c_types_rules.specs.Tables.{pointer_to, pointer_of, specifier_refusals, names_structure, object_kind, may_be_object, result_kind, may_be_result, field_kind, field_of, param_kind, kind_of_result, is_defined, is_alias};
+ghost use Rattle.c_tree.specs.Syntax.{specifier_tree, declarator_tree, param_tree, head_tree};
 ghost use Rattle.c_types_names.specs.Seen.{kind_seen, field_seen};
 ghost use Rattle.c_types_names.specs.Lowered.{lowered};
 ghost use Rattle.c_types_names.specs.Specifiers.{is_int, is_void};
 
 use crate::first::First;
-use crate::kinds::{CType, Kind, same_name};
+use crate::kinds::{CType, Kind};
 use crate::tables::Tables;
-use c_tree::{Declarator, FieldDecl, Head, Ident, Name, Param, Place, TypeSpecifier};
+use c_tree::{Declarator, Head, Ident, Name, Param, TypeSpecifier};
 
 /// A name that is not declared.
 pub const UNDECLARED: u16 = 121;
@@ -43,18 +41,6 @@ pub fn is_alias(tables: &Tables, name: &Name) -> bool
     ensures { result ≡ is_alias tables.now name.now }
 {
     tables.alias(name).is_some()
-}
-
-/// Where the specifier begins.
-pub fn place_of_specifier(specifier: &TypeSpecifier) -> Place
-    ensures { result ≡ place_of_specifier (specifier_tree specifier.now) }
-{
-    match specifier {
-        TypeSpecifier::Int(place) => *place,
-        TypeSpecifier::Void(place) => *place,
-        TypeSpecifier::Struct(place, _) => *place,
-        TypeSpecifier::Alias(name) => name.place,
-    }
 }
 
 /// A pointer to the structure of the tag, if it is defined.
@@ -218,67 +204,12 @@ pub fn field_kind<'a>(
     }
 }
 
-/// Whether the field has the name.
-#[tactic(auto, unfolding(crate::specs::Seen::field_seen))]
-fn is_field(field: FieldKind, name: &Name) -> bool
-    ensures { result ≡ bytes_eq (field_seen field.entry).name.text name.now }
-{
-    same_name(&field.name.text, name)
-}
-
-/// The first field of the name among declarators.
-fn field_among<'a>(
-    tables: &Tables<'a>,
-    specifier: &'a TypeSpecifier,
-    declarators: &'a [Declarator],
-    name: &Name,
-) -> Option<FieldKind<'a>>
-    ensures { option_map field_seen result ≡ field_in (map (field_kind tables.now (specifier_tree specifier.now)) (map declarator_tree declarators.now)) name.now }
-{
-    for declarator in declarators {
-        let field = field_kind(tables, specifier, declarator);
-        if is_field(field, name) {
-            return Some(field);
-        }
-    }
-    None
-}
-
-/// The first field of the name in a declaration.
-fn field_in_line<'a>(tables: &Tables<'a>, line: &'a FieldDecl, name: &Name) -> Option<FieldKind<'a>>
-    ensures { let seen = fields_tree line.now in
-        option_map field_seen result ≡ field_in (map (field_kind tables.now seen.specifier) (seen.first ∷ seen.others)) name.now }
-{
-    let field = field_kind(tables, &line.specifier, &line.first);
-    if is_field(field, name) {
-        return Some(field);
-    }
-    field_among(tables, &line.specifier, line.others.as_slice(), name)
-}
-
-/// The first field of the name in declarations.
-fn field_in_lines<'a>(
-    tables: &Tables<'a>,
-    lines: &'a [FieldDecl],
-    name: &Name,
-) -> Option<FieldKind<'a>>
-    ensures { option_map field_seen result ≡ field_in (field_kinds tables.now (map fields_tree lines.now)) name.now }
-{
-    for line in lines {
-        match field_in_line(tables, line, name) {
-            Some(field) => return Some(field),
-            None => {}
-        }
-    }
-    None
-}
-
 /// The field of the structure, if it has one of this name.
 pub fn field_of<'a>(tables: &Tables<'a>, tag: &Name, name: &Name) -> Option<FieldKind<'a>>
     ensures { option_map field_seen result ≡ field_of tables.now tag.now name.now }
 {
-    match tables.structure(tag) {
+    match tables.field(tag, name) {
         None => None,
-        Some(found) => field_in_lines(tables, found.lines.as_slice(), name),
+        Some(field) => Some(field_kind(tables, field.specifier, field.declarator)),
     }
 }

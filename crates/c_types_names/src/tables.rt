@@ -1,14 +1,19 @@
 //! What the structures, the names of types and the procedures of a program are.
-ghost use Rattle.std.specs.Prelude.{◌≡◌, option_map, OnOk, map};
-ghost use Rattle.c_types_rules.specs.Tables.{no_tables, structure_in, alias_in, procedure_in, joined, declares, declared_by, tag_or};
+ghost use Rattle.std.specs.Prelude.{◌≡◌, [], ◌∷◌, option_map, OnOk, map};
+ghost use Rattle.std.specs.Option.{option_copied};
+ghost use Rattle.c_types_rules.specs.Tables.{no_tables, field_place, structure_in, alias_in, procedure_in, joined, declares, declared_by, tag_or};
 ghost use Rattle.c_types_rules.specs.Items.{definitions};
-ghost use Rattle.c_tree.specs.Syntax.{item_tree, ident_tree};
+ghost use Rattle.c_tree.specs.Syntax.{item_tree, ident_tree, fields_tree};
 ghost use Rattle.c_types_names.specs.Seen.{structure_seen, alias_seen, procedure_seen};
+ghost use Rattle.c_types_names.specs.StructFields.{declared_seen, fields_of, field_in_table};
 
 use crate::declared::{Alias, Procedure, Structure};
-use crate::kinds::same_name;
 use crate::named::{Aliases, Procedures, Structures};
+use crate::struct_fields::{
+    DeclaredField, FieldTable, StructFields, add_fields, field_in_table, place_in_table,
+};
 use c_tree::{FieldDecl, Head, Ident, Item, Name};
+use indexmap::IndexMap;
 use std::alloc::{AllocError, Global};
 use std::marker::Model;
 
@@ -17,14 +22,20 @@ pub struct Tables<'a> {
     structures: Structures<'a>,
     aliases: Aliases<'a>,
     procedures: Procedures<'a>,
+    fields: FieldTable<'a>,
 }
 
 impl<'a> Model for Tables<'a> {
-    ghost use Rattle.c_types_rules.specs.Tables.{Tables};
+    ghost use Rattle.std.specs.Prelude.{◌≡◌, ℕ, List, option_map};
+    ghost use Rattle.c_types_rules.specs.Tables.{Tables, structure_in};
+    ghost use Rattle.c_types_names.specs.Firsts.{first_of};
+    ghost use Rattle.c_types_names.specs.StructFields.{fields_of};
 
     ghost Value = { Tables };
 
     ghost view = { λ t. record { structures = t.structures; aliases = t.aliases; procedures = t.procedures } };
+
+    ghost invariant = { λ t. (n : List ℕ) → first_of t.fields n ≡ option_map fields_of (structure_in t.structures n) };
 }
 
 // Written out, so that callers' proofs take the end of the tables as one call, and not one for each part of each map.
@@ -34,20 +45,9 @@ impl<'a> Drop for Tables<'a> {
             structures: _structures,
             aliases: _aliases,
             procedures: _procedures,
+            fields: _fields,
         } = self;
     }
-}
-
-/// The first structure of the tag.
-pub fn structure_among<'a>(structures: &[Structure<'a>], tag: &Name) -> Option<Structure<'a>>
-    ensures { option_map structure_seen result ≡ structure_in (map structure_seen structures.now) tag.now }
-{
-    for structure in structures {
-        if same_name(structure.tag, tag) {
-            return Some(*structure);
-        }
-    }
-    None
 }
 
 /// The tag of a structure under `typedef`.
@@ -69,6 +69,7 @@ impl<'a> Tables<'a> {
             structures: Structures::new(alloc),
             aliases: Aliases::new(alloc),
             procedures: Procedures::new(alloc),
+            fields: IndexMap::new(alloc),
         }
     }
 
@@ -84,6 +85,27 @@ impl<'a> Tables<'a> {
         ensures { option_map structure_seen result ≡ structure_in self.now.structures tag.now }
     {
         self.structures.first(tag)
+    }
+
+    /// The fields of the first structure of the tag.
+    pub fn fields(&self, tag: &Name) -> Option<&StructFields<'a>>
+        ensures { option_copied result ≡ option_map fields_of (structure_in self.now.structures tag.now) }
+    {
+        self.fields.get(tag.as_bytes())
+    }
+
+    /// The first field of the name in the first structure of the tag.
+    pub fn field(&self, tag: &Name, name: &Name) -> Option<DeclaredField<'a>>
+        ensures { option_map declared_seen result ≡ field_in_table (option_map fields_of (structure_in self.now.structures tag.now)) name.now }
+    {
+        field_in_table(&self.fields, tag, name)
+    }
+
+    /// The place of the first field of the name in the first structure of the tag, or how many fields that has; 0 where there is none.
+    pub fn field_place(&self, tag: &Name, name: &Name) -> usize
+        ensures { result ≡ field_place self.now tag.now name.now }
+    {
+        place_in_table(&self.fields, tag, name)
     }
 
     /// The first of the names of types that is this name.
@@ -107,16 +129,25 @@ impl<'a> Tables<'a> {
         self.procedures.definition(name, defines)
     }
 
+    /// With one more structure.
+    fn push_structure(&mut self, tag: &'a Name, lines: &'a Vec<FieldDecl>) -> Result<(), AllocError>
+        ensures { OnOk result (self.new ≡ joined self.old (record { structures = record { tag = tag.now; lines = map fields_tree lines.now.items } ∷ []; aliases = []; procedures = [] })) }
+    {
+        let mut fields = StructFields::new(*self.fields.allocator());
+        fields.push_lines(lines.as_slice())?;
+        self.fields.reserve(1)?;
+        self.structures.push(Structure { tag, lines })?;
+        add_fields(&mut self.fields, tag, fields);
+        Ok(())
+    }
+
     /// With what the item declares.
     #[tactic(auto, unfolding(crate::specs::Seen::procedure_seen))]
     pub fn declare(&mut self, item: &'a Item) -> Result<(), AllocError>
         ensures { OnOk result (self.new ≡ joined self.old (declares (item_tree item.now))) }
     {
         match item {
-            Item::Struct { tag, fields, .. } => self.structures.push(Structure {
-                tag: &tag.text,
-                lines: fields,
-            })?,
+            Item::Struct { tag, fields, .. } => self.push_structure(&tag.text, fields)?,
             Item::TypedefStruct {
                 tag,
                 fields,
@@ -124,7 +155,7 @@ impl<'a> Tables<'a> {
                 ..
             } => {
                 let tag = &tag_or(tag, alias).text;
-                self.structures.push(Structure { tag, lines: fields })?;
+                self.push_structure(tag, fields)?;
                 self.aliases.push(Alias {
                     name: &alias.text,
                     tag,

@@ -7,7 +7,7 @@ use Rattle.shape_data.specs.declared.program.Ty.TheVariants.{Int, Ptr}
 use Rattle.c_tokens.specs.declared.places.Place.{Place}
 use Rattle.c_tokens.specs.declared.places.Refusal.{Refusal}
 use Rattle.c_grammar.specs.Trees.{Name, BinaryOp, PrefixOp, Expr, Links, Args}
-use Rattle.c_types_rules.specs.FirstPlaces.{place_of_expr}
+use Rattle.c_grammar.specs.FirstPlaces.{place_of_expr}
 use Rattle.c_types_rules.specs.Types.{Kind, IsKnown, may_be_int, UNDECLARED, refusal}
 use Rattle.c_types_rules.specs.Tables.{Procedure, Tables, FieldKind, procedure_in, is_defined, pointer_of, field_of}
 use Rattle.c_types_rules.specs.Scopes.{Variable, Env, variable_in, variable}

@@ -6,7 +6,7 @@ use Rattle.c_grammar.specs.Words.{Word}
 use Rattle.c_grammar.specs.Trees.{Name, Specifier, Expr, Links}
 use Rattle.c_grammar.specs.Spelling.{word_at, name, number, specifier, malloc, expr_at}
 use Rattle.c_grammar.specs.Readers.{place_at, place_of_specifier}
-use Rattle.c_types_rules.specs.FirstPlaces.{place_of_expr}
+use Rattle.c_grammar.specs.FirstPlaces.{place_of_expr}
 use Rattle.c_types_rules.specs.Laws.{HaveFirstPlaces}
 
 at_word : (place : Place) (class : ℕ) (from to : List Word) → word_at place class from to → place_at from ≡ place

@@ -4,7 +4,7 @@ use Rattle.std.specs.Str.{bytes_eq}
 use Rattle.c_tokens.specs.declared.places.Refusal.{Refusal}
 use Rattle.c_grammar.specs.Trees.{Name, Specifier, Declarator, Fields, Param, Params, Head, Stmts, Item}
 use Rattle.c_grammar.specs.Readers.{place_of_specifier}
-use Rattle.c_types_rules.specs.FirstPlaces.{place_of_head}
+use Rattle.c_grammar.specs.FirstPlaces.{place_of_head}
 use Rattle.c_types_rules.specs.Types.{Kind, may_agree, unless, UNDECLARED, CLASH, SECOND, DIFFERS, LEFT_OUT}
 use Rattle.c_types_rules.specs.Tables.{Structure, Alias, Procedure, Tables, FieldKind, tag_or, structure_in, alias_in, procedure_in, is_defined, is_alias, specifier_refusals, may_be_object, may_be_result, field_kinds, param_kind, param_kinds, kind_of_result}
 use Rattle.c_types_rules.specs.Scopes.{Variable}

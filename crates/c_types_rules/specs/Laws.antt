@@ -7,7 +7,7 @@ use Rattle.c_grammar.specs.Spelling.{expr_at, head, local}
 use Rattle.c_grammar.specs.Trees.{Specifier, BinaryOp, Expr, Args, Local, Head, File}
 use Rattle.c_grammar.specs.Words.{Word}
 use Rattle.c_types_rules.specs.declared.at.At.{At}
-use Rattle.c_types_rules.specs.FirstPlaces.{place_of_expr, place_of_local, place_of_head}
+use Rattle.c_grammar.specs.FirstPlaces.{place_of_expr, place_of_local, place_of_head}
 use Rattle.c_types_rules.specs.Types.{IsKnown}
 use Rattle.c_types_rules.specs.Scopes.{Env}
 use Rattle.c_types_rules.specs.Expressions.{kind_of}

@@ -1,4 +1,3 @@
-pub mod FirstPlaces
 pub mod Types
 pub mod Tables
 pub mod Scopes

@@ -5,7 +5,7 @@ use Rattle.c_tokens.specs.declared.places.Place.{Place}
 use Rattle.c_tokens.specs.declared.places.Refusal.{Refusal}
 use Rattle.c_grammar.specs.Trees.{Name, Specifier, Expr, Args, AssignOp, Simple, Initialized, Local, ForInit, Stmt, Stmts}
 use Rattle.c_grammar.specs.Readers.{place_of_specifier}
-use Rattle.c_types_rules.specs.FirstPlaces.{place_of_expr}
+use Rattle.c_grammar.specs.FirstPlaces.{place_of_expr}
 use Rattle.c_types_rules.specs.Types.{Kind, may_be_int, unless, CLASH, SECOND, LEFT_OUT}
 use Rattle.c_types_rules.specs.Tables.{object_kind, may_be_object, procedure_in}
 use Rattle.c_types_rules.specs.Scopes.{Env, stands_here, with_variable, entered, is_hidden, specifier_refusals_in}

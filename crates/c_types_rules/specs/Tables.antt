@@ -171,6 +171,20 @@ field_by tables (Some found) n = field_in (field_kinds tables found.lines) n
 abbrev pub field_of : Tables → List ℕ → List ℕ → Option FieldKind
 field_of tables tag n = field_by tables (structure_in tables.structures tag) n
 
+-- the place of the first of these fields that has the name, or how many there are
+abbrev pub place_in : List FieldKind → List ℕ → ℕ
+place_in [] n = 0
+place_in (first ∷ others) n = if bytes_eq first.name.text n then 0 else suc (place_in others n)
+
+-- the place of a field in the structure that was found
+abbrev pub place_by : Tables → Option Structure → List ℕ → ℕ
+place_by tables None n = 0
+place_by tables (Some found) n = place_in (field_kinds tables found.lines) n
+
+-- the place of a field among those of its structure, counted from 0
+abbrev pub field_place : Tables → List ℕ → List ℕ → ℕ
+field_place tables tag n = place_by tables (structure_in tables.structures tag) n
+
 -- the types of parameters
 abbrev pub param_kind : Tables → Param → Kind
 param_kind tables p = object_kind tables p.specifier p.stars

@@ -7,14 +7,13 @@ ghost use Rattle.c_types_stmts.specs.Adding.{Adds};
 
 use crate::finding::Finding;
 use crate::simples::{simple, whole};
+use c_tree::places::place_of_specifier;
 use c_tree::{Expr, ForInit, Initialized, Local, Place, TypeSpecifier};
 use c_types_exprs::given::fits;
 use c_types_names::env::Env;
 use c_types_names::hiding::{is_hidden, specifier_refusals_in};
 use c_types_names::kinds::Kind;
-use c_types_names::objects::{
-    CLASH, LEFT_OUT, SECOND, may_be_object, object_kind, place_of_specifier,
-};
+use c_types_names::objects::{CLASH, LEFT_OUT, SECOND, may_be_object, object_kind};
 use std::alloc::AllocError;
 
 /// The value that a local begins with, where its variable stands already.

@@ -6,8 +6,9 @@ ghost use Rattle.c_tree.specs.Syntax.{ident_tree, expr_tree, args_tree, assign_t
 ghost use Rattle.c_types_stmts.specs.Adding.{Adds};
 
 use crate::finding::Finding;
+use c_tree::places::place_of_expr;
 use c_tree::{AssignOp, Expr, Ident, Simple};
-use c_types_exprs::exprs::{is_null, kind_of, kind_of_call, place_of_expr};
+use c_types_exprs::exprs::{is_null, kind_of, kind_of_call};
 use c_types_exprs::given::{fits, given_by, gives_int, gives_pointer};
 use c_types_exprs::listed::{push_args, push_kinds};
 use c_types_exprs::refused::{call_refusals, expr_refusals, whole_refusals};
@@ -59,7 +60,7 @@ fn is_target(expr: &Expr) -> bool
         Expr::Null(_) => false,
         Expr::Paren(_, inner) => is_target(inner),
         Expr::Call(_, _) => false,
-        Expr::Malloc(_, _, _) => false,
+        Expr::Malloc(_, _) => false,
     }
 }
 

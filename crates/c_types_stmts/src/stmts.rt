@@ -3,7 +3,7 @@ ghost use Rattle.std.specs.Prelude.{◌≡◌, ◌&&◌, not, OnOk, map, option_
 ghost use Rattle.c_types_rules.specs.Statements as rule;
 ghost use Rattle.c_types_rules.specs.Expressions.{fits};
 ghost use Rattle.c_types_rules.specs.Scopes.{entered};
-ghost use Rattle.c_tree.specs.Syntax.{expr_tree, simple_tree, stmt_tree, stmts_tree, block_tree};
+ghost use Rattle.c_tree.specs.Syntax.{expr_tree, for_step_tree, stmt_tree, stmts_tree, block_tree};
 ghost use Rattle.c_types_names.specs.Seen.{kind_seen};
 ghost use Rattle.c_types_stmts.specs.Adding.{Adds};
 ghost use Rattle.c_types_stmts.specs.Behind.{behind_stmts};
@@ -11,8 +11,8 @@ ghost use Rattle.c_types_stmts.specs.Behind.{behind_stmts};
 use crate::finding::Finding;
 use crate::locals::{declaration, init};
 use crate::simples::{plain, simple, whole};
+use c_tree::places::place_of_expr;
 use c_tree::{Block, Expr, Place, Simple, Stmt};
-use c_types_exprs::exprs::place_of_expr;
 use c_types_exprs::given::{fits, given_by, gives_scalar};
 use c_types_names::env::Env;
 use c_types_names::kinds::{CType, Kind};
@@ -49,10 +49,10 @@ fn maybe_test<'a>(
 /// A simple statement, if there is one.
 fn maybe_simple<'a>(
     env: &Env<'a>,
-    one: &'a Option<Simple>,
+    one: &'a Option<Box<Simple>>,
     found: &mut Finding<'a>,
 ) -> Result<(), AllocError>
-    ensures { OnOk result (Adds (rule.maybe_simple env.now (option_map simple_tree one.now)) found.old found.new) }
+    ensures { OnOk result (Adds (rule.maybe_simple env.now (option_map for_step_tree one.now)) found.old found.new) }
 {
     match one {
         None => Ok(()),

@@ -1,5 +1,5 @@
 //! Worked rows of the front end. Each line of standard input is a row: a text in C, and what was worked for it by hand from the rules of
-//! typing or of lowering. Rows with another answer are printed with what was found, and at the end how many rows agree. Lines that are
+//! the grammar, of typing or of lowering. Rows with another answer are printed with what was found, and at the end how many rows agree. Lines that are
 //! empty or begin with `#` are no rows. [`rows`] says what a row is.
 #![tactic(auto)]
 

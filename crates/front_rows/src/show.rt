@@ -192,7 +192,7 @@ impl<'a> Left<'a> {
                 Task::Args(args.as_slice()),
                 Task::Text(b"}"),
             ]),
-            Expr::Malloc(_, as_type, target) => self.malloc(as_type, target),
+            Expr::Malloc(_, types) => self.malloc(&types.cast, &types.target),
         }
     }
 
@@ -242,7 +242,7 @@ impl<'a> Left<'a> {
         &mut self,
         init: &'a ForInit,
         test: &'a Option<Expr>,
-        step: &'a Option<Simple>,
+        step: &'a Option<Box<Simple>>,
     ) -> Result<(), AllocError> {
         self.put(&[Task::Text(b")")])?;
         if let Some(step) = step {

@@ -4,7 +4,7 @@ use crate::rows::{both_sides, first_word, text_behind};
 use c_front::{ReadFault, read_unit};
 use c_tree::Unit;
 use c_types::{TypeFault, check};
-use shape_data::program::Ty;
+use c_types_names::kinds::{CType, Kind};
 use std::alloc::Global;
 
 /// The tree of a text that is a file.
@@ -85,12 +85,13 @@ pub fn are_refused(rt: &impl Print, alloc: Global, row: &str) -> Result<bool, Fa
     is_first(rt, alloc, &[one, other], (file, code, column as usize))
 }
 
-/// `i`, `p` or `v` for a type.
-fn letter(ty: &Ty) -> char {
-    match ty {
-        Ty::Int => 'i',
-        Ty::Ptr(_) => 'p',
-        Ty::Void => 'v',
+/// `i`, `p` or `v` for a type, `?` for one that is not known.
+fn letter(kind: Kind) -> char {
+    match kind {
+        Some(CType::Int) => 'i',
+        Some(CType::Pointer(_)) => 'p',
+        Some(CType::Void) => 'v',
+        None => '?',
     }
 }
 
@@ -99,8 +100,8 @@ fn kinds(alloc: Global, text: &[u8]) -> Result<String, Fault> {
     let mut letters = String::new(alloc);
     match check(alloc, &[unit_of(alloc, text)?]) {
         Ok(typed) => {
-            for ty in typed.kinds.iter() {
-                letters.push(letter(ty))?;
+            for kind in typed.kinds.as_slice() {
+                letters.push(letter(*kind))?;
             }
             Ok(letters)
         }

@@ -1,5 +1,6 @@
 //! Marks of one loop.
-use c_lower_marks::{Loop, mark};
+use c_lower_emit::loops::Loop;
+use c_lower_marks::mark;
 use shape_data::program::{Cmd, Node, Operand, TestOp, Ty};
 use std::alloc::Global;
 use std::rt::HostRuntime;

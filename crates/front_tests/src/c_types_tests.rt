@@ -52,7 +52,7 @@ fn a_number_is_an_int(rt: HostRuntime) -> Result<(), Fail> {
         Ok(typed) => {
             assert_eq!(rt; typed.units.len(), 1);
             assert_eq!(rt; typed.structs.len(), 0);
-            assert_eq!(rt; typed.kinds.len(), 1);
+            assert_eq!(rt; typed.kinds.as_slice().len(), 1);
             Ok(())
         }
         Err(_) => Err("refused")?,

@@ -12,7 +12,7 @@ use Rattle.shape_data.specs.declared.program.Program.{Program}
 use Rattle.shape_data.specs.Sizes.{HasFewSlots, HasProgramSizes, IsNarrow}
 use Rattle.c_tokens.specs.declared.places.Place.{Place}
 use Rattle.c_grammar.specs.Trees.{Declarator, Fields, Head, Stmts, Item, File}
-use Rattle.c_types_rules.specs.FirstPlaces.{place_of_head}
+use Rattle.c_grammar.specs.FirstPlaces.{place_of_head}
 use Rattle.c_types_rules.specs.Items.{field_names, listed}
 use Rattle.c_types_rules.specs.Laws.{HaveFirst}
 use Rattle.c_types_rules.specs.Programs.{field_def, first_refusal, first_structures, in_unit, is_among, known, struct_def}

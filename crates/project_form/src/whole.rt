@@ -118,13 +118,13 @@ fn typed_files<'a>(
 }
 
 /// The typed files with these names in flow form.
-fn lowered_files(alloc: Global, names: &[Name], typed: &Typed<'_>) -> Result<Program, ProgramFault>
-    requires one_each { length names.now ≡ length typed.now.units.now }
-    requires few { length typed.now.units.now ≤ 256 }
-    requires lowerable { All IsLowerable (files_of typed.now.units.now) }
-    ensures program { IfOk result (λ program. program ≡ lowered_program names.now (files_of typed.now.units.now)) }
-    ensures small { IfOk result (λ _. first_too_large (files_of typed.now.units.now) ≡ None) }
-    ensures fault { IfErr result (λ fault. IsFirstFault (option_map (refused_at names.now) (first_too_large (files_of typed.now.units.now))) fault) }
+fn lowered_files(alloc: Global, names: &[Name], typed: Typed<'_>) -> Result<Program, ProgramFault>
+    requires one_each { length names.now ≡ length typed.units.now }
+    requires few { length typed.units.now ≤ 256 }
+    requires lowerable { All IsLowerable (files_of typed.units.now) }
+    ensures program { IfOk result (λ program. program ≡ lowered_program names.now (files_of typed.entry.units.now)) }
+    ensures small { IfOk result (λ _. first_too_large (files_of typed.entry.units.now) ≡ None) }
+    ensures fault { IfErr result (λ fault. IsFirstFault (option_map (refused_at names.now) (first_too_large (files_of typed.entry.units.now))) fault) }
 {
     laws::first_refusal();
     match lower(alloc, typed, names) {
@@ -143,7 +143,7 @@ fn program_in(alloc: Global, names: &[Name], units: &[Unit]) -> Result<Program, 
     ensures fault { IfErr result (λ fault. IsFirstFault (whole_refusal names.now (files_of units.now)) fault) }
 {
     let typed = typed_files(alloc, names, units)?;
-    let program = lowered_files(alloc, names, &typed)?;
+    let program = lowered_files(alloc, names, typed)?;
     match procedure_too_many(alloc, &program)? {
         Some(refused) => Err(ProgramFault::Refused(refused)),
         None => Ok(program),

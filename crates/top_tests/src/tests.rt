@@ -12,9 +12,10 @@ mod workers;
 use claim_core::Event;
 use heapan_top::{Outcome, Status, run};
 use io_ports::{
-    Held, InPieces, KeepFault, Keeper, MemorySink, MemorySource, OpenGate, ReadEnd, Sink, Source,
-    SteadySink, SteadySource, read_up_to,
+    Gate, Held, InPieces, KeepFault, Keeper, MemorySink, MemorySource, OpenGate, ReadEnd, Sink,
+    Source, SteadySink, SteadySource, read_up_to,
 };
+use reporters::Reporter;
 use sessions::{MALFORMED, SESSIONS};
 use stack::STACK;
 use std::alloc::{AllocError, Global};
@@ -68,6 +69,20 @@ impl Keeper for Nowhere {
     }
 }
 
+/// Runs the top call. The tests call it here, in one place, since each place that calls it is proved with all that its contract says.
+fn runs<R: Threads + Wait + Sync, S: Source, K: Sink, P: Keeper, G: Gate + Sync>(
+    rt: &R,
+    alloc: Global,
+    words: &[&str],
+    source: &mut S,
+    sink: &mut K,
+    keeper: &mut P,
+    gate: &G,
+    reporters: Vec<Box<dyn Reporter + Send>>,
+) -> Outcome {
+    run(rt, alloc, words, source, sink, keeper, gate, reporters)
+}
+
 /// Runs the top call with these words over any source and sink, without a store.
 fn called<R: Threads + Wait + Sync, S: Source, K: Sink>(
     rt: &R,
@@ -76,7 +91,7 @@ fn called<R: Threads + Wait + Sync, S: Source, K: Sink>(
     source: &mut S,
     sink: &mut K,
 ) -> Outcome {
-    run(
+    runs(
         rt,
         alloc,
         words,

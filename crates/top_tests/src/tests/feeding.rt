@@ -1,7 +1,7 @@
 //! Reporters are fed the entries of each report, when its reply was written.
 use super::stack::STACK;
 use super::worked::STACK_REPLY;
-use super::{Nowhere, put_as, steady};
+use super::{Nowhere, put_as, runs, steady};
 use heapan_top::{Outcome, Status, run};
 use io_ports::{MemorySink, OpenGate, SteadySink};
 use reporters::{CountReporter, Entry, Go, MemoryReporter, Reporter, TakeFault};
@@ -99,7 +99,7 @@ fn one_that_stops_is_dropped_and_the_other_has_all(rt: HostRuntime) -> Result<()
             status,
             reporters,
             ..
-        } = run(
+        } = runs(
             &rt,
             alloc,
             &["session"],
@@ -169,7 +169,7 @@ fn one_that_fails_is_dropped_and_the_reply_is_the_same(rt: HostRuntime) -> Resul
         status,
         reporters,
         ..
-    } = run(
+    } = runs(
         &rt,
         alloc,
         &["session"],
@@ -196,7 +196,7 @@ fn a_report_that_is_not_written_is_fed_to_nobody(rt: HostRuntime) -> Result<(), 
         status,
         reporters,
         ..
-    } = run(
+    } = runs(
         &rt,
         alloc,
         &["session"],

@@ -6,9 +6,9 @@ ghost use Rattle.shape_data.specs.WellFormed.{IsProgram};
 use super::stack::STACK;
 use super::work::{CHANGED_AND_BACK, PEEK_THRICE, PEEKS};
 use super::worked::STACK_REPLY;
-use super::{count_letter, put_as, steady};
+use super::{count_letter, put_as, runs, steady};
 use claim_core::Event;
-use heapan_top::{LoadedAnswers, Outcome, Status, agrees, plain, run};
+use heapan_top::{LoadedAnswers, Outcome, Status, agrees, plain};
 use io_ports::{Gate, Keeper, MemoryKeeper, OpenGate, SteadyKeeper, SteadySink};
 use project_form::Project;
 use session_generator::generate;
@@ -58,7 +58,7 @@ fn stored<R: Threads + Wait + Sync, P: Keeper>(
     sink: &mut SteadySink,
 ) -> Result<Outcome, Fail> {
     let mut source = steady(alloc, stream)?;
-    Ok(run(
+    Ok(runs(
         rt,
         alloc,
         &WITH_STORE,
@@ -344,7 +344,7 @@ fn logs<R: Threads + Wait + Sync + Abort>(
     let gate = Noting::new(alloc)?;
     let mut source = steady(alloc, stream)?;
     let mut sink = SteadySink::new(alloc)?;
-    let Outcome { log, .. } = run(
+    let Outcome { log, .. } = runs(
         rt,
         alloc,
         &words[..named],

@@ -2,8 +2,8 @@
 use super::stack::STACK;
 use super::work::PEEK_THRICE;
 use super::worked::STACK_REPLY;
-use super::{Nowhere, called, count_letter, put_as, steady};
-use heapan_top::{Outcome, Status, run};
+use super::{Nowhere, called, count_letter, put_as, runs, steady};
+use heapan_top::{Outcome, Status};
 use io_ports::{Gate, SteadySink};
 use std::alloc::{AllocError, Global};
 use std::sync::Wait;
@@ -91,7 +91,7 @@ fn the_leader_and_each_worker_solve_at_once(rt: HostRuntime) -> Result<(), Fail>
         let mut source = steady(alloc, THREE_FILES)?;
         let mut sink = SteadySink::new(alloc)?;
         let words = ["session", "--workers", workers];
-        let Outcome { status, solves, .. } = run(
+        let Outcome { status, solves, .. } = runs(
             &rt,
             alloc,
             &words,
@@ -151,7 +151,7 @@ fn a_storm_of_workers_and_edits_is_answered_as_by_none(rt: HostRuntime) -> Resul
     };
     let mut beside = SteadySink::new(alloc)?;
     let mut source = steady(alloc, stream.as_slice())?;
-    let other = run(
+    let other = runs(
         &rt,
         alloc,
         WORDS[4],

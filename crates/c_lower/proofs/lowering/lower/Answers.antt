@@ -6,5 +6,5 @@ use Rattle.c_lower.proofs.lowering.lower.Goals as goal
 
 pub new-context-requires : goal.new-context-requires
 new-context-requires c =
-    subst FieldsFit (sym c.in_ok-declared.ensures)
-    (fields_fit (files_of c.args.typed.now.units.now) c.requires.fields)
+    subst FieldsFit (sym c.args.typed.typed.tables)
+    (fields_fit (files_of c.args.typed.units.now) c.requires.fields)

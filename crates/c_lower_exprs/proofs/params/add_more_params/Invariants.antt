@@ -1,7 +1,7 @@
 use Rattle.std.proofs.Common.{◌≡◌, ◌+◌, ◌<◌, min, length, map, drop}
 use Rattle.c_lower_rules.specs.Programs.{bound_params}
 use Rattle.c_tree.specs.Syntax.{param_tree}
-use Rattle.c_types.specs.Behind.{behind_params}
+use Rattle.c_types_names.specs.Behind.{behind_params}
 use Rattle.c_lower_exprs.specs.Seen.{stacked}
 use Rattle.c_lower_exprs.proofs.params.add_more_params.Given as goal
 

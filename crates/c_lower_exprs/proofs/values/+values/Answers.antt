@@ -11,7 +11,7 @@ use Rattle.c_lower_exprs.specs.Lowered.{IsLowered}
 use Rattle.c_lower_exprs.proofs.Weights.{weight, links_weight, args_weight}
 use Rattle.c_lower_exprs.proofs.Chaining.{chain_is, weights, operand_numbers}
 use Rattle.c_lower_exprs.proofs.Arguing.{arguments_begun, arguments_more, arguments_all, each_weighs}
-use Rattle.c_lower_exprs.proofs.Trees.{members_is, call_is}
+use Rattle.c_tree.proofs.Trees.{members_is, call_is}
 use Rattle.c_lower_exprs.proofs.values.+values.Goals as goal
 
 pub chain-chain-requires : goal.chain-chain-requires

@@ -1,6 +1,6 @@
 use Rattle.std.proofs.Common.{◌≡◌, map, drop}
 use Rattle.c_lower_rules.specs.Marks.{assigned_in, loops_at}
-use Rattle.c_lower_marks.specs.Seen.{loop_seen}
+use Rattle.c_lower_emit.specs.Seen.{loop_seen}
 use Rattle.c_lower_marks.proofs.assigned.assigned_at.Given as goal
 
 abbrev pub invariant-loop-one : goal.invariant-loop-one

@@ -1,6 +1,6 @@
 use Rattle.std.proofs.Common.{◌≡◌, map, drop}
 use Rattle.c_lower_rules.specs.Marks.{loops_at}
-use Rattle.c_lower_marks.specs.Seen.{loop_seen}
+use Rattle.c_lower_emit.specs.Seen.{loop_seen}
 use Rattle.c_lower_marks.specs.Placed.{first_loop}
 use Rattle.c_lower_marks.proofs.marking.first_at.Given as goal
 

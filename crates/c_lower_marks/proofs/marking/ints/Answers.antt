@@ -1,7 +1,7 @@
 use Rattle.std.proofs.Common.{ℕ, ◌&&◌, map, sym, ap, ◌∙◌}
 use Rattle.shape_data.specs.declared.program.Ty.{Ty}
 use Rattle.c_lower_rules.specs.Marks.{is_int, assigned_in, loops_at}
-use Rattle.c_lower_marks.specs.Seen.{loop_seen}
+use Rattle.c_lower_emit.specs.Seen.{loop_seen}
 use Rattle.c_lower_marks.proofs.Keeping.{kept, passed}
 use Rattle.c_lower_marks.proofs.marking.ints.Goals as goal
 use Rattle.c_lower_marks.proofs.marking.ints.Goals.{then-is_assigned_int+in_ok-push, else-is_assigned_int}

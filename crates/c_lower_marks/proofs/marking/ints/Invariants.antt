@@ -1,6 +1,6 @@
 use Rattle.std.proofs.Common.{◌≡◌, ◌&&◌, ◌++◌, map, drop}
 use Rattle.c_lower_rules.specs.Marks.{is_int, assigned_in, slots_that, loops_at}
-use Rattle.c_lower_marks.specs.Seen.{loop_seen}
+use Rattle.c_lower_emit.specs.Seen.{loop_seen}
 use Rattle.c_lower_marks.proofs.marking.ints.Given as goal
 
 abbrev pub invariant-loop-slot : goal.invariant-loop-slot

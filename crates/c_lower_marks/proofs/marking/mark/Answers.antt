@@ -1,6 +1,6 @@
 use Rattle.std.proofs.Common.{List, length, map, ap, ◌∙◌, arith}
 use Rattle.shape_data.specs.declared.program.Node.{Node}
-use Rattle.c_lower_marks.specs.Seen.{loop_seen}
+use Rattle.c_lower_emit.specs.Seen.{loop_seen}
 use Rattle.c_lower_marks.specs.Placed.{marks_from, with_marks}
 use Rattle.c_lower_marks.proofs.Heading.{marks_from-length, marked_by}
 use Rattle.c_lower_marks.proofs.marking.mark.Goals as goal

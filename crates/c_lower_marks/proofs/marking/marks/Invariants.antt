@@ -1,5 +1,5 @@
 use Rattle.std.proofs.Common.{◌≡◌, ◌++◌, map, drop}
-use Rattle.c_lower_marks.specs.Seen.{loop_seen}
+use Rattle.c_lower_emit.specs.Seen.{loop_seen}
 use Rattle.c_lower_marks.specs.Placed.{marks_from}
 use Rattle.c_lower_marks.proofs.marking.marks.Given as goal
 

@@ -2,7 +2,7 @@ use Rattle.std.proofs.Common.{◌≡◌, sym, ap, ◌∙◌, subst, rules}
 use Rattle.c_tree.specs.Syntax.{expr_tree}
 use Rattle.c_lower_exprs.specs.Contexts.{on_line}
 use Rattle.c_lower_simples.specs.Targets.{IsTarget}
-use Rattle.c_lower_simples.proofs.Trees.{paren_is}
+use Rattle.c_tree.proofs.Trees.{paren_is}
 use Rattle.c_lower_simples.proofs.targets.+target_of.Goals as goal
 
 pub returns-in-Paren : goal.returns-in-Paren

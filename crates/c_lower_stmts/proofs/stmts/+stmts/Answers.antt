@@ -2,9 +2,9 @@ use Rattle.std.proofs.Common.{◌≡◌, ◌<◌, ℕ, None, Some, length, map, 
 use Rattle.std.proofs.lemmas.Result.{IfOk-weaker}
 use Rattle.c_grammar.specs.Trees as tree
 use Rattle.c_tree.specs.declared.stmts.Stmt.TheViews.{If}
-use Rattle.c_tree.specs.Syntax.{stmt_tree, stmts_of, stmts_tree, expr_tree, simple_tree, local_tree, init_tree}
+use Rattle.c_tree.specs.Syntax.{stmt_tree, stmts_of, stmts_tree, expr_tree, simple_tree, for_step_tree, local_tree, init_tree}
 use Rattle.c_tree.proofs.Branches.{if_else}
-use Rattle.c_types_stmts.proofs.Trees.{empty_is, if_is, while_is, do_while_is, for_is}
+use Rattle.c_tree.proofs.Trees.{empty_is, if_is, while_is, do_while_is, for_is}
 use Rattle.c_lower_rules.specs.Contexts.{Context, within_scope}
 use Rattle.c_lower_rules.specs.Statements.{inside, stmt, stmts, condition, for_init, for_step, from_place, simple_from, declaration}
 use Rattle.c_lower_rules.specs.Numbers.{StmtHasIntNumbers, StmtsHaveIntNumbers}
@@ -17,7 +17,7 @@ use Rattle.c_lower_stmts.proofs.Rounds.{while_laid, do_laid, for_laid}
 use Rattle.c_lower_stmts.proofs.Rows.{stmts_turn, numbers_at, one_more}
 use Rattle.c_lower_simples.proofs.Within.{within_then}
 use Rattle.c_lower_stmts.proofs.Scopes.{entered_within}
-use Rattle.c_lower_stmts.proofs.Trees.{local_is, simple_is, break_is, continue_is, return_is}
+use Rattle.c_tree.proofs.Trees.{local_is, simple_is, break_is, continue_is, return_is}
 use Rattle.c_lower_stmts.proofs.stmts.+stmts.Goals as goal
 
 pub stmt-returns-in-Empty-clause-laid : goal.stmt-returns-in-Empty-clause-laid
@@ -147,15 +147,15 @@ stmt-returns-in_ok-close-in-For-clause-laid t c = λ numbers line.
     let inits : (line : ℕ) → EmitsLowered (for_init (state (on_line (within_scope c.args.c.now) line) c.args.locals c.args.out.now) s.place (init_tree s.first)) (within_scope c.args.c.now) c.args.locals inner first c.args.out.now c.init.new.out =
     subst (λ x. (line : ℕ) → EmitsLowered (for_init (state (on_line x line) c.args.locals c.args.out.now) s.place (init_tree s.first)) x c.args.locals inner first c.args.out.now c.init.new.out) c.enter-mark.ensures.scope
     (c.in_ok-begun-in-For.ensures.laid n.0) in
-    let steps : (line : ℕ) → EmitsWithin (for_step (state (on_line inner line) second.locals c.nested-in-For.new.out) (option_map simple_tree s.last)) inner second.locals third c.nested-in-For.new.out c.step.new.out =
-    subst (λ x. (line : ℕ) → EmitsWithin (for_step (state (on_line x line) second.locals c.nested-in-For.new.out) (option_map simple_tree s.last)) x second.locals third c.nested-in-For.new.out c.step.new.out) kept
+    let steps : (line : ℕ) → EmitsWithin (for_step (state (on_line inner line) second.locals c.nested-in-For.new.out) (option_map for_step_tree s.last)) inner second.locals third c.nested-in-For.new.out c.step.new.out =
+    subst (λ x. (line : ℕ) → EmitsWithin (for_step (state (on_line x line) second.locals c.nested-in-For.new.out) (option_map for_step_tree s.last)) x second.locals third c.nested-in-For.new.out c.step.new.out) kept
     (c.in_ok-stepped-in-For.ensures n.2) in
     subst (λ x. EmitsLowered (stmt x (state (on_line c.args.c.now line) c.args.locals c.args.out.now)) c.args.c.now c.args.locals c.leave.new.self (record { begin = c.followed_by.result; locals = third.locals }) c.args.out.now c.lead_next.new.self)
     (sym tree_is)
-    (subst (λ x. EmitsLowered (stmt (tree.Stmt.For s.place (init_tree s.first) (option_map expr_tree s.test) (option_map simple_tree s.last) (stmt_tree s.body.value)) (state (on_line c.args.c.now line) c.args.locals c.args.out.now)) c.args.c.now c.args.locals x (record { begin = c.followed_by.result; locals = third.locals }) c.args.out.now c.lead_next.new.self)
+    (subst (λ x. EmitsLowered (stmt (tree.Stmt.For s.place (init_tree s.first) (option_map expr_tree s.test) (option_map for_step_tree s.last) (stmt_tree s.body.value)) (state (on_line c.args.c.now line) c.args.locals c.args.out.now)) c.args.c.now c.args.locals x (record { begin = c.followed_by.result; locals = third.locals }) c.args.out.now c.lead_next.new.self)
     (sym left)
     (for_laid c.args.c.now inner line c.args.locals c.len-start.result opened.opened.head opened.opened.index c.len-from-in-For.result c.len-past-in-For.result opened.opened.visible.items s.place (init_tree s.first)
-    (option_map expr_tree s.test) (option_map simple_tree s.last) (stmt_tree s.body.value) first second third c.followed_by.result c.at-target.result c.args.out.now c.init.new.out c.tested_for.new.out
+    (option_map expr_tree s.test) (option_map for_step_tree s.last) (stmt_tree s.body.value) first second third c.followed_by.result c.at-target.result c.args.out.now c.init.new.out c.tested_for.new.out
     c.nested-in-For.new.out c.step.new.out c.close-in-For.new.out c.lead_next.new.self within c.len-start.ensures opened.ensures.head opened.ensures.index opened.ensures.visible c.len-from-in-For.ensures
     c.len-past-in-For.ensures c.at-target.ensures inits (λ l. c.in_ok-tested_for-in-For.ensures n.1 l first.locals) (c.in_ok-laid-in-For.ensures.laid n.3) steps c.in_ok-close-in-For.ensures
     c.lead_next.ensures c.followed_by.ensures))

@@ -5,5 +5,5 @@ use Rattle.c_types.proofs.defs.first_structures.Given as goal
 
 abbrev pub invariant-loop-one : goal.invariant-loop-one
 invariant-loop-one l =
-    map structure_seen l.firsts.items ++ first_structures (map structure_seen l.firsts.items) (map structure_seen (drop l.one-index l.structures))
+    l.firsts ++ first_structures (l.firsts) (map structure_seen (drop l.one-index l.structures))
     ≡ first_structures [] (map structure_seen l.structures)

@@ -1,6 +1,6 @@
 use Rattle.std.proofs.Common.{◌≡◌, map, drop}
 use Rattle.c_tree.specs.Syntax.{param_tree}
-use Rattle.c_types.specs.Behind.{behind_params}
+use Rattle.c_types_names.specs.Behind.{behind_params}
 use Rattle.c_types.proofs.items.add_more_params.Given as goal
 
 abbrev pub invariant-loop-param : goal.invariant-loop-param

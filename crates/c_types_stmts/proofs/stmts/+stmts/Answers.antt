@@ -4,14 +4,14 @@ use Rattle.c_types_rules.specs.Scopes.{Env, entered}
 use Rattle.c_types_rules.specs.Statements.{test, stmt, stmts, behind_stmt}
 use Rattle.c_tree.specs.declared.stmts.Stmt.{Stmt}
 use Rattle.c_tree.specs.declared.stmts.Stmt.TheViews.{If}
-use Rattle.c_tree.specs.Syntax.{stmt_tree, stmts_tree, expr_tree, init_tree, simple_tree}
+use Rattle.c_tree.specs.Syntax.{stmt_tree, stmts_tree, expr_tree, init_tree, for_step_tree}
 use Rattle.c_tree.proofs.Branches.{if_else}
 use Rattle.c_types_names.specs.Seen.{kind_seen}
 use Rattle.c_types_stmts.specs.Behind.{behind_stmts}
 use Rattle.c_types_stmts.proofs.Adding.{nothing, then, ends, same, ends_same, turned, passed, over}
 use Rattle.c_types_stmts.proofs.Leaving.{stmt_kept, stmts_kept, init_kept, kept_again, left, may_leave}
 use Rattle.c_types_stmts.proofs.Loops.{for_found, tree_found, tree_ends}
-use Rattle.c_types_stmts.proofs.Trees.{empty_is, if_is, while_is, do_while_is, for_is}
+use Rattle.c_tree.proofs.Trees.{empty_is, if_is, while_is, do_while_is, for_is}
 use Rattle.c_types_stmts.proofs.stmts.+stmts.Goals as goal
 
 pub block-leave-requires : goal.block-leave-requires
@@ -48,7 +48,7 @@ pub stmt-returns-in_ok-nested-in-For-clause-found : goal.stmt-returns-in_ok-nest
 stmt-returns-in_ok-nested-in-For-clause-found t c =
     let s = c.in-For in
     tree_found c.args.env.now (kind_seen c.args.answer) c.args.loops _ _ (ap stmt_tree s.is ∙ for_is s.place s.first s.condition s.step s.body)
-    (for_found c.args.env.now c.enter-begin.new.self c.init.new.env (kind_seen c.args.answer) c.args.loops s.place (init_tree s.first) (option_map expr_tree s.condition) (option_map simple_tree s.step) (stmt_tree s.body.value)
+    (for_found c.args.env.now c.enter-begin.new.self c.init.new.env (kind_seen c.args.answer) c.args.loops s.place (init_tree s.first) (option_map expr_tree s.condition) (option_map for_step_tree s.step) (stmt_tree s.body.value)
     c.enter-begin.ensures.scopes c.in_ok-init-in-For.ensures.env c.in_ok-init-in-For.ensures.found c.in_ok-maybe_test-in-For.ensures c.in_ok-maybe_simple-in-For.ensures c.in_ok-nested-in-For.ensures.found)
 
 pub stmt-returns-in-Empty-clause-found : goal.stmt-returns-in-Empty-clause-found

@@ -8,16 +8,16 @@ use Rattle.project_form.proofs.Wholes.{lowered-within, lowerable-numbers, lowera
 use Rattle.project_form.proofs.whole.lowered_files.Goals as goal
 
 pub lower-requires-clause-numbers : goal.lower-requires-clause-numbers
-lower-requires-clause-numbers c = lowerable-numbers (files_of c.args.typed.now.units.now) c.requires.lowerable
+lower-requires-clause-numbers c = lowerable-numbers (files_of c.args.typed.units.now) c.requires.lowerable
 
 pub lower-requires-clause-fields : goal.lower-requires-clause-fields
-lower-requires-clause-fields c = lowerable-fields (files_of c.args.typed.now.units.now) c.requires.lowerable
+lower-requires-clause-fields c = lowerable-fields (files_of c.args.typed.units.now) c.requires.lowerable
 
 pub refused-requires : goal.refused-requires
 refused-requires c =
-    let files = files_of c.args.typed.now.units.now in
+    let files = files_of c.args.typed.units.now in
     let is : first_too_large files ≡ Some c.in-Err-Refused.at = search rules in
     let below = lowered-within c.first_refusal.ensures files c.in-Err-Refused.at is in
-    let same = length-map c.args.typed.now.units.now unit_tree in
+    let same = length-map c.args.typed.units.now unit_tree in
     let each = c.requires.one_each in
     omega (arith, below, same, each)

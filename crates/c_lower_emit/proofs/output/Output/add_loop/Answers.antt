@@ -2,7 +2,7 @@ use Rattle.std.proofs.Common.{◌≡◌, ◌≤◌, map, length, ap, ◌∙◌, 
 use Rattle.std.proofs.Math.Nat.{min-eq_left}
 use Rattle.std.proofs.lemmas.List.{length-map}
 use Rattle.std.specs.List.{insert}
-use Rattle.c_lower_marks.specs.Seen.{loop_seen}
+use Rattle.c_lower_emit.specs.Seen.{loop_seen}
 use Rattle.c_lower_emit.specs.Emitting.{Out, with_loop}
 use Rattle.c_lower_emit.proofs.Inserting.{map-insert}
 use Rattle.c_lower_emit.proofs.output.Output.add_loop.Goals as goal

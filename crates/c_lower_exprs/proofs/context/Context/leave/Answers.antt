@@ -1,5 +1,6 @@
 use Rattle.std.proofs.Common.{◌<◌, ◌≤◌, length, sym, ap, ◌∙◌, subst}
-use Rattle.c_lower_rules.specs.Contexts.{Context, field_place}
+use Rattle.c_types_rules.specs.Tables.{field_place}
+use Rattle.c_lower_rules.specs.Contexts.{Context}
 use Rattle.c_lower_exprs.specs.Seen.{stacked}
 use Rattle.c_lower_exprs.proofs.Stacking.{left_tables, context_left}
 use Rattle.c_lower_exprs.proofs.context.Context.leave.Goals as goal

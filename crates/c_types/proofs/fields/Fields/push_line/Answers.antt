@@ -2,7 +2,7 @@ use Rattle.std.proofs.Common.{◌++◌, ◌∷◌, [], ◌<◌, List, length, ma
 use Rattle.c_types_rules.specs.Tables.{FieldKind, field_kind}
 use Rattle.c_tree.specs.declared.names.Declarator.{Declarator}
 use Rattle.c_tree.specs.Syntax.{specifier_tree, declarator_tree}
-use Rattle.c_types.proofs.Appending.{pushed}
+use Rattle.c_types_names.proofs.Appending.{pushed}
 use Rattle.c_types.proofs.fields.Fields.push_line.Goals as goal
 
 pub loop-one-preserved : goal.loop-one-preserved

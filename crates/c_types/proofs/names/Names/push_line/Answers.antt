@@ -2,7 +2,7 @@ use Rattle.std.proofs.Common.{◌<◌, List, length, map, refl, rules}
 use Rattle.c_grammar.specs.Trees.{Declarator}
 use Rattle.c_tree.specs.declared.names.Declarator.{Declarator as Declared}
 use Rattle.c_tree.specs.Syntax.{ident_tree, declarator_tree}
-use Rattle.c_types.proofs.Appending.{pushed}
+use Rattle.c_types_names.proofs.Appending.{pushed}
 use Rattle.c_types.proofs.names.Names.push_line.Goals as goal
 
 pub loop-one-preserved : goal.loop-one-preserved

@@ -5,10 +5,10 @@ use Rattle.c_types_names.proofs.env.Env.enter.Goals as goal
 
 pub returns-clause-scopes : goal.returns-clause-scopes
 returns-clause-scopes c =
-    let end : c.len-self-inside.result ≡ length c.self.inside.variables.items = search rules in
-    went_in c.self.inside.tables c.self.inside.begin c.self.inside.variables.items c.self.invariant c.len-self-inside.result end
+    let end : c.len-self-inside.result ≡ length c.self.inside.variables = search rules in
+    went_in c.self.inside.tables c.self.inside.begin c.self.inside.variables c.self.invariant c.len-self-inside.result end
     ∙ ap entered c.self.view_is
 
 pub returns-clause-around : goal.returns-clause-around
 returns-clause-around c =
-    sym (length_around c.self.inside.tables c.self.inside.begin c.self.inside.variables.items c.self.invariant) ∙ ap (λ (e : Env). length e.scopes.around) c.self.view_is
+    sym (length_around c.self.inside.tables c.self.inside.begin c.self.inside.variables c.self.invariant) ∙ ap (λ (e : Env). length e.scopes.around) c.self.view_is

@@ -1,7 +1,0 @@
-use Rattle.std.proofs.Common.{◌≡◌, map, drop}
-use Rattle.c_types_rules.specs.Tables.{field_in, field_kinds}
-use Rattle.c_tree.specs.Syntax.{fields_tree}
-use Rattle.c_types_names.proofs.objects.field_in_lines.Given as goal
-
-abbrev pub invariant-loop-line : goal.invariant-loop-line
-invariant-loop-line l = field_in (field_kinds l.tables (map fields_tree (drop l.line-index l.lines))) l.name ≡ field_in (field_kinds l.tables (map fields_tree l.lines)) l.name

@@ -1,0 +1,15 @@
+use Rattle.std.proofs.Common.{◌≡◌, false, is_some, ◌∙◌, ap, rules}
+use Rattle.std.specs.Str.{bytes_eq}
+use Rattle.std.proofs.lemmas.Map.Text.{hash_map_updates_str}
+use Rattle.c_types_names.specs.Firsts.{first_of, or_first}
+use Rattle.c_types_names.proofs.Noting.{from_ok, put_first}
+use Rattle.c_types_names.proofs.struct_fields.add_fields.Goals as goal
+
+pub returns-then-not-contains_key : goal.returns-then-not-contains_key
+returns-then-not-contains_key c = λ n.
+    let bytes = c.as_bytes-bytes.result.now in
+    let new : is_some (first_of c.args.table.now bytes) ≡ false = search rules in
+    let updates = from_ok c.insert.result c.unwrap.result _ c.unwrap.ensures c.insert.ensures.updates in
+    hash_map_updates_str bytes c.args.table.now c.insert.new.self _ updates n
+    ∙ put_first (first_of c.args.table.now) bytes n c.args.fields new
+    ∙ ap (λ bs. or_first (first_of c.args.table.now n) (bytes_eq bs n) c.args.fields) c.as_bytes-bytes.ensures.value

@@ -1,0 +1,177 @@
+//! The fields of structures, in the order of the text, and by their names.
+ghost use Rattle.std.specs.Prelude.{◌≡◌, ◌<◌, [], ◌∷◌, ◌++◌, List, ℕ, map, option_map, OnOk};
+ghost use Rattle.std.specs.Str.{bytes_eq};
+ghost use Rattle.indexmap.specs.IndexMap.{spare};
+ghost use Rattle.c_tree.specs.Syntax.{specifier_tree, declarator_tree, fields_tree};
+ghost use Rattle.c_types_names.specs.Firsts.{first_of, or_first};
+ghost use Rattle.c_types_names.specs.StructFields.{declared_seen, declared_by_one, declared_in_line, declared_fields, field_named, field_in_table, place_named, place_in_table};
+
+use crate::firsts::{Firsts, add_first, first_of};
+use crate::kinds::same_name;
+use c_tree::{Declarator, FieldDecl, Name, TypeSpecifier};
+use indexmap::IndexMap;
+use std::alloc::{AllocError, Global};
+use std::marker::Model;
+
+/// A field: the specifier of its declaration, and its declarator.
+#[derive(Clone, Copy)]
+pub struct DeclaredField<'a> {
+    pub specifier: &'a TypeSpecifier,
+    pub declarator: &'a Declarator,
+}
+
+/// The fields of a structure.
+pub struct StructFields<'a> {
+    all: Vec<DeclaredField<'a>>,
+    first: Firsts<'a, DeclaredField<'a>>,
+}
+
+impl<'a> Model for StructFields<'a> {
+    ghost use Rattle.std.specs.Prelude.{◌≡◌, ℕ, List, map, option_map};
+    ghost use Rattle.c_types_names.specs.Firsts.{first_of};
+    ghost use Rattle.c_types_names.specs.StructFields.{DeclaredTree, declared_seen, field_named};
+
+    ghost Value = { List DeclaredTree };
+
+    ghost view = { λ f. map declared_seen f.all.items };
+
+    ghost invariant = { λ f. (n : List ℕ) → option_map declared_seen (first_of f.first n) ≡ field_named (map declared_seen f.all.items) n };
+}
+
+// Written out, so that callers' proofs take the end of the fields as one call.
+impl<'a> Drop for StructFields<'a> {
+    fn drop(self) {
+        let StructFields {
+            all: _all,
+            first: _first,
+        } = self;
+    }
+}
+
+/// The place of the first field of the name, or how many fields there are.
+fn place_among(fields: &[DeclaredField], name: &Name) -> usize
+    ensures { result ≡ place_named (map declared_seen fields.now) name.now }
+{
+    for (place, field) in fields.iter().enumerate() {
+        if same_name(&field.declarator.name.text, name) {
+            return place;
+        }
+    }
+    fields.len()
+}
+
+impl<'a> StructFields<'a> {
+    /// No field.
+    pub fn new(alloc: Global) -> StructFields<'a>
+        ensures { result ≡ [] }
+    {
+        StructFields {
+            all: Vec::new(alloc),
+            first: IndexMap::new(alloc),
+        }
+    }
+
+    /// The fields, in the order of the text.
+    pub fn as_slice(&self) -> &[DeclaredField<'a>]
+        ensures { map declared_seen result.now ≡ self.now }
+    {
+        self.all.as_slice()
+    }
+
+    /// The first field of the name.
+    pub fn first(&self, name: &Name) -> Option<DeclaredField<'a>>
+        ensures { option_map declared_seen result ≡ field_named self.now name.now }
+    {
+        first_of(&self.first, name)
+    }
+
+    /// The place of the first field of the name, or how many fields there are.
+    pub fn place(&self, name: &Name) -> usize
+        ensures { result ≡ place_named self.now name.now }
+    {
+        place_among(self.all.as_slice(), name)
+    }
+
+    /// With one more field.
+    fn push(&mut self, one: DeclaredField<'a>) -> Result<(), AllocError>
+        ensures { OnOk result (self.new ≡ self.old ++ declared_seen one.entry ∷ []) }
+    {
+        self.all.reserve(1)?;
+        self.first.reserve(1)?;
+        add_first(&mut self.first, &one.declarator.name.text, one);
+        self.all.push(one).unwrap();
+        Ok(())
+    }
+
+    /// With the field of a declarator.
+    fn push_declarator(
+        &mut self,
+        specifier: &'a TypeSpecifier,
+        declarator: &'a Declarator,
+    ) -> Result<(), AllocError>
+        ensures { OnOk result (self.new ≡ self.old ++ declared_by_one (specifier_tree specifier.now) (declarator_tree declarator.now) ∷ []) }
+    {
+        self.push(DeclaredField {
+            specifier,
+            declarator,
+        })
+    }
+
+    /// With the fields in a declaration.
+    #[tactic(auto, using(crate::proofs::Appending::appending))]
+    fn push_line(&mut self, line: &'a FieldDecl) -> Result<(), AllocError>
+        ensures { OnOk result (self.new ≡ self.old ++ declared_in_line (fields_tree line.now)) }
+    {
+        self.push_declarator(&line.specifier, &line.first)?;
+        for one in &line.others {
+            self.push_declarator(&line.specifier, one)?;
+        }
+        Ok(())
+    }
+
+    /// With the fields of a structure.
+    #[tactic(auto, using(crate::proofs::Appending::appending))]
+    pub fn push_lines(&mut self, lines: &'a [FieldDecl]) -> Result<(), AllocError>
+        ensures { OnOk result (self.new ≡ self.old ++ declared_fields (map fields_tree lines.now)) }
+    {
+        for line in lines {
+            self.push_line(line)?;
+        }
+        Ok(())
+    }
+}
+
+/// The fields of the first structure of each tag.
+pub type FieldTable<'a> = IndexMap<&'a [u8], StructFields<'a>>;
+
+/// Adds the fields of a structure of the tag, unless there is one. The table has room for one more.
+pub fn add_fields<'a>(table: &mut FieldTable<'a>, tag: &'a Name, fields: StructFields<'a>)
+    requires { 0 < spare table.old }
+    ensures { (n : List ℕ) → first_of table.new n ≡ or_first (first_of table.old n) (bytes_eq tag.now n) fields.entry }
+{
+    let bytes = tag.as_bytes();
+    if !table.contains_key(bytes) {
+        table.insert(bytes, fields).unwrap();
+    }
+}
+
+/// The first field of the name in the structure of the tag.
+pub fn field_in_table<'a>(
+    table: &FieldTable<'a>,
+    tag: &Name,
+    name: &Name,
+) -> Option<DeclaredField<'a>>
+    ensures { option_map declared_seen result ≡ field_in_table (first_of table.now tag.now) name.now }
+{
+    table.get(tag.as_bytes())?.first(name)
+}
+
+/// The place of the first field of the name in the structure of the tag, or how many fields that has; 0 where there is no structure.
+pub fn place_in_table(table: &FieldTable, tag: &Name, name: &Name) -> usize
+    ensures { result ≡ place_in_table (first_of table.now tag.now) name.now }
+{
+    match table.get(tag.as_bytes()) {
+        None => 0,
+        Some(fields) => fields.place(name),
+    }
+}
