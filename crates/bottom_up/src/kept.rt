@@ -1,4 +1,4 @@
-//! The summaries of a program's procedures from answers that are at hand, one for each component, callees first.
+//! Where the summaries of a program's procedures stand among answers that are at hand, one for each component, callees first.
 ghost use Rattle.std.specs.Prelude.{◌≡◌, length, All, IfOk, IsSome};
 ghost use Rattle.std.specs.List.{filter_map, find};
 ghost use Rattle.std.specs.Option.{option_copied};
@@ -12,32 +12,8 @@ ghost use Rattle.shape_data.specs.WellFormed.{IsProgram};
 use crate::places::{Place, places_named};
 use shape_data::answer::{Answer, Kept, ProcSummary};
 use shape_data::program::Program;
-use shape_data::{Name, Row, copy_of};
+use shape_data::{Name, copy_of};
 use std::alloc::{AllocError, Global};
-
-/// The summary at a place.
-pub fn kept_summary<'a>(kept: &'a [Kept], place: &Place) -> &'a ProcSummary
-    requires { IsSome (summary_in (answers_kept kept.now) place.now) }
-    ensures { summary_in (answers_kept kept.now) place.now ≡ Some result.now }
-{
-    &kept[place.component].answer.procs[place.member]
-}
-
-/// The summaries at these places.
-fn kept_summaries(
-    alloc: Global,
-    kept: &[Kept],
-    places: &[Place],
-) -> Result<Row<ProcSummary>, AllocError>
-    requires { All (λ place. IsSome (summary_in (answers_kept kept.now) place)) places.now }
-    ensures { IfOk result (λ made. made ≡ filter_map (summary_in (answers_kept kept.now)) places.now) }
-{
-    let mut made = Row::new(alloc);
-    for place in places {
-        made.push(copy_of(kept_summary(kept, place))?)?;
-    }
-    Ok(made)
-}
 
 /// Where the summaries of a program's procedures stand, in their order, among the answers of its components, each key having a right one.
 pub fn summary_places(
@@ -53,21 +29,6 @@ pub fn summary_places(
         IfOk result (λ places. filter_map (summary_in (answers_kept kept.now)) places.items ≡ summaries_for (known_by answer_of program.now) program.now.procs) }
 {
     places_named(alloc, program.procs.as_slice(), kept)
-}
-
-/// The summaries of a program's procedures, in their order, where the answers are those of its components, each key having a right one.
-pub fn summaries_of(
-    alloc: Global,
-    program: &Program,
-    kept: &[Kept],
-) -> Result<Row<ProcSummary>, AllocError>
-    requires program { IsProgram program.now }
-    requires right { (answer_of : Key → Answer) × AreRight answer_of × (answers_kept kept.now ≡ answers_in (known_by answer_of program.now)) }
-    ensures { (answer_of : Key → Answer) → AreRight answer_of → answers_kept kept.now ≡ answers_in (known_by answer_of program.now) →
-        IfOk result (λ made. made ≡ summaries_for (known_by answer_of program.now) program.now.procs) }
-{
-    let places = summary_places(alloc, program, kept)?;
-    kept_summaries(alloc, kept, &places)
 }
 
 /// The summary of the name in an answer.

@@ -11,7 +11,7 @@ use Rattle.shape_data.specs.declared.symbolic.SymHeap.{SymHeap}
 use Rattle.sym_canon.specs.declared.parts.Pair.{Pair}
 use Rattle.sym_canon.specs.Canonical.{without_locals}
 use Rattle.sym_pure.specs.IsNormal.{is_normal, is_normal_heap, is_read}
-use Rattle.sym_samples.specs.Samples.{has_sample}
+use Rattle.sym_samples.specs.Samples.{has_plain_sources, has_sample}
 use Rattle.abstraction_laws.specs.Pairs.{beside_nothing, pair_in_forms}
 use Rattle.abstraction_laws.proofs.NormalResults.{abstract_pre_is_normal, missing-normal}
 use Rattle.exec_laws.specs.declared.parts.Case.{Case}
@@ -20,7 +20,7 @@ use Rattle.certificate_laws.specs.Coming.{Task}
 use Rattle.certificate_laws.specs.Gaps.{line_at}
 use Rattle.certificate_laws.specs.Sameness.{same_heap}
 use Rattle.candidate_laws.specs.Candidates.{MOST_TURNS, candidates, case_comes, cases_come, cases_of_pair, empty_search, started, turns, turn_of, with_turn, without_turns}
-use Rattle.candidate_laws.specs.Coming.{candidate_by, candidate_of, has_many_parts, has_plain_sources, pair_at_node, same_pair, start_pair_at_node}
+use Rattle.candidate_laws.specs.Coming.{candidate_by, candidate_of, has_many_parts, pair_at_node, same_pair, start_pair_at_node}
 use Rattle.candidate_laws.specs.Laws.{CandidatesAreFew, CandidatesHaveSamples}
 use Rattle.candidate_laws.specs.Searching.{MOST_CANDIDATES, Search, candidate_comes, drops, listed_at, pair_comes, unless_none, with_candidate, with_pair}
 

@@ -17,6 +17,7 @@ use Rattle.shape_laws.specs.Symbolic.{emp}
 use Rattle.sym_canon.specs.declared.parts.Pair.{Pair}
 use Rattle.abstraction_laws.specs.Pairs.{beside_nothing, pair_in_forms}
 use Rattle.abstraction_laws.proofs.PairFormed.{abstract_pre_is_well_formed, in_forms_is_well_formed}
+use Rattle.sym_samples.specs.Samples.{has_plain_sources}
 use Rattle.abstraction_laws.proofs.PairResults.{abstract_pre_has_no_more_parts}
 use Rattle.exec_laws.specs.declared.parts.Case.{Case}
 use Rattle.exec_laws.specs.declared.parts.Case.TheVariants.{On, Leaves, Drops}
@@ -26,7 +27,7 @@ use Rattle.certificate_laws.specs.Gaps.{line_at}
 use Rattle.certificate_laws.specs.Limits.{analysable}
 use Rattle.certificate_laws.specs.Sameness.{same_heap}
 use Rattle.candidate_laws.specs.Candidates.{MOST_TURNS, candidates, case_comes, cases_come, cases_of_pair, empty_search, started, turn_of, turns, with_turn, without_turns}
-use Rattle.candidate_laws.specs.Coming.{candidate_by, candidate_of, has_many_parts, has_plain_sources, pair_at_node, parts_of, same_pair, start_pair, start_pair_at_node}
+use Rattle.candidate_laws.specs.Coming.{candidate_by, candidate_of, has_many_parts, pair_at_node, parts_of, same_pair, start_pair, start_pair_at_node}
 use Rattle.candidate_laws.specs.Conditions.{IsGivenCase, IsSearch, IsTaskHeap, IsTaskPair, IsWaiting}
 use Rattle.candidate_laws.specs.Laws.{CandidatesAreWellFormed}
 use Rattle.candidate_laws.specs.Searching.{MOST_CANDIDATES, Search, candidate_comes, drops, listed_at, pair_comes, unless_none, with_candidate, with_pair}

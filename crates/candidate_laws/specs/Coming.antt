@@ -1,6 +1,5 @@
 -- How pairs come to a node: abstracted at the head of a loop. And how the missing heap at an exit becomes a candidate.
-use Rattle.std.specs.Prelude.{ℕ, ◌+◌, Bool, true, false, ◌&&◌, ◌||◌, not, ltb, length, option_map}
-use Rattle.std.specs.List.{list_all}
+use Rattle.std.specs.Prelude.{ℕ, ◌+◌, Bool, true, false, ◌&&◌, ◌||◌, ltb, length, option_map}
 use Rattle.std.specs.Option.{option_and_then}
 use Rattle.std.specs.declared.option.Option.{Option}
 use Rattle.std.specs.declared.option.Option.TheVariants.{None, Some}
@@ -8,10 +7,8 @@ use Rattle.shape_data.specs.declared.program.HeadMark.{HeadMark}
 use Rattle.shape_data.specs.declared.symbolic.SymHeap.{SymHeap}
 use Rattle.shape_data.specs.declared.symbolic.SymState.{SymState}
 use Rattle.shape_laws.specs.Symbolic.{emp}
-use Rattle.sym_laws.specs.Expressions.{has_double}
 use Rattle.sym_canon.specs.declared.parts.Pair.{Pair}
 use Rattle.sym_canon.specs.Canonical.{canon_pair}
-use Rattle.sym_samples.specs.Samples.{is_variable, starts}
 use Rattle.abstraction_laws.specs.Pairs.{abstract_pair, abstract_pre, beside_nothing, pair_in_forms}
 use Rattle.certificate_laws.specs.Coming.{Task, mark_at, start_form}
 use Rattle.certificate_laws.specs.Sameness.{same_heap, same_state}
@@ -60,7 +57,3 @@ candidate_by false params missing = in_form params missing
 
 abbrev pub candidate_of : Task → SymHeap → Option SymHeap
 candidate_of task missing = candidate_by task.recursive (length task.flow.params) missing
-
--- the sources of a candidate, the addresses of its cells and the starts of its segments, are pairwise distinct variables
-abbrev pub has_plain_sources : SymHeap → Bool
-has_plain_sources pre = list_all is_variable (starts pre.spatial) && not (has_double (starts pre.spatial))

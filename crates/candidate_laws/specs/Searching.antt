@@ -8,9 +8,10 @@ use Rattle.shape_data.specs.declared.answer.Fault.{Fault}
 use Rattle.shape_data.specs.declared.answer.Fault.TheVariants as fault
 use Rattle.shape_data.specs.declared.symbolic.SymHeap.{SymHeap}
 use Rattle.sym_canon.specs.declared.parts.Pair.{Pair}
+use Rattle.sym_samples.specs.Samples.{has_plain_sources}
 use Rattle.certificate_laws.specs.Sameness.{same_heap}
 use Rattle.candidate_laws.specs.declared.parts.Dropped.{Dropped}
-use Rattle.candidate_laws.specs.Coming.{has_many_parts, has_plain_sources, same_pair}
+use Rattle.candidate_laws.specs.Coming.{has_many_parts, same_pair}
 
 -- where a search stands: the listed pairs of each node, those whose turn is still to come, each with its node, the candidates, and
 -- the first drop

@@ -3,13 +3,14 @@ ghost use Rattle.std.specs.Prelude.{◌≡◌, length, map, All, IfOk};
 ghost use Rattle.shape_data.specs.WellFormed.{IsSymHeap};
 ghost use Rattle.certificate_laws.specs.Conditions.{IsTask};
 ghost use Rattle.certificate_laws.specs.Limits.{analysable};
-ghost use Rattle.triple_check.specs.InTask.{task_in};
+ghost use Rattle.certificate_steps.specs.InTask.{task_in};
 ghost use Rattle.solve_laws.specs.Attempts.{attempt as attempt_of, trial_of as trial_of_pre, try as try_of};
 ghost use Rattle.solve_laws.specs.Solving.{attempts_under as attempts_under_of};
 ghost use Rattle.solve_laws.specs.Standing.{AreTasks};
 
 use annotation_laws::Annotated;
 use candidate_laws::laws::candidates_are_well_formed;
+use certificate_steps::Task;
 use exec_laws::Table;
 use post_gen::annotate;
 use pre_gen::candidates;
@@ -18,7 +19,6 @@ use shape_data::symbolic::{Spec, SymHeap};
 use shape_data::{Row, copy_of};
 use solve_laws::{Attempt, Trial};
 use std::alloc::{AllocError, Global};
-use triple_check::Task;
 
 /// What became of a precondition.
 fn trial_of(pre: SymHeap, annotated: Annotated) -> Trial

@@ -4,7 +4,7 @@ ghost use Rattle.std.specs.Prelude.{◌≡◌, IfOk, map};
 ghost use Rattle.shape_data.specs.WellFormed.{IsKey};
 ghost use Rattle.certificate_laws.specs.Conditions.{IsTask, IsTaskCert, IsTaskSpec};
 ghost use Rattle.certificate_laws.specs.Limits.{analysable};
-ghost use Rattle.triple_check.specs.InTask.{task_in};
+ghost use Rattle.certificate_steps.specs.InTask.{task_in};
 ghost use Rattle.comp_solve.specs.Tests.{test_of};
 ghost use Rattle.solve_laws.specs.Attempts.{count_of as count_of_all};
 ghost use Rattle.solve_laws.specs.Solving.{again_with, all_again as all_again_of, all_passes as all_passes_of, attempt_again as attempt_again_of, attempts_again as attempts_again_of, checked_again as checked_again_of, pass as pass_of, strictly as strictly_of};
@@ -14,6 +14,7 @@ use crate::attempts::try_pre;
 use crate::standing::{count_of, specs_of};
 use crate::tables::table_with;
 use candidate_laws::Found;
+use certificate_steps::Task;
 use exec_laws::Table;
 use shape_data::answer::{Key, Reason};
 use shape_data::symbolic::{Cert, Spec};
@@ -21,7 +22,7 @@ use shape_data::{Row, copy_of};
 use solve_laws::laws::standing_is_well_formed;
 use solve_laws::{Attempt, Trial};
 use std::alloc::{AllocError, Global};
-use triple_check::{Task, spec_gap};
+use triple_check::spec_gap;
 
 /// How what stands is tested again.
 #[derive(Clone, Copy, Debug)]

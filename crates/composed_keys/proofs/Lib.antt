@@ -5,3 +5,4 @@ pub mod Noted
 pub mod Recursion
 pub mod Components
 pub mod Compared
+pub mod CallRows

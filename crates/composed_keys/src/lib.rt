@@ -2,12 +2,14 @@
 //! that of the definitions in `component_keys`.
 #![tactic(auto)]
 
+pub mod callees;
 pub mod keys;
 pub mod outside;
 pub mod programs;
 pub mod rows;
 pub mod structures;
 
+pub use callees::calls_of;
 pub use keys::{are_flows, is_key_of, key_of};
 pub use programs::components_of;
 pub use rows::{Component, Outer, Structures};

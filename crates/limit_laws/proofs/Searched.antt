@@ -14,12 +14,13 @@ use Rattle.sym_canon.specs.declared.parts.Pair.{Pair}
 use Rattle.sym_canon.specs.Canonical.{without_locals}
 use Rattle.sym_forms.specs.PairForms.{pair_form}
 use Rattle.sym_forms.specs.Sizes.{fields_in, most_exps}
+use Rattle.sym_samples.specs.Samples.{has_plain_sources}
 use Rattle.abstraction_laws.specs.Joining.{Join, find_join}
 use Rattle.abstraction_laws.specs.Pairs.{beside_nothing, canon_of, join_pair, join_pair_once, join_pair_times, may_join, pair_in_forms, pair_with_join, state_joined_at}
 use Rattle.abstraction_laws.proofs.PairResults.{in_forms-small}
 use Rattle.certificate_laws.specs.Coming.{Task}
 use Rattle.candidate_laws.specs.Candidates.{candidates, MOST_TURNS}
-use Rattle.candidate_laws.specs.Coming.{candidate_by, candidate_of, has_plain_sources}
+use Rattle.candidate_laws.specs.Coming.{candidate_by, candidate_of}
 use Rattle.candidate_laws.specs.Searching.{MOST_CANDIDATES}
 use Rattle.candidate_laws.proofs.PresLaws.{pres-keep}
 use Rattle.candidate_laws.proofs.SearchFormed.{candidates_are_well_formed}

@@ -1,17 +1,16 @@
 //! Which components of a program an aim reaches, by the rows of the components.
-ghost use Rattle.std.specs.Prelude.{◌≡◌, ℕ, ◌<◌, IfOk, IfSome, length, map, slice_get};
+ghost use Rattle.std.specs.Prelude.{◌≡◌, ℕ, ◌<◌, IfOk, IfSome, length, slice_get};
 ghost use Rattle.std.specs.List.{position};
 ghost use Rattle.bottom_up.specs.Placed.{AreRows};
-ghost use Rattle.call_components.specs.Reaching.{marked, rows};
+ghost use Rattle.call_components.specs.Reaching.{marked};
 ghost use Rattle.component_keys.specs.Components.{holds, reached};
 ghost use Rattle.composed_keys.specs.declared.rows.Component.{Component as ComponentRow};
-ghost use Rattle.composed_keys.specs.declared.rows.Outer.{Outer as OuterRow};
 ghost use Rattle.plain_answers.specs.Table.{has_own_name, names_one};
 ghost use Rattle.shape_data.specs.WellFormed.{IsProgram};
 ghost use Rattle.summary_book.specs.Aims.{aimed, component_calls, component_with as component_named};
 
 use call_components::reach::reach;
-use composed_keys::{Component, Outer};
+use composed_keys::{Component, calls_of};
 use shape_data::Name;
 use shape_data::program::Program;
 use std::alloc::{AllocError, Global};
@@ -25,24 +24,6 @@ pub fn is_set(marks: &[bool], place: usize) -> bool
         Some(mark) => *mark,
         None => false,
     }
-}
-
-/// The numbers of the components of procedures outside.
-fn called(alloc: Global, outer: &[Outer]) -> Result<Vec<u32>, AllocError>
-    ensures { IfOk result (λ numbers. numbers.items ≡ map (λ (one : OuterRow). one.component) outer.now) }
-{
-    outer.iter().map(|one| one.component).collect(alloc)
-}
-
-/// For each component the numbers of the components that it calls.
-fn calls_of(alloc: Global, components: &[Component]) -> Result<Vec<Vec<u32>>, AllocError>
-    ensures { IfOk result (λ calls. rows calls.items ≡ map (λ (row : ComponentRow). map (λ (one : OuterRow). one.component) row.outer.items) components.now) }
-{
-    let mut calls = Vec::with_capacity(alloc, components.len())?;
-    for component in components {
-        calls.push(called(alloc, &component.outer)?)?;
-    }
-    Ok(calls)
 }
 
 /// Whether the procedure at a place of the program has the name.

@@ -12,7 +12,7 @@ use Rattle.annotation_laws.specs.Listing.{Listing, listed_at, with_exit, with_st
 use Rattle.certificate_laws.specs.Coming.{Task}
 use Rattle.certificate_laws.specs.Conditions.{IsGivenPost, IsGivenState, IsTask}
 use Rattle.certificate_laws.proofs.GivenLaws.{post-wide, state-wide}
-use Rattle.triple_check.proofs.SizeLaws.{post-sizes, state-sizes}
+use Rattle.certificate_steps.proofs.SizeLaws.{post-sizes, state-sizes}
 use Rattle.post_gen.specs.Conditions.{IsListing, IsWaiting}
 
 module _ (task : Task) where

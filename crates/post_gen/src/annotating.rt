@@ -7,17 +7,17 @@ ghost use Rattle.certificate_laws.specs.Conditions.{IsTask};
 ghost use Rattle.certificate_laws.specs.Limits.{analysable};
 ghost use Rattle.post_gen.specs.Conditions.{IsListing};
 ghost use Rattle.post_gen.specs.InListing.{annotated_by, annotated_of, course_of, listing_in};
-ghost use Rattle.triple_check.specs.InTask.{task_in};
+ghost use Rattle.certificate_steps.specs.InTask.{task_in};
 
 use crate::listing::{Ended, Listing, empty_listing, state_comes};
 use crate::turns::turns;
 use annotation_laws::Annotated;
+use certificate_steps::Task;
+use certificate_steps::coming::start_at_node;
+use certificate_steps::coverings::is_post_covered;
 use shape_data::symbolic::{Cert, Post, SymHeap};
 use shape_data::{Row, copy_of};
 use std::alloc::{AllocError, Global};
-use triple_check::Task;
-use triple_check::coming::start_at_node;
-use triple_check::coverings::is_post_covered;
 
 /// The most turns.
 const MOST_TURNS: u32 = 2048;

@@ -1,6 +1,6 @@
 //! Annotation of a precondition as code: states are executed, and what comes of them is listed, until nothing new comes; the posts are
 //! taken from the exits, and all that is listed is the certificate. It answers the value of the definition in `annotation_laws`, whose
-//! laws say that what it gives is inductive, and stands on the code of `triple_check` for what comes to a node and for coverings.
+//! laws say that what it gives is inductive, and stands on the code of `certificate_steps` for what comes to a node and for coverings.
 #![tactic(auto)]
 
 mod annotating;
@@ -9,4 +9,4 @@ mod turns;
 
 pub use annotating::annotate;
 pub use annotation_laws::Annotated;
-pub use triple_check::Task;
+pub use certificate_steps::Task;

@@ -6,15 +6,15 @@ ghost use Rattle.annotation_laws.specs.Listing.{MOST_PARTS as most_parts, exit_c
 ghost use Rattle.certificate_laws.specs.Conditions.{IsTask, IsTaskPost, IsTaskState};
 ghost use Rattle.post_gen.specs.Conditions.{IsListing};
 ghost use Rattle.post_gen.specs.InListing.{course_of, listing_in};
-ghost use Rattle.triple_check.specs.InTask.{task_in};
+ghost use Rattle.certificate_steps.specs.InTask.{task_in};
 
+use certificate_steps::Task;
+use certificate_steps::coverings::{is_covered, is_post_covered};
 use shape_data::answer::{Budget, Fault};
 use shape_data::symbolic::{Post, SymHeap, SymState};
 use shape_data::{Row, copy_of};
 use std::alloc::{AllocError, Global};
 use std::collections::VecDeque;
-use triple_check::Task;
-use triple_check::coverings::{is_covered, is_post_covered};
 
 /// The most parts of a heap, atoms and facts.
 const MOST_PARTS: usize = 96;

@@ -5,16 +5,16 @@ ghost use Rattle.annotation_laws.specs.Listing.{all_come};
 ghost use Rattle.certificate_laws.specs.Conditions.{AreNexts, GoesOnWithin, IsGivenState, IsGivenStep, IsTask, IsTaskPost, IsTaskState};
 ghost use Rattle.post_gen.specs.Conditions.{AreWithin, IsListing};
 ghost use Rattle.post_gen.specs.InListing.{annotated_of, course_of, listing_in};
-ghost use Rattle.triple_check.specs.InTask.{task_in};
+ghost use Rattle.certificate_steps.specs.InTask.{task_in};
 
 use crate::listing::{Ended, Listing, exit_comes, state_comes};
+use certificate_steps::Task;
+use certificate_steps::coming::{at_exit, at_node};
 use exec_laws::Step;
 use shape_data::answer::Budget;
 use shape_data::symbolic::{Post, SymState};
 use std::alloc::{AllocError, Global};
 use sym_exec::exec;
-use triple_check::Task;
-use triple_check::coming::{at_exit, at_node};
 
 /// A state that an execution gave is abstracted, and comes to its node.
 fn result_comes(

@@ -1,25 +1,22 @@
 //! How pairs come to a node: abstracted at the head of a loop. And how the missing heap at an exit becomes a candidate. None is a
 //! contradiction, which is left out.
 ghost use Rattle.std.specs.Prelude.{◌≡◌, ◌<◌, ◌^◌, length, IfOk};
-ghost use Rattle.std.specs.List.{list_all};
 ghost use Rattle.shape_laws.specs.Symbolic.{emp as emp_heap};
-ghost use Rattle.sym_samples.specs.Samples.{is_variable as is_variable_of, starts as starts_of_atoms};
 ghost use Rattle.abstraction_laws.specs.Pairs.{beside_nothing as beside_nothing_of};
 ghost use Rattle.abstraction_laws.specs.Rooms.{HaveFewFields};
 ghost use Rattle.certificate_laws.specs.Conditions.{IsTask};
-ghost use Rattle.triple_check.specs.InTask.{task_in};
-ghost use Rattle.candidate_laws.specs.Coming.{candidate_of as candidate_of_missing, has_plain_sources as has_plain_sources_of, in_form as in_form_of, pair_at_node as pair_at_node_of, start_pair as start_pair_of, start_pair_at_node as start_pair_at_node_of};
+ghost use Rattle.certificate_steps.specs.InTask.{task_in};
+ghost use Rattle.candidate_laws.specs.Coming.{candidate_of as candidate_of_missing, in_form as in_form_of, pair_at_node as pair_at_node_of, start_pair as start_pair_of, start_pair_at_node as start_pair_at_node_of};
 ghost use Rattle.candidate_laws.specs.Conditions.{IsPairWithinRoom};
 
+use certificate_steps::Task;
+use certificate_steps::coming::start_form;
 use shape_data::Row;
-use shape_data::symbolic::{Atom, Exp, SymHeap, SymState};
+use shape_data::symbolic::{SymHeap, SymState};
 use std::alloc::{AllocError, Global};
 use sym_abstract::{abstract_pair, abstract_pre};
 use sym_canon::{Pair, canon_pair};
 use sym_forms::pair_form;
-use sym_parts::has_double;
-use triple_check::Task;
-use triple_check::coming::start_form;
 
 /// How many parameters there are.
 fn params_of(task: &Task) -> u32
@@ -126,42 +123,4 @@ pub fn candidate_of(
     } else {
         in_form(alloc, params, missing)
     }
-}
-
-/// The sources of atoms: the addresses of cells and the starts of segments.
-fn starts_of(alloc: Global, atoms: &[Atom]) -> Result<Vec<Exp>, AllocError>
-    ensures { IfOk result (λ all. all.items ≡ starts_of_atoms atoms.now) }
-{
-    let mut all = Vec::new(alloc);
-    for atom in atoms {
-        match atom {
-            Atom::Points { at, .. } => all.push(*at)?,
-            Atom::Seg { from, .. } => all.push(*from)?,
-            Atom::Junk => {}
-        }
-    }
-    Ok(all)
-}
-
-fn is_variable(e: Exp) -> bool
-    ensures { result ≡ is_variable_of e }
-{
-    match e {
-        Exp::Var(_) => true,
-        Exp::Const(_) => false,
-    }
-}
-
-fn are_variables(list: &[Exp]) -> bool
-    ensures { result ≡ list_all is_variable_of list.now }
-{
-    list.iter().all(|e| is_variable(*e))
-}
-
-/// Whether the sources of a candidate are pairwise distinct variables.
-pub fn has_plain_sources(alloc: Global, pre: &SymHeap) -> Result<bool, AllocError>
-    ensures { IfOk result (λ plain. plain ≡ has_plain_sources_of pre.now) }
-{
-    let starts = starts_of(alloc, pre.spatial.as_slice())?;
-    Ok(are_variables(starts.as_slice()) && !has_double(starts.as_slice()))
 }

@@ -6,7 +6,6 @@ ghost use Rattle.candidate_laws.specs.Coming.{has_many_parts as has_many_parts_o
 ghost use Rattle.candidate_laws.specs.Searching.{candidate_comes as candidate_comes_of, drops as drops_of, listed_at, pair_comes as pair_comes_of, with_candidate as with_candidate_of, with_pair as with_pair_of};
 ghost use Rattle.pre_gen.specs.InSearch.{search_in};
 
-use crate::coming::has_plain_sources;
 use candidate_laws::Dropped;
 use shape_data::answer::Fault;
 use shape_data::symbolic::SymHeap;
@@ -14,6 +13,7 @@ use shape_data::{Row, copy_of, is_same};
 use std::alloc::{AllocError, Global};
 use std::collections::VecDeque;
 use sym_canon::Pair;
+use sym_samples::has_plain_sources;
 
 /// The most facts and atoms of a heap.
 const MOST_PARTS: usize = 96;

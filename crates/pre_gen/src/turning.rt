@@ -1,8 +1,7 @@
 //! The turns of a search: the first pair of the queue is executed at its node, and what comes of it is listed.
 ghost use Rattle.std.specs.Prelude.{◌≡◌, length, All, IfOk, OnOk};
 ghost use Rattle.certificate_laws.specs.Conditions.{IsTask};
-ghost use Rattle.certificate_laws.specs.Gaps.{line_at as line_at_node};
-ghost use Rattle.triple_check.specs.InTask.{task_in};
+ghost use Rattle.certificate_steps.specs.InTask.{task_in};
 ghost use Rattle.candidate_laws.specs.Candidates.{candidates as candidates_of, case_comes as case_comes_of, cases_come as cases_come_of, cases_of_pair as cases_of_pair_at, empty_search as empty_search_of, started as started_of, turn_of, turns as turns_of, without_turns as without_turns_of};
 ghost use Rattle.candidate_laws.specs.Conditions.{IsGivenCase, IsSearch, IsTaskPair, MayCome, MayLeave};
 ghost use Rattle.candidate_laws.specs.Coming.{candidate_of as candidate_of_missing, pair_at_node as pair_at_node_of};
@@ -12,6 +11,8 @@ ghost use Rattle.pre_gen.specs.InSearch.{no_pairs_of, search_in};
 use crate::coming::{candidate_of, pair_at_node, start_pair_at_node};
 use crate::searching::{Search, candidate_comes, drops, pair_comes};
 use candidate_laws::Found;
+use certificate_steps::Task;
+use certificate_steps::coming::{line_at, normal_state};
 use exec_laws::Case;
 use shape_data::Row;
 use shape_data::answer::Fault;
@@ -21,21 +22,9 @@ use std::alloc::{AllocError, Global};
 use std::collections::VecDeque;
 use sym_canon::Pair;
 use sym_exec::search_cases;
-use triple_check::Task;
-use triple_check::coming::normal_state;
 
 /// How many turns there are at most.
 const MOST_TURNS: u32 = 2048;
-
-/// The line of a node, or 0 where there is none.
-fn line_at(task: &Task, at: u32) -> u32
-    ensures { result ≡ line_at_node (task_in task.now) at }
-{
-    match task.flow.nodes.get(at as usize) {
-        None => 0,
-        Some(node) => node.line,
-    }
-}
 
 /// A pair that the execution of a node on a line gave comes to its node.
 fn goes_on(

@@ -20,7 +20,7 @@ ghost use Rattle.summary_book.specs.declared.aims.Aim.TheVariants as aim;
 
 use crate::told::{Told, told_of};
 use bottom_up::laws::each_is_reported;
-use bottom_up::{summaries_of, summary_of, summary_places};
+use bottom_up::{summary_of, summary_places};
 use io_ports::Gate;
 use loaded_answers::{LoadedAnswers, agrees};
 use plain_answers::laws::stored_are_right;
@@ -29,7 +29,7 @@ use report_text::laws::formed_is_printable;
 use settled_laws::laws::settled_is_known;
 use shape_data::answer::{Kept, ProcSummary};
 use shape_data::program::Program;
-use shape_data::{Name, Row, copy_of};
+use shape_data::{Name, copy_of};
 use solve_job::SolveJob;
 use solve_job::laws::agreed_are_looked_up;
 use std::alloc::{AllocError, Global};
@@ -66,32 +66,6 @@ fn answers_for<R: Wait, G: Gate, A: Ledger, B: Ledger>(
     } else {
         plain(rt, alloc, loaded, program, aim, desk.gate())
     }
-}
-
-/// What is known of the procedures of a program, in their order. What was not known yet is solved.
-pub fn summaries<R: Wait, G: Gate, A: Ledger, B: Ledger>(
-    rt: &R,
-    alloc: Global,
-    desk: &Desk<'_, SolveJob, G, A, B>,
-    hands: &mut Hands<B>,
-    loaded: &LoadedAnswers,
-    program: &Arc<Program>,
-) -> Result<Row<ProcSummary>, AllocError>
-    requires formed { IsProgram program.now.value }
-    requires sizes { HasProgramSizes program.now.value }
-    requires loaded { All IsStoredEntry loaded.now }
-    ensures value { IfOk result (λ known. known ≡ program_summaries loaded.now program.now.value) }
-    ensures reportable { IfOk result (λ known. AreReportable program.now.value.structs program.now.value.procs known) }
-    ensures worked { OnOk result (count_reached program.now.value aim.All ≤ hands.new.seen) }
-    ensures rises { hands.old.seen ≤ hands.new.seen }
-{
-    each_is_reported();
-    formed_is_printable();
-    stored_are_right();
-    settled_is_known::<SolveJob>();
-    let all = Aim::All;
-    let kept = answers_for(rt, alloc, desk, hands, loaded, program, &all)?;
-    summaries_of(alloc, program, &kept)
 }
 
 /// What is told of the procedures of a program, in their order. What was not known yet is solved.

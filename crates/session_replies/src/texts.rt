@@ -10,7 +10,7 @@ ghost use Rattle.session_replies.specs.Work.{count_reached};
 ghost use Rattle.solve_job.specs.Solves.{IsStoredEntry};
 ghost use Rattle.summary_book.specs.declared.aims.Aim.TheVariants as aim;
 
-use crate::known::{entries, store_of, summaries, summary};
+use crate::known::{entries, store_of, summary};
 use crate::reply::Reply;
 use io_ports::Gate;
 use loaded_answers::LoadedAnswers;
@@ -139,9 +139,9 @@ pub fn total_text<R: Wait, G: Gate, A: Ledger, B: Ledger>(
     ensures worked { OnOk result (count_reached program.now.value aim.All ≤ hands.new.seen) }
     ensures rises { hands.old.seen ≤ hands.new.seen }
 {
-    let summaries = summaries(rt, alloc, desk, hands, loaded, program)?;
+    let entries = entries(rt, alloc, desk, hands, loaded, program)?;
     let mut text = Vec::new(alloc);
-    push_total(&mut text, summaries.as_slice())?;
+    push_total(&mut text, entries.as_slice())?;
     Ok(text)
 }
 

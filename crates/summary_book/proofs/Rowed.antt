@@ -1,20 +1,17 @@
 -- Steps of loops over rows.
-use Rattle.std.proofs.Common.{◌≡◌, ℕ, ◌+◌, ◌<◌, Bool, true, false, List, [], ◌∷◌, ◌++◌, map, length, take, slice_get, get_or, Some, None, Option, refl, sym, ap, ◌∙◌, subst, ⊎_elim, arith}
-use Rattle.std.specs.Global.{Vec}
+use Rattle.std.proofs.Common.{◌≡◌, ℕ, ◌+◌, ◌<◌, Bool, true, false, List, [], ◌∷◌, ◌++◌, length, take, slice_get, get_or, Some, None, Option, refl, sym, ap, ◌∙◌, subst, ⊎_elim, arith}
 use Rattle.std.specs.List.{AllZip, filter_map}
 use Rattle.std.proofs.lemmas.Bool.{cases_lt}
-use Rattle.std.proofs.lemmas.List.{map_push, take_more}
+use Rattle.std.proofs.lemmas.List.{take_more}
 use Rattle.std.proofs.lemmas.Option.{slice_get-get_or, slice_get_within}
 use Rattle.shape_data.specs.declared.answer.Key.{Key}
 use Rattle.shape_data.specs.declared.program.Program.{Program}
-use Rattle.call_components.specs.Reaching.{rows}
 use Rattle.component_keys.specs.Components.{same_names}
 use Rattle.component_keys.specs.Keys.{Component, flows_of, key_over, names_of, program_components}
 use Rattle.component_keys.specs.Tests.{key_test}
 use Rattle.component_keys.proofs.Apart.{names_same}
 use Rattle.component_keys.proofs.Basics.{some_same}
 use Rattle.composed_keys.specs.declared.rows.Component.{Component as ComponentRow}
-use Rattle.composed_keys.specs.declared.rows.Outer.{Outer as OuterRow}
 use Rattle.composed_keys.specs.Rows.{component_value}
 use Rattle.summary_book.specs.declared.rows.Parts.{Parts}
 use Rattle.summary_book.specs.Aims.{component_with, has_name}
@@ -23,16 +20,6 @@ use Rattle.summary_book.proofs.Components.{components_length, part_of_row}
 use Rattle.summary_book.proofs.Here.{own_place}
 use Rattle.summary_book.proofs.Lists.{position_at, position_none, there_is, zipped_at_end}
 use Rattle.summary_book.proofs.Looked.{same_bit}
-
--- the numbers of the components of procedures outside
-abbrev pub called_in_row : ComponentRow → List ℕ
-called_in_row row = map (λ (one : OuterRow). one.component) row.outer.items
-
-pub calls_more : (calls : List (Vec ℕ)) (all : List ComponentRow) (i : ℕ) (row : ComponentRow) (new : Vec ℕ) → i < length all → row ≡ get_or all i row → rows calls ≡ map called_in_row (take i all) →
-    new.items ≡ called_in_row row → rows (calls ++ new ∷ []) ≡ map called_in_row (take (i + 1) all)
-calls_more calls all i row new lt is before own =
-    map_push (λ (r : Vec ℕ). r.items) calls new ∙ ap (λ l. l ++ new.items ∷ []) before ∙ ap (λ r. map called_in_row (take i all) ++ r ∷ []) (own ∙ ap called_in_row is) ∙
-    sym (map_push called_in_row (take i all) (get_or all i row)) ∙ ap (map called_in_row) (sym (take_more all i row lt))
 
 pub zipped_more : {X Y : Type 0} (R : X → Y → Type 0) (xs : List X) (ys : List Y) (i : ℕ) (d : X) (y : Y) → i < length xs → AllZip R (take i xs) ys → R (get_or xs i d) y → AllZip R (take (i + 1) xs) (ys ++ y ∷ [])
 zipped_more R xs ys i d y lt before r = subst (λ l. AllZip R l (ys ++ y ∷ [])) (sym (take_more xs i d lt)) (zipped_at_end R (take i xs) ys (get_or xs i d) y before r)

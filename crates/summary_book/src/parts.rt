@@ -1,10 +1,8 @@
 //! What is made of a program once, and which of its components an aim reaches.
-ghost use Rattle.std.specs.Prelude.{◌≡◌, ℕ, ◌<◌, All, IfOk, IfSome, length, map, slice_get};
+ghost use Rattle.std.specs.Prelude.{◌≡◌, ℕ, ◌<◌, All, IfOk, IfSome, length, slice_get};
 ghost use Rattle.std.specs.List.{filter_map};
-ghost use Rattle.call_components.specs.Reaching.{marked, rows};
+ghost use Rattle.call_components.specs.Reaching.{marked};
 ghost use Rattle.component_keys.specs.Keys.{flows_of};
-ghost use Rattle.composed_keys.specs.declared.rows.Component.{Component as ComponentRow};
-ghost use Rattle.composed_keys.specs.declared.rows.Outer.{Outer as OuterRow};
 ghost use Rattle.shape_data.specs.Sizes.{HasProgramSizes};
 ghost use Rattle.shape_data.specs.WellFormed.{IsProgram};
 ghost use Rattle.summary_book.specs.Aims.{aimed, component_with, has_name};
@@ -13,30 +11,12 @@ ghost use Rattle.summary_book.specs.Rows.{AreParts};
 use crate::aims::Aim;
 use crate::rows::Parts;
 use call_components::reach::reach;
-use composed_keys::{Component, Outer, components_of, structures_of};
+use composed_keys::{calls_of, components_of, structures_of};
 use shape_data::exact::share;
 use shape_data::program::Program;
 use shape_data::{Name, is_same};
 use std::alloc::{AllocError, Global};
 use std::sync::Arc;
-
-/// The numbers of the components of procedures outside.
-fn called(alloc: Global, outer: &[Outer]) -> Result<Vec<u32>, AllocError>
-    ensures { IfOk result (λ numbers. numbers.items ≡ map (λ (one : OuterRow). one.component) outer.now) }
-{
-    outer.iter().map(|one| one.component).collect(alloc)
-}
-
-/// For each component the numbers of the components that it calls.
-fn calls_of(alloc: Global, components: &[Component]) -> Result<Vec<Vec<u32>>, AllocError>
-    ensures { IfOk result (λ calls. rows calls.items ≡ map (λ (row : ComponentRow). map (λ (one : OuterRow). one.component) row.outer.items) components.now) }
-{
-    let mut calls = Vec::with_capacity(alloc, components.len())?;
-    for component in components {
-        calls.push(called(alloc, &component.outer)?)?;
-    }
-    Ok(calls)
-}
 
 /// What is made of a program once.
 pub fn parts_of(alloc: Global, program: &Arc<Program>) -> Result<Parts, AllocError>

@@ -129,8 +129,8 @@ fn at_exit(
     )
 }
 
-/// A state that has a result as its local, as a post.
-fn post_of(other: Exp, state: SymState) -> Post
+/// A state that has a result as its local, as a post; the other result is that of a state without locals.
+pub fn post_of(other: Exp, state: SymState) -> Post
     ensures { result ≡ post_of_state other state }
 {
     let ret = match state.locals.as_slice() {

@@ -13,6 +13,6 @@ mod reaching;
 mod repeating;
 mod rooms;
 
-pub use heads::{abstract_exit, abstract_head};
+pub use heads::{abstract_exit, abstract_head, post_of};
 pub use pairs::{abstract_pair, abstract_pre};
 pub use rooms::{have_few_fields, is_within_room};

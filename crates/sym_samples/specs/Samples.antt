@@ -33,9 +33,13 @@ abbrev pub is_variable : Exp → Bool
 is_variable (Var x) = true
 is_variable (Const n) = false
 
--- the heap is normal, and the sources of its atoms are pairwise distinct variables
+-- the sources of the heap's atoms are pairwise distinct variables
+abbrev pub has_plain_sources : SymHeap → Bool
+has_plain_sources pre = list_all is_variable (starts pre.spatial) && not (has_double (starts pre.spatial))
+
+-- the heap is normal, and has plain sources
 abbrev pub has_sample : SymHeap → Bool
-has_sample pre = is_normal_heap pre && (list_all is_variable (starts pre.spatial) && not (has_double (starts pre.spatial)))
+has_sample pre = is_normal_heap pre && has_plain_sources pre
 
 -- the number of a variable that no equation solves
 abbrev pub plain : ℕ → ℤ

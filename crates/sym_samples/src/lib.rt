@@ -11,3 +11,4 @@ mod starts;
 
 pub use parts::Sample;
 pub use samples::sample;
+pub use starts::has_plain_sources;

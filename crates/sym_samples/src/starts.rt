@@ -1,7 +1,8 @@
-//! Whether a heap has a sample: it is normal, and the sources of its atoms are pairwise distinct variables.
+//! Whether a heap has a sample: it is normal, and the sources of its atoms, the addresses of cells and the starts of segments, are pairwise
+//! distinct variables.
 ghost use Rattle.std.specs.Prelude.{◌≡◌, IfOk};
 ghost use Rattle.std.specs.List.{list_all};
-ghost use Rattle.sym_samples.specs.Samples.{has_sample as has_sample_of, is_variable as is_variable_of, starts as starts_of_atoms};
+ghost use Rattle.sym_samples.specs.Samples.{has_plain_sources as has_plain_sources_of, has_sample as has_sample_of, is_variable as is_variable_of, starts as starts_of_atoms};
 
 use shape_data::symbolic::{Atom, Exp, SymHeap};
 use std::alloc::{AllocError, Global};
@@ -38,11 +39,18 @@ fn are_variables(list: &[Exp]) -> bool
     list.iter().all(|e| is_variable(*e))
 }
 
+/// Whether the sources of the heap's atoms are pairwise distinct variables. The only error is want of memory.
+pub fn has_plain_sources(alloc: Global, pre: &SymHeap) -> Result<bool, AllocError>
+    ensures { IfOk result (λ plain. plain ≡ has_plain_sources_of pre.now) }
+{
+    let starts = starts_of(alloc, pre.spatial.as_slice())?;
+    Ok(are_variables(starts.as_slice()) && !has_double(starts.as_slice()))
+}
+
 /// Whether the heap has a sample.
 pub fn has_sample(alloc: Global, pre: &SymHeap) -> Result<bool, AllocError>
     ensures { IfOk result (λ has. has ≡ has_sample_of pre.now) }
 {
-    let starts = starts_of(alloc, pre.spatial.as_slice())?;
-    let are_distinct = are_variables(starts.as_slice()) && !has_double(starts.as_slice());
-    Ok(is_normal_heap(pre) && are_distinct)
+    let has_plain = has_plain_sources(alloc, pre)?;
+    Ok(is_normal_heap(pre) && has_plain)
 }

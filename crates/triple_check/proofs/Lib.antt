@@ -1,4 +1,2 @@
 pub mod AnswerLaws
-pub mod SizeLaws
-pub mod Starts
 pub mod Turns

@@ -1,6 +1,5 @@
 -- One turn of a loop that searches, and of one that makes callees.
-use Rattle.std.specs.Prelude.{◌≡◌, ℕ, suc, ◌+◌, ◌<◌, ◌≤◌, Bool, true, false, ◌||◌, List, [], ◌∷◌, ◌++◌, length, slice_index_or, zip}
-use Rattle.std.specs.List.{list_any}
+use Rattle.std.specs.Prelude.{◌≡◌, ℕ, suc, ◌+◌, ◌<◌, ◌≤◌, List, [], ◌∷◌, ◌++◌, length, slice_index_or, zip}
 use Rattle.std.specs.Option.{option_or}
 use Rattle.std.specs.declared.option.Option.{Option}
 use Rattle.std.specs.declared.option.Option.TheVariants.{None, Some}
@@ -36,17 +35,6 @@ module _ {A B : Type 0} (search : ℕ → A → Option B) (things : List A) (pla
   -- it is found nowhere
   pub found-nowhere : (whole : Option B) → length things ≤ place → whole ≡ first_found search place (drop place things) → None ≡ whole
   found-nowhere whole all known = sym (known ∙ at_drop_all (λ rest. first_found search place rest) things place all)
-
--- a test of one of a list
-module _ {A : Type 0} (test : A → Bool) (things : List A) (place : ℕ) (thing : A) (within : place < length things) (is : thing ≡ slice_index_or things place thing) (whole : Bool) where
-  any-more : list_any test (drop place things) ≡ (test thing || list_any test (drop (place + 1) things))
-  any-more = at_drop_more (λ all. list_any test all) things place thing within ∙ ap (λ one. test one || list_any test (drop (place + 1) things)) (sym is)
-
-  pub any-here : test thing ≡ true → whole ≡ list_any test (drop place things) → true ≡ whole
-  any-here passed known = sym (known ∙ any-more ∙ ap (λ b. b || list_any test (drop (place + 1) things)) passed)
-
-  pub any-later : test thing ≡ false → whole ≡ list_any test (drop place things) → whole ≡ list_any test (drop (place + 1) things)
-  any-later failed known = known ∙ any-more ∙ ap (λ b. b || list_any test (drop (place + 1) things)) failed
 
 -- the pairs of two lists, from a place on
 module _ {A B C : Type 0} (search : ℕ → A × B → Option C) (ones : List A) (others : List B) (place : ℕ) where

@@ -7,11 +7,11 @@ ghost use Rattle.certificate_laws.specs.Gaps.{first_gap as first_gap_of, summary
 ghost use Rattle.certificate_laws.specs.Inductive.{Inductive, table_of as table_of_answer};
 ghost use Rattle.certificate_laws.specs.Limits.{analysable};
 ghost use Rattle.certificate_laws.specs.Conditions.{IsTask, IsTaskSummary};
-ghost use Rattle.triple_check.specs.InTask.{task_in};
+ghost use Rattle.certificate_steps.specs.InTask.{task_in};
 
-use crate::coming::Task;
 use crate::gaps::spec_gap;
 use certificate_laws::{Gap, SpecGap};
+use certificate_steps::Task;
 use exec_laws::Table;
 use shape_data::answer::{Answer, Callee, Key, ProcSummary};
 use shape_data::program::Flow;

@@ -1,34 +1,25 @@
 //! The first place at which the certificate of a spec fails.
-ghost use Rattle.std.specs.Prelude.{◌≡◌, false, slice_get, All, IfOk};
+ghost use Rattle.std.specs.Prelude.{◌≡◌, false, All, IfOk};
 ghost use Rattle.std.specs.List.{list_all};
 ghost use Rattle.std.specs.declared.option.Option.TheVariants.{Some};
-ghost use Rattle.exec_laws.specs.Execution.{line_of as line_of_node};
 ghost use Rattle.sound_laws.specs.Certificates.{states_at};
 ghost use Rattle.certificate_laws.specs.Coverings.{is_covered as is_covered_by};
 ghost use Rattle.certificate_laws.specs.Gaps.{first_found, is_exit_covered as is_exit_covered_by, is_next_covered as is_next_covered_by, node_gap as node_gap_of, spec_gap as spec_gap_of, start_gap as start_gap_of, state_gap as state_gap_of, step_gap as step_gap_of, uncovered_unless};
 ghost use Rattle.certificate_laws.specs.Conditions.{AreNexts, IsGivenState, IsGivenStep, IsTask, IsTaskCert, IsTaskPost, IsTaskSpec, IsTaskState};
-ghost use Rattle.triple_check.specs.InTask.{task_in};
+ghost use Rattle.certificate_steps.specs.InTask.{task_in};
 ghost use Rattle.triple_check.specs.Steps.{do_posts_cover as posts_cover_by};
 
-use crate::coming::{Task, at_exit, at_node, normal_post, normal_state, start_at_node};
-use crate::coverings::{is_covered, is_post_covered};
 use certificate_laws::SpecGap;
+use certificate_steps::Task;
+use certificate_steps::coming::{
+    at_exit, at_node, line_at, normal_post, normal_state, start_at_node,
+};
+use certificate_steps::coverings::{is_covered, is_post_covered};
 use exec_laws::Step;
 use shape_data::answer::Fault;
-use shape_data::program::Flow;
 use shape_data::symbolic::{Cert, Post, Spec, SymState};
 use std::alloc::{AllocError, Global};
 use sym_exec::exec;
-
-/// The line of a node, or 0 where there is none.
-fn line_of(flow: &Flow, at: u32) -> u32
-    ensures { result ≡ line_of_node (slice_get flow.now.nodes at) }
-{
-    match flow.nodes.get(at as usize) {
-        None => 0,
-        Some(node) => node.line,
-    }
-}
 
 /// The gap at a node where something is not covered.
 fn uncovered(task: &Task, at: u32) -> SpecGap
@@ -36,7 +27,7 @@ fn uncovered(task: &Task, at: u32) -> SpecGap
 {
     SpecGap {
         fault: Fault::Cover,
-        line: line_of(task.flow, at),
+        line: line_at(task, at),
     }
 }
 

@@ -1,5 +1,5 @@
 use Rattle.std.proofs.Common.{◌≡◌, ◌++◌, drop, map}
-use Rattle.triple_check.specs.InTask.{task_in}
+use Rattle.certificate_steps.specs.InTask.{task_in}
 use Rattle.solve_laws.specs.Attempts.{try}
 use Rattle.comp_solve.proofs.attempts.trials_of.Given as goal
 

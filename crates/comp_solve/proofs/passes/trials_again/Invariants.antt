@@ -1,5 +1,5 @@
 use Rattle.std.proofs.Common.{◌≡◌, ◌++◌, drop, map}
-use Rattle.triple_check.specs.InTask.{task_in}
+use Rattle.certificate_steps.specs.InTask.{task_in}
 use Rattle.solve_laws.specs.Solving.{again_with}
 use Rattle.comp_solve.specs.Tests.{test_of}
 use Rattle.comp_solve.proofs.passes.trials_again.Given as goal

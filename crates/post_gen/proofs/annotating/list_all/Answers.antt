@@ -4,7 +4,7 @@ use Rattle.annotation_laws.specs.Annotation.{annotate, started, turns}
 use Rattle.annotation_laws.specs.Listing.{Course, Ends, Goes}
 use Rattle.post_gen.specs.InListing.{annotated_by, listing_in}
 use Rattle.post_gen.proofs.Queueing.{start-ended, start-more}
-use Rattle.triple_check.specs.InTask.{task_in}
+use Rattle.certificate_steps.specs.InTask.{task_in}
 use Rattle.post_gen.proofs.annotating.list_all.Goals as goal
 
 pub returns-in-Some-clause-value : goal.returns-in-Some-clause-value

@@ -1,7 +1,7 @@
 use Rattle.std.proofs.Common.{sym, subst}
 use Rattle.post_gen.specs.Conditions.{IsListing}
 use Rattle.post_gen.proofs.Listed.{empty-given}
-use Rattle.triple_check.specs.InTask.{task_in}
+use Rattle.certificate_steps.specs.InTask.{task_in}
 use Rattle.post_gen.proofs.annotating.start.Goals as goal
 
 pub state_comes-requires-clause-listing : goal.state_comes-requires-clause-listing

@@ -4,8 +4,8 @@ use Rattle.std.proofs.lemmas.Bool.{ltb-false}
 use Rattle.std.proofs.lemmas.List.Elements.{All-same}
 use Rattle.subtraction.specs.Conditions.{IsPostWithinSizes}
 use Rattle.annotation_laws.specs.Listing.{parts_of}
-use Rattle.triple_check.specs.InTask.{task_in}
-use Rattle.triple_check.proofs.SizeLaws.{post-sizes}
+use Rattle.certificate_steps.specs.InTask.{task_in}
+use Rattle.certificate_steps.proofs.SizeLaws.{post-sizes}
 use Rattle.post_gen.specs.Conditions.{IsListing}
 use Rattle.post_gen.specs.InListing.{listing_in}
 use Rattle.post_gen.proofs.Listed.{exit-listed, exits-within}

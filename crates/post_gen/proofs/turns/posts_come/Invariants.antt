@@ -1,7 +1,7 @@
 use Rattle.annotation_laws.specs.Annotation.{post_comes}
 use Rattle.post_gen.proofs.Coming.{ComesUpTo}
 use Rattle.post_gen.specs.InListing.{listing_in}
-use Rattle.triple_check.specs.InTask.{task_in}
+use Rattle.certificate_steps.specs.InTask.{task_in}
 use Rattle.post_gen.proofs.turns.posts_come.Given as goal
 
 abbrev pub invariant-loop-post : goal.invariant-loop-post

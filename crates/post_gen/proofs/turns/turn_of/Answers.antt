@@ -2,7 +2,7 @@ use Rattle.std.specs.Prelude.{◌≡◌}
 use Rattle.std.proofs.Common.{rules}
 use Rattle.certificate_laws.specs.Inductive.{execution}
 use Rattle.certificate_laws.proofs.GivenLaws.{step-given, step-within}
-use Rattle.triple_check.specs.InTask.{task_in}
+use Rattle.certificate_steps.specs.InTask.{task_in}
 use Rattle.post_gen.proofs.turns.turn_of.Goals as goal
 
 pub after_step-requires-clause-step : goal.after_step-requires-clause-step

@@ -5,7 +5,7 @@ use Rattle.annotation_laws.specs.Listing.{Course, Ends, Goes}
 use Rattle.post_gen.specs.InListing.{annotated_by, listing_in}
 use Rattle.post_gen.proofs.Listed.{rest-given}
 use Rattle.post_gen.proofs.Queueing.{taken, turn-ended, turn-more}
-use Rattle.triple_check.specs.InTask.{task_in}
+use Rattle.certificate_steps.specs.InTask.{task_in}
 use Rattle.post_gen.proofs.turns.turns.Goals as goal
 
 pub turn_of-requires-clause-listing : goal.turn_of-requires-clause-listing

@@ -4,7 +4,7 @@ use Rattle.std.proofs.lemmas.Result.{IfOk-weaker}
 use Rattle.shape_laws.specs.Symbolic.{emp}
 use Rattle.sym_canon.specs.declared.parts.Pair.{Pair}
 use Rattle.sym_canon.specs.Canonical.{canon_pair}
-use Rattle.triple_check.specs.InTask.{task_in}
+use Rattle.certificate_steps.specs.InTask.{task_in}
 use Rattle.candidate_laws.specs.Coming.{start_pair}
 use Rattle.pre_gen.proofs.coming.start_pair.Goals as goal
 

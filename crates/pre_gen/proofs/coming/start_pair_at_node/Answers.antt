@@ -5,7 +5,7 @@ use Rattle.std.proofs.Common.{rules, subst, sym}
 use Rattle.shape_data.specs.declared.symbolic.SymState.{SymState}
 use Rattle.shape_laws.specs.Symbolic.{emp}
 use Rattle.certificate_laws.specs.Coming.{start_form}
-use Rattle.triple_check.specs.InTask.{task_in}
+use Rattle.certificate_steps.specs.InTask.{task_in}
 use Rattle.candidate_laws.specs.Conditions.{IsPairWithinRoom}
 use Rattle.candidate_laws.proofs.GivenCases.{start-comes}
 use Rattle.pre_gen.proofs.coming.start_pair_at_node.Goals as goal

@@ -1,5 +1,5 @@
 use Rattle.std.proofs.Common.{◌∙◌, ap, subst, sym}
-use Rattle.triple_check.specs.InTask.{task_in}
+use Rattle.certificate_steps.specs.InTask.{task_in}
 use Rattle.candidate_laws.specs.Candidates.{MOST_TURNS, turns}
 use Rattle.candidate_laws.specs.Conditions.{IsSearch}
 use Rattle.pre_gen.specs.InSearch.{search_in}

@@ -1,5 +1,5 @@
 use Rattle.std.proofs.Common.{subst}
-use Rattle.triple_check.specs.InTask.{task_in}
+use Rattle.certificate_steps.specs.InTask.{task_in}
 use Rattle.candidate_laws.specs.Conditions.{IsGivenCase}
 use Rattle.pre_gen.proofs.turning.case_comes.Goals as goal
 

@@ -5,7 +5,7 @@ use Rattle.std.proofs.lemmas.Iterator.Consumers.{YieldsList-turn}
 use Rattle.std.proofs.lemmas.List.Elements.{All-same}
 use Rattle.std.proofs.lemmas.Option.{slice_get_read}
 use Rattle.shape_laws.proofs.StepsStacks.{All-at}
-use Rattle.triple_check.specs.InTask.{task_in}
+use Rattle.certificate_steps.specs.InTask.{task_in}
 use Rattle.candidate_laws.specs.Candidates.{case_comes}
 use Rattle.candidate_laws.specs.Conditions.{IsGivenCase, IsSearch}
 use Rattle.pre_gen.specs.InSearch.{search_in}

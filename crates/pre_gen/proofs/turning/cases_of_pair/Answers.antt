@@ -8,7 +8,7 @@ use Rattle.certificate_laws.specs.Coming.{normal_state}
 use Rattle.certificate_laws.specs.Limits.{analysable}
 use Rattle.certificate_laws.proofs.GivenLaws.{state-wide, table-wide}
 use Rattle.certificate_laws.proofs.LimitLaws as limits
-use Rattle.triple_check.specs.InTask.{task_in}
+use Rattle.certificate_steps.specs.InTask.{task_in}
 use Rattle.candidate_laws.proofs.GivenCases.{executed-given}
 use Rattle.pre_gen.proofs.turning.cases_of_pair.Goals as goal
 

@@ -2,7 +2,7 @@ use Rattle.std.proofs.Common.{◌≡◌, ◌∙◌, ap}
 use Rattle.std.proofs.lemmas.List.Elements.{All-same}
 use Rattle.std.proofs.lemmas.Result.{on_ok_weaker}
 use Rattle.certificate_laws.specs.Gaps.{line_at}
-use Rattle.triple_check.specs.InTask.{task_in}
+use Rattle.certificate_steps.specs.InTask.{task_in}
 use Rattle.candidate_laws.specs.Candidates.{cases_come, cases_of_pair}
 use Rattle.candidate_laws.specs.Conditions.{IsGivenCase}
 use Rattle.pre_gen.specs.InSearch.{search_in}

@@ -1,6 +1,6 @@
 -- Each turn is the definition's.
 use Rattle.std.proofs.Common.{◌∙◌, sym, subst}
-use Rattle.triple_check.specs.InTask.{task_in}
+use Rattle.certificate_steps.specs.InTask.{task_in}
 use Rattle.candidate_laws.specs.Candidates.{turns}
 use Rattle.candidate_laws.specs.Conditions.{IsSearch}
 use Rattle.pre_gen.specs.InSearch.{search_in}

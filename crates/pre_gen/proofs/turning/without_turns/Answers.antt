@@ -1,6 +1,6 @@
 use Rattle.std.proofs.Common.{◌∙◌, ap}
 use Rattle.shape_data.specs.declared.answer.Fault.TheVariants as fault
-use Rattle.triple_check.specs.InTask.{task_in}
+use Rattle.certificate_steps.specs.InTask.{task_in}
 use Rattle.candidate_laws.specs.Searching.{drops}
 use Rattle.pre_gen.specs.InSearch.{search_in}
 use Rattle.pre_gen.proofs.TurnSteps.{first-waits, none-waits}

@@ -7,7 +7,7 @@ use Rattle.composed_keys.specs.Rows.{AreWithin, component_value}
 use Rattle.composed_keys.specs.Used.{AreStructures}
 use Rattle.shape_data.specs.Sizes.{HasProgramSizes}
 use Rattle.summary_book.proofs.Components.{calls_are}
-use Rattle.summary_book.proofs.Rowed.{called_in_row}
+use Rattle.composed_keys.proofs.CallRows.{called_in_row}
 use Rattle.summary_book.proofs.parts.parts_of.Goals as goal
 
 pub returns-clause-parts : goal.returns-clause-parts

@@ -3,7 +3,7 @@ use Rattle.std.specs.Prelude.{option_map, zip}
 use Rattle.shape_data.specs.declared.symbolic.Cert.{Cert}
 use Rattle.shape_data.specs.declared.symbolic.Spec.{Spec}
 use Rattle.certificate_laws.specs.Gaps.{first_found, placed, spec_gap, summary_gap}
-use Rattle.triple_check.specs.InTask.{task_in}
+use Rattle.certificate_steps.specs.InTask.{task_in}
 use Rattle.triple_check.proofs.answers.summary_gap.Given as goal
 
 abbrev pub invariant-loop-place : goal.invariant-loop-place

@@ -1,7 +1,7 @@
 use Rattle.std.proofs.Common.{◌≡◌, drop}
 use Rattle.std.specs.List.{list_all}
 use Rattle.certificate_laws.specs.Gaps.{is_exit_covered}
-use Rattle.triple_check.specs.InTask.{task_in}
+use Rattle.certificate_steps.specs.InTask.{task_in}
 use Rattle.triple_check.proofs.gaps.are_exits_covered.Given as goal
 
 abbrev pub invariant-loop-exit : goal.invariant-loop-exit

@@ -6,9 +6,9 @@ use Rattle.std.proofs.lemmas.List.Elements.{All-same}
 use Rattle.shape_data.specs.declared.symbolic.Post.{Post}
 use Rattle.subtraction.specs.Conditions.{IsPostWithinSizes}
 use Rattle.certificate_laws.specs.Coming.{normal_post}
-use Rattle.triple_check.specs.InTask.{task_in}
+use Rattle.certificate_steps.specs.InTask.{task_in}
 use Rattle.certificate_laws.proofs.GivenLaws.{normal-post-given}
-use Rattle.triple_check.proofs.SizeLaws.{post-sizes, posts-sizes}
+use Rattle.certificate_steps.proofs.SizeLaws.{post-sizes, posts-sizes}
 use Rattle.triple_check.proofs.gaps.does_post_cover.Goals as goal
 
 pub is_post_covered-requires-clause-posts : goal.is_post_covered-requires-clause-posts

@@ -3,8 +3,8 @@ use Rattle.std.specs.declared.option.Option.TheVariants.{Some}
 use Rattle.std.proofs.Common.{rules}
 use Rattle.std.proofs.lemmas.List.Elements.{All-same}
 use Rattle.subtraction.specs.Conditions.{IsStateWithinSizes}
-use Rattle.triple_check.specs.InTask.{task_in}
-use Rattle.triple_check.proofs.SizeLaws.{node-sizes, state-sizes}
+use Rattle.certificate_steps.specs.InTask.{task_in}
+use Rattle.certificate_steps.proofs.SizeLaws.{node-sizes, state-sizes}
 use Rattle.triple_check.proofs.gaps.is_covered_at.Goals as goal
 
 pub is_covered-requires-clause-states : goal.is_covered-requires-clause-states

@@ -1,6 +1,6 @@
 use Rattle.std.proofs.Common.{◌≡◌, drop}
 use Rattle.certificate_laws.specs.Gaps.{first_found, node_gap, state_gap}
-use Rattle.triple_check.specs.InTask.{task_in}
+use Rattle.certificate_steps.specs.InTask.{task_in}
 use Rattle.triple_check.proofs.gaps.node_gap.Given as goal
 
 abbrev pub invariant-loop-state : goal.invariant-loop-state

@@ -5,7 +5,7 @@ use Rattle.std.proofs.Common.{rules}
 use Rattle.shape_data.specs.declared.symbolic.SymState.{SymState}
 use Rattle.certificate_laws.specs.Coming.{normal_state}
 use Rattle.certificate_laws.specs.Inductive.{execution}
-use Rattle.triple_check.specs.InTask.{task_in}
+use Rattle.certificate_steps.specs.InTask.{task_in}
 use Rattle.certificate_laws.proofs.GivenLaws.{normal-given, state-wide, step-given}
 use Rattle.triple_check.proofs.gaps.state_gap.Goals as goal
 

@@ -1,6 +1,6 @@
 use Rattle.std.proofs.Common.{◌≡◌, drop}
 use Rattle.certificate_laws.specs.Gaps.{first_found, node_gap}
-use Rattle.triple_check.specs.InTask.{task_in}
+use Rattle.certificate_steps.specs.InTask.{task_in}
 use Rattle.triple_check.proofs.gaps.states_gap.Given as goal
 
 abbrev pub invariant-loop-at : goal.invariant-loop-at

@@ -1,6 +1,0 @@
-use Rattle.std.proofs.Common.{◌≡◌}
-use Rattle.triple_check.specs.InTask.{variables_below}
-use Rattle.triple_check.proofs.coming.variables.Given as goal
-
-abbrev pub invariant-loop-slot : goal.invariant-loop-slot
-invariant-loop-slot l = l.made.items ≡ variables_below l.slot

@@ -1,6 +1,0 @@
-use Rattle.std.proofs.Common.{◌≡◌, drop}
-use Rattle.certificate_laws.specs.Coverings.{is_covered}
-use Rattle.triple_check.proofs.coverings.is_covered.Given as goal
-
-abbrev pub invariant-loop-cover : goal.invariant-loop-cover
-invariant-loop-cover l = is_covered l.states l.state ≡ is_covered (drop l.cover-index l.states) l.state
