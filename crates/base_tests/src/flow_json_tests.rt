@@ -1,6 +1,7 @@
 use flow_json::{Form, Unread};
 use serde_json::Value;
 use shape_data::program::{ArithOp, Cmd, Flow, Operand, StructDef, TestOp};
+use std::alloc::Global;
 use std::test::Fail;
 
 /// Flows by the table of forms: all commands, an operand of each sort, a call with a result and one without, and a mark.
@@ -19,14 +20,16 @@ const FLOWS: [(&str, usize); 3] = [
     ),
 ];
 
+fn node_count(alloc: Global, text: &str) -> Result<usize, Fail> {
+    let value = Value::from_str(alloc, text)?;
+    let flow = Flow::of_value(alloc, &value)?;
+    Ok(flow.nodes.len())
+}
+
 #[test]
 fn reads_flows(rt: HostRuntime) -> Result<(), Fail> {
     for (text, nodes) in FLOWS {
-        let value = Value::from_str(rt.alloc(), text)?;
-        match Flow::of_value(rt.alloc(), &value) {
-            Ok(flow) => assert_eq!(rt; flow.nodes.len(), nodes),
-            Err(_) => assert!(rt; false),
-        }
+        assert_eq!(rt; node_count(rt.alloc(), text)?, nodes);
     }
     Ok(())
 }
@@ -59,34 +62,35 @@ const NO_CMDS: [&str; 10] = [
     "[\"branch\",\"<\",1,[\"s\",0],[\"n\",3],8,9]",
 ];
 
+/// No flows: a member too few or too many, and another form.
+const NO_FLOWS: [&str; 3] = [
+    "{\"name\":\"f\",\"nodes\":[],\"params\":[],\"ret\":\"void\"}",
+    "{\"line\":1,\"name\":\"f\",\"nodes\":[],\"params\":[],\"ret\":\"void\",\"slots\":[]}",
+    "[]",
+];
+
+/// Whether a text gives nothing, since it is not of the form.
+fn is_of_no_form<T: Form>(alloc: Global, text: &str) -> Result<bool, Fail> {
+    let value = Value::from_str(alloc, text)?;
+    Ok(matches!(T::of_value(alloc, &value), Err(Unread::NotOfForm)))
+}
+
 #[test]
 fn refuses_what_is_not_of_the_form(rt: HostRuntime) -> Result<(), Fail> {
     for text in NO_STRUCTS {
-        let value = Value::from_str(rt.alloc(), text)?;
-        assert!(rt;
-            matches!(
-                StructDef::of_value(rt.alloc(), &value),
-                Err(Unread::NotOfForm)
-            )
-        );
+        assert!(rt; is_of_no_form::<StructDef>(rt.alloc(), text)?, "{text}");
     }
     for text in NO_CMDS {
-        let value = Value::from_str(rt.alloc(), text)?;
-        assert!(rt; matches!(Cmd::of_value(rt.alloc(), &value), Err(Unread::NotOfForm)));
+        assert!(rt; is_of_no_form::<Cmd>(rt.alloc(), text)?, "{text}");
     }
-    for text in [
-        "{\"name\":\"f\",\"nodes\":[],\"params\":[],\"ret\":\"void\"}",
-        "{\"line\":1,\"name\":\"f\",\"nodes\":[],\"params\":[],\"ret\":\"void\",\"slots\":[]}",
-        "[]",
-    ] {
-        let value = Value::from_str(rt.alloc(), text)?;
-        assert!(rt; matches!(Flow::of_value(rt.alloc(), &value), Err(Unread::NotOfForm)));
+    for text in NO_FLOWS {
+        assert!(rt; is_of_no_form::<Flow>(rt.alloc(), text)?, "{text}");
     }
     Ok(())
 }
 
 #[test]
-fn writes_commands(rt: HostRuntime) -> Result<(), Fail> {
+fn writes_sums(rt: HostRuntime) -> Result<(), Fail> {
     let arith = Cmd::Arith {
         to: 0,
         op: ArithOp::Sub,
@@ -96,6 +100,11 @@ fn writes_commands(rt: HostRuntime) -> Result<(), Fail> {
     };
     let text = arith.to_value(rt.alloc())?.to_string(rt.alloc())?;
     assert_eq!(rt; text.as_str(), "[\"arith\",0,\"-\",[\"s\",1],[\"n\",-7],2]");
+    Ok(())
+}
+
+#[test]
+fn writes_branches(rt: HostRuntime) -> Result<(), Fail> {
     let branch = Cmd::Branch {
         op: TestOp::Ge,
         pointers: false,

@@ -1,4 +1,6 @@
 //! Reporters through their bound.
+ghost use Rattle.std.specs.Prelude.{◌≡◌, length, IfOk};
+
 use reporters::{
     CountReporter, Entry, Go, MemoryReporter, Reporter, SharedSummary, TakeFault, feed_all,
 };
@@ -10,31 +12,57 @@ use std::process::Abort;
 use std::sync::Arc;
 use std::test::Fail;
 
-/// The entry of the procedure of this letter at this line, with one spec or none.
-fn entry(alloc: Global, letter: u8, line: u32, has_spec: bool) -> Result<Entry, AllocError> {
+/// The spec of a procedure that touches no memory and never returns.
+fn empty_spec(alloc: Global) -> Spec {
+    Spec {
+        pre: SymHeap {
+            pure: Row::new(alloc),
+            spatial: Row::new(alloc),
+        },
+        posts: Row::new(alloc),
+    }
+}
+
+fn specs(alloc: Global, has_spec: bool) -> Result<Row<Spec>, AllocError> {
     let mut specs = Row::new(alloc);
     if has_spec {
-        specs.push(Spec {
-            pre: SymHeap {
-                pure: Row::new(alloc),
-                spatial: Row::new(alloc),
-            },
-            posts: Row::new(alloc),
-        })?;
+        specs.push(empty_spec(alloc))?;
     }
-    let mut procs = Row::new(alloc);
-    procs.push(ProcSummary {
-        name: Name::of(alloc, &[letter])?,
-        specs,
+    Ok(specs)
+}
+
+/// The summary of `f`, with one spec or none.
+fn summary(alloc: Global, has_spec: bool) -> Result<ProcSummary, AllocError> {
+    Ok(ProcSummary {
+        name: Name::of(alloc, b"f")?,
+        specs: specs(alloc, has_spec)?,
         certs: Row::new(alloc),
         reason: Some(Reason::Endless),
-    })?;
+    })
+}
+
+/// An answer of one summary.
+fn answer(alloc: Global, has_spec: bool) -> Result<Answer, AllocError>
+    ensures { IfOk result (λ answer. length answer.procs ≡ 1) }
+{
+    let summary = summary(alloc, has_spec)?;
+    let mut procs = Row::new(alloc);
+    procs.push(summary)?;
     let stored = false;
-    let answer = Arc::new(alloc, Answer { stored, procs })?;
+    Ok(Answer { stored, procs })
+}
+
+fn shared_summary(alloc: Global, has_spec: bool) -> Result<SharedSummary, AllocError> {
+    let answer = Arc::new(alloc, answer(alloc, has_spec)?)?;
+    SharedSummary::of(&answer, 0)
+}
+
+/// The entry of `f` at this line, with one spec or none.
+fn entry(alloc: Global, line: u32, has_spec: bool) -> Result<Entry, AllocError> {
     Ok(Entry {
         file: Name::of(alloc, b"a.c")?,
         line,
-        summary: SharedSummary::of(&answer, 0)?,
+        summary: shared_summary(alloc, has_spec)?,
     })
 }
 
@@ -54,7 +82,7 @@ fn tells(rt: &impl Abort, reporter: &Box<dyn Reporter + Send>, count: usize) {
 /// Offers the entries of lines 0 to 7 to all reporters.
 fn feed_eight(alloc: Global, reporters: &mut Vec<Box<dyn Reporter + Send>>) -> Result<(), Fail> {
     for line in 0..8 {
-        feed_all(alloc, reporters, &entry(alloc, b'f', line, line > 4)?);
+        feed_all(alloc, reporters, &entry(alloc, line, line > 4)?);
     }
     Ok(())
 }
@@ -77,23 +105,28 @@ fn one_that_stops_at_its_second_entry_is_dropped(rt: HostRuntime) -> Result<(), 
     Ok(())
 }
 
+/// A reporter whose call of this number fails.
+fn reporter(
+    alloc: Global,
+    stop_at: Option<u32>,
+    fail_at: u64,
+) -> Result<MemoryReporter, AllocError> {
+    let fail_at = Vec::from_slice(alloc, &[fail_at])?;
+    MemoryReporter::new(alloc, stop_at, fail_at)
+}
+
 #[test]
 fn one_that_fails_is_dropped_and_the_others_stay_in_order(rt: HostRuntime) -> Result<(), Fail> {
     let alloc = rt.alloc();
     let mut reporters: Vec<Box<dyn Reporter + Send>> = Vec::new(alloc);
     for (stop_at, fail_at) in [(None, 9), (None, 1), (Some(9), 8), (Some(1), 9)] {
-        let fail_at = Vec::from_slice(alloc, &[fail_at])?;
-        let reporter = MemoryReporter::new(alloc, stop_at, fail_at)?;
+        let reporter = reporter(alloc, stop_at, fail_at)?;
         reporters.push(Box::new(alloc, reporter)?)?;
     }
     reporters.push(Box::new(alloc, CountReporter::new())?)?;
     let lefts = [4, 3, 3, 3, 3, 3, 3, 3, 2];
     for (line, left) in lefts.iter().enumerate() {
-        feed_all(
-            alloc,
-            &mut reporters,
-            &entry(alloc, b'f', line as u32, true)?,
-        );
+        feed_all(alloc, &mut reporters, &entry(alloc, line as u32, true)?);
         assert_eq!(rt; reporters.len(), *left);
     }
     for reporter in &reporters {
@@ -116,10 +149,7 @@ fn a_reporter_in_memory_fails_where_it_is_told_to(rt: HostRuntime) -> Result<(),
         Ok(Go::More),
     ];
     for answer in answers {
-        assert_eq!(rt;
-            reporter.take(alloc, &entry(alloc, b'f', 0, false)?),
-            answer
-        );
+        assert_eq!(rt; reporter.take(alloc, &entry(alloc, 0, false)?), answer);
     }
     Ok(())
 }
@@ -129,7 +159,7 @@ fn entries_are_counted(rt: HostRuntime) -> Result<(), Fail> {
     let alloc = rt.alloc();
     let mut reporter = CountReporter::new();
     for line in 0..8 {
-        reporter.take(alloc, &entry(alloc, b'f', line, line > 4)?)?;
+        reporter.take(alloc, &entry(alloc, line, line > 4)?)?;
     }
     assert_eq!(rt; reporter.count, 8);
     assert_eq!(rt; reporter.without_spec, 5);

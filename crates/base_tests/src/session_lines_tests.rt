@@ -6,57 +6,66 @@ use std::alloc::{AllocError, Global};
 use std::process::Abort;
 use std::test::Fail;
 
-/// A word, a name and a line feed.
-fn push_named(text: &mut Vec<u8>, word: &[u8], name: &[u8]) -> Result<(), AllocError> {
-    text.extend_from_slice(word)?;
-    text.extend_from_slice(name)?;
-    text.extend_from_slice(b"\n")
+/// A word, and what stands behind it.
+fn push(text: &mut Vec<u8>, word: &str, behind: &[u8]) -> Result<(), AllocError> {
+    text.extend_from_slice(word.as_bytes())?;
+    text.extend_from_slice(behind)
 }
 
-/// A command as a line.
-fn push_command(alloc: Global, text: &mut Vec<u8>, command: Command) -> Result<bool, AllocError> {
+/// A word and a number.
+fn push_number(
+    alloc: Global,
+    text: &mut Vec<u8>,
+    word: &str,
+    number: u64,
+) -> Result<(), AllocError> {
+    let digits = format!(in alloc; "{number}")?;
+    push(text, word, digits.as_bytes())
+}
+
+/// A command, without the end of its line.
+fn push_command(alloc: Global, text: &mut Vec<u8>, command: &Command) -> Result<(), AllocError> {
     match command {
-        Command::Blank => text.extend_from_slice(b"blank\n")?,
+        Command::Blank => push(text, "blank", b""),
         Command::Put { name, bytes } => {
-            text.extend_from_slice(b"put ")?;
-            text.extend_from_slice(name.as_bytes())?;
-            push_named(text, b": ", bytes.as_slice())?;
+            push(text, "put ", name.as_bytes())?;
+            push(text, ": ", bytes.as_slice())
         }
         Command::PutTooLong { name, size } => {
-            let number = format!(in alloc; " {size}")?;
-            text.extend_from_slice(b"too long ")?;
-            push_named(text, name.as_bytes(), number.as_bytes())?;
+            push(text, "too long ", name.as_bytes())?;
+            push_number(alloc, text, " ", u64::from(*size))
         }
-        Command::DropFile { name } => push_named(text, b"drop ", name.as_bytes())?,
-        Command::Start => text.extend_from_slice(b"start\n")?,
-        Command::Show { proc } => push_named(text, b"show ", proc.as_bytes())?,
-        Command::Report => text.extend_from_slice(b"report\n")?,
-        Command::Save => text.extend_from_slice(b"save\n")?,
-        Command::Gen { n } => {
-            let number = format!(in alloc; "{n}")?;
-            push_named(text, b"gen ", number.as_bytes())?;
-        }
-        Command::Quit => {
-            text.extend_from_slice(b"quit\n")?;
-            return Ok(false);
-        }
+        Command::DropFile { name } => push(text, "drop ", name.as_bytes()),
+        Command::Start => push(text, "start", b""),
+        Command::Show { proc } => push(text, "show ", proc.as_bytes()),
+        Command::Report => push(text, "report", b""),
+        Command::Save => push(text, "save", b""),
+        Command::Gen { n } => push_number(alloc, text, "gen ", u64::from(*n)),
+        Command::Quit => push(text, "quit", b""),
     }
-    Ok(true)
 }
 
-/// What was taken as a line, and whether more may follow.
-fn push_taken(alloc: Global, text: &mut Vec<u8>, taken: Taken) -> Result<bool, AllocError> {
+/// What was taken, without the end of its line.
+fn push_taken(alloc: Global, text: &mut Vec<u8>, taken: &Taken) -> Result<(), AllocError> {
     match taken {
-        Taken::Command(command) => return push_command(alloc, text, command),
-        Taken::End => text.extend_from_slice(b"end\n")?,
+        Taken::Command(command) => push_command(alloc, text, command),
+        Taken::End => push(text, "end", b""),
         Taken::Malformed { command, offset } => {
-            let place = format!(in alloc; "malformed {command} {offset}\n")?;
-            text.extend_from_slice(place.as_bytes())?;
+            push_number(alloc, text, "malformed ", u64::from(*command))?;
+            push_number(alloc, text, " ", *offset)
         }
-        Taken::Full => text.extend_from_slice(b"full\n")?,
-        Taken::ReadFault => text.extend_from_slice(b"read fault\n")?,
+        Taken::Full => push(text, "full", b""),
+        Taken::ReadFault => push(text, "read fault", b""),
     }
-    Ok(false)
+}
+
+/// Whether more may follow.
+fn goes_on(taken: &Taken) -> bool {
+    match taken {
+        Taken::Command(Command::Quit) => false,
+        Taken::Command(_) => true,
+        _ => false,
+    }
 }
 
 /// All that is taken from a source, a line each.
@@ -65,7 +74,9 @@ fn session_of<S: Source>(alloc: Global, source: &mut S) -> Result<Vec<u8>, Alloc
     let mut text = Vec::new(alloc);
     for _ in 0..70_000u32 {
         let taken = next_command(alloc, &mut commands, source)?;
-        if !push_taken(alloc, &mut text, taken)? {
+        push_taken(alloc, &mut text, &taken)?;
+        text.push(b'\n')?;
+        if !goes_on(&taken) {
             break;
         }
     }
@@ -185,27 +196,18 @@ fn streams_are_taken_apart_whatever_the_pieces(rt: HostRuntime) -> Result<(), Fa
     Ok(())
 }
 
+/// Behind an empty line and a report, whatever stands behind it, the line is malformed.
+fn is_malformed(rt: &impl Abort, alloc: Global, line: &str, behind: &str) -> Result<(), Fail> {
+    let stream = format!(in alloc; "\nreport\n{line}{behind}")?;
+    let want = b"blank\nreport\nmalformed 3 8\n";
+    takes(rt, alloc, stream.as_bytes(), 4096, want)
+}
+
 #[test]
 fn other_lines_are_malformed(rt: HostRuntime) -> Result<(), Fail> {
-    let alloc = rt.alloc();
     for line in NO_LINES {
-        let mut stream = Vec::from_slice(alloc, b"\nreport\n")?;
-        stream.extend_from_slice(line.as_bytes())?;
-        takes(
-            &rt,
-            alloc,
-            stream.as_slice(),
-            4096,
-            b"blank\nreport\nmalformed 3 8\n",
-        )?;
-        stream.extend_from_slice(b"\nreport\n")?;
-        takes(
-            &rt,
-            alloc,
-            stream.as_slice(),
-            4096,
-            b"blank\nreport\nmalformed 3 8\n",
-        )?;
+        is_malformed(&rt, rt.alloc(), line, "")?;
+        is_malformed(&rt, rt.alloc(), line, "\nreport\n")?;
     }
     Ok(())
 }
@@ -220,27 +222,52 @@ fn line_with(alloc: Global, word: &[u8], byte: u8, count: usize) -> Result<Vec<u
     Ok(line)
 }
 
+/// The word with a name of 64 bytes is taken.
+fn takes_longest_name(rt: &impl Abort, alloc: Global, word: &str) -> Result<(), Fail> {
+    let named = line_with(alloc, word.as_bytes(), b'a', 64)?;
+    let mut want = named.clone()?;
+    want.extend_from_slice(b"end\n")?;
+    takes(rt, alloc, named.as_slice(), 4096, want.as_slice())
+}
+
+/// The word with so many of a byte is malformed.
+fn takes_no_name(
+    rt: &impl Abort,
+    alloc: Global,
+    word: &str,
+    byte: u8,
+    count: usize,
+) -> Result<(), Fail> {
+    let line = line_with(alloc, word.as_bytes(), byte, count)?;
+    takes(rt, alloc, line.as_slice(), 4096, b"malformed 1 0\n")
+}
+
 #[test]
-fn names_have_64_bytes_of_their_kind(rt: HostRuntime) -> Result<(), Fail> {
-    let alloc = rt.alloc();
+fn names_have_64_bytes(rt: HostRuntime) -> Result<(), Fail> {
     for word in ["drop ", "show "] {
-        let named = line_with(alloc, word.as_bytes(), b'a', 64)?;
-        let mut want = named.clone()?;
-        want.extend_from_slice(b"end\n")?;
-        takes(&rt, alloc, named.as_slice(), 4096, want.as_slice())?;
-        let long = line_with(alloc, word.as_bytes(), b'a', 65)?;
-        takes(&rt, alloc, long.as_slice(), 4096, b"malformed 1 0\n")?;
+        takes_longest_name(&rt, rt.alloc(), word)?;
+        takes_no_name(&rt, rt.alloc(), word, b'a', 65)?;
     }
+    Ok(())
+}
+
+#[test]
+fn names_have_bytes_of_their_kind(rt: HostRuntime) -> Result<(), Fail> {
     for byte in b"\0\t\r!\"#$%&'()*+,:;<=>?@[\\]^`{|}~\x7f\x80\xff" {
         for word in ["drop ", "show ", "put "] {
-            let line = line_with(alloc, word.as_bytes(), *byte, 1)?;
-            takes(&rt, alloc, line.as_slice(), 4096, b"malformed 1 0\n")?;
+            takes_no_name(&rt, rt.alloc(), word, *byte, 1)?;
         }
     }
     for byte in b"./-" {
-        let line = line_with(alloc, b"show ", *byte, 1)?;
-        takes(&rt, alloc, line.as_slice(), 4096, b"malformed 1 0\n")?;
+        takes_no_name(&rt, rt.alloc(), "show ", *byte, 1)?;
     }
+    Ok(())
+}
+
+/// Takes the first command.
+fn take_one<S: Source>(alloc: Global, source: &mut S) -> Result<(), AllocError> {
+    let mut commands = Commands::new(alloc);
+    let _taken = next_command(alloc, &mut commands, source)?;
     Ok(())
 }
 
@@ -248,34 +275,38 @@ fn names_have_64_bytes_of_their_kind(rt: HostRuntime) -> Result<(), Fail> {
 fn leaves(rt: &impl Abort, alloc: Global, bytes: &[u8], left: usize) -> Result<(), Fail> {
     let steady = SteadySource::new(alloc, Vec::from_slice(alloc, bytes)?)?;
     let mut source = InPieces::new(steady, 1);
-    let mut commands = Commands::new(alloc);
-    let mut text = Vec::new(alloc);
-    let taken = next_command(alloc, &mut commands, &mut source)?;
-    push_taken(alloc, &mut text, taken)?;
+    take_one(alloc, &mut source)?;
     let rest = read_up_to(alloc, &mut source, 20_000_000);
     assert_eq!(rt; rest.end, ReadEnd::End);
     assert_eq!(rt; rest.bytes.as_slice().len(), left, "behind {bytes:?}");
     Ok(())
 }
 
+/// Streams, and how many bytes are left behind their first command.
+const LEFT: [(&str, usize); 6] = [
+    ("\nreport\n", 7),
+    ("report\nquit", 4),
+    ("put a.c 5\nhelloreport\n", 7),
+    ("put a.c 0\nreport\n", 7),
+    ("hello\nreport\n", 7),
+    ("put a.c 5\nhell", 0),
+];
+
 #[test]
 fn nothing_is_read_that_is_not_needed(rt: HostRuntime) -> Result<(), Fail> {
-    let alloc = rt.alloc();
-    let rows: [(&str, usize); 6] = [
-        ("\nreport\n", 7),
-        ("report\nquit", 4),
-        ("put a.c 5\nhelloreport\n", 7),
-        ("put a.c 0\nreport\n", 7),
-        ("hello\nreport\n", 7),
-        ("put a.c 5\nhell", 0),
-    ];
-    for (stream, left) in rows {
-        leaves(&rt, alloc, stream.as_bytes(), left)?;
+    for (stream, left) in LEFT {
+        leaves(&rt, rt.alloc(), stream.as_bytes(), left)?;
     }
-    // A line is read up to its 257th byte.
-    leaves(&rt, alloc, line_with(alloc, b"", b'a', 256)?.as_slice(), 0)?;
-    leaves(&rt, alloc, line_with(alloc, b"", b'a', 257)?.as_slice(), 1)?;
-    leaves(&rt, alloc, line_with(alloc, b"", b'a', 300)?.as_slice(), 44)
+    Ok(())
+}
+
+#[test]
+fn a_line_is_read_up_to_its_257th_byte(rt: HostRuntime) -> Result<(), Fail> {
+    for (count, left) in [(256, 0), (257, 1), (300, 44)] {
+        let line = line_with(rt.alloc(), b"", b'a', count)?;
+        leaves(&rt, rt.alloc(), line.as_slice(), left)?;
+    }
+    Ok(())
 }
 
 /// A line that puts a file of this size, and so many bytes.
@@ -286,64 +317,88 @@ fn put_of(alloc: Global, size: usize, bytes: usize) -> Result<Vec<u8>, AllocErro
     Ok(stream)
 }
 
-#[test]
-fn a_file_that_is_too_long_is_passed_over(rt: HostRuntime) -> Result<(), Fail> {
-    let alloc = rt.alloc();
-    let rows: [(usize, usize, &str); 4] = [
-        (1_048_577, 1_048_577, "too long a.c 1048577\nend\n"),
-        (9_999_999, 9_999_999, "too long a.c 9999999\nend\n"),
-        (9_999_999, 9_999_998, "malformed 1 0\n"),
-        (1_048_576, 1_048_575, "malformed 1 0\n"),
-    ];
-    for (size, bytes, want) in rows {
-        let stream = put_of(alloc, size, bytes)?;
-        takes(&rt, alloc, stream.as_slice(), 4096, want.as_bytes())?;
-    }
-    let stream = put_of(alloc, 1_048_576, 1_048_576)?;
-    let mut want = Vec::from_slice(alloc, b"put a.c: ")?;
-    want.resize(1_048_585, b' ')?;
-    want.extend_from_slice(b"\nend\n")?;
-    takes(&rt, alloc, stream.as_slice(), 4096, want.as_slice())
-}
+/// Sizes of files, how many bytes are there, and what is taken.
+const SIZES: [(usize, usize, &str); 4] = [
+    (1_048_577, 1_048_577, "too long a.c 1048577\nend\n"),
+    (9_999_999, 9_999_999, "too long a.c 9999999\nend\n"),
+    (9_999_999, 9_999_998, "malformed 1 0\n"),
+    (1_048_576, 1_048_575, "malformed 1 0\n"),
+];
 
 #[test]
-fn a_session_has_so_many_commands(rt: HostRuntime) -> Result<(), Fail> {
-    let alloc = rt.alloc();
-    let rows: [(&[u8], &[u8]); 5] = [
-        (b"", b"end\n"),
-        (b"\n", b"full\n"),
-        (b"hello", b"full\n"),
-        (b"quit\n", b"full\n"),
-        (b"report\nreport\n", b"full\n"),
-    ];
-    for (behind, end) in rows {
-        let mut stream = vec![in alloc; b'\n'; 65_536]?;
-        stream.extend_from_slice(behind)?;
-        let mut source = SteadySource::new(alloc, stream)?;
-        let text = session_of(alloc, &mut source)?;
-        let (blanks, last) = text.as_slice().split_at(text.len().min(6 * 65_536));
-        assert_eq!(&rt; blanks.len(), 6 * 65_536);
-        assert_eq!(&rt; last, end);
+fn a_file_that_is_too_long_is_passed_over(rt: HostRuntime) -> Result<(), Fail> {
+    for (size, bytes, want) in SIZES {
+        let stream = put_of(rt.alloc(), size, bytes)?;
+        takes(&rt, rt.alloc(), stream.as_slice(), 4096, want.as_bytes())?;
     }
     Ok(())
 }
 
+/// The longest file as it is taken.
+fn longest_taken(alloc: Global) -> Result<Vec<u8>, AllocError> {
+    let mut want = Vec::from_slice(alloc, b"put a.c: ")?;
+    want.resize(1_048_585, b' ')?;
+    want.extend_from_slice(b"\nend\n")?;
+    Ok(want)
+}
+
+#[test]
+fn the_longest_file_is_put(rt: HostRuntime) -> Result<(), Fail> {
+    let stream = put_of(rt.alloc(), 1_048_576, 1_048_576)?;
+    let want = longest_taken(rt.alloc())?;
+    takes(&rt, rt.alloc(), stream.as_slice(), 4096, want.as_slice())
+}
+
+/// What is taken of 65,536 empty lines and what stands behind them.
+fn many_taken(alloc: Global, behind: &str) -> Result<Vec<u8>, AllocError> {
+    let mut stream = vec![in alloc; b'\n'; 65_536]?;
+    stream.extend_from_slice(behind.as_bytes())?;
+    let mut source = SteadySource::new(alloc, stream)?;
+    session_of(alloc, &mut source)
+}
+
+/// What stands behind as many commands as there may be, and what is taken of it.
+const BEHIND: [(&str, &str); 5] = [
+    ("", "end\n"),
+    ("\n", "full\n"),
+    ("hello", "full\n"),
+    ("quit\n", "full\n"),
+    ("report\nreport\n", "full\n"),
+];
+
+#[test]
+fn a_session_has_so_many_commands(rt: HostRuntime) -> Result<(), Fail> {
+    for (behind, end) in BEHIND {
+        let text = many_taken(rt.alloc(), behind)?;
+        let (blanks, last) = text.as_slice().split_at(text.len().min(6 * 65_536));
+        assert_eq!(&rt; blanks.len(), 6 * 65_536);
+        assert_eq!(&rt; last, end.as_bytes());
+    }
+    Ok(())
+}
+
+/// What is taken where this call of the source fails, and each read gives one byte.
+fn taken_to_fault(alloc: Global, call: u64) -> Result<Vec<u8>, AllocError> {
+    let bytes = Vec::from_slice(alloc, b"report\nput a.c 5\nhello")?;
+    let inner = MemorySource::new(alloc, bytes, Vec::from_slice(alloc, &[call])?)?;
+    let mut source = InPieces::new(inner, 1);
+    session_of(alloc, &mut source)
+}
+
+/// Calls that fail, and what is taken.
+const FAULTS: [(u64, &str); 6] = [
+    (0, "read fault\n"),
+    (3, "read fault\n"),
+    (7, "report\nread fault\n"),
+    (17, "report\nread fault\n"),
+    (20, "report\nread fault\n"),
+    (22, "report\nput a.c: hello\nread fault\n"),
+];
+
 #[test]
 fn a_failed_read_is_a_read_fault(rt: HostRuntime) -> Result<(), Fail> {
-    let alloc = rt.alloc();
-    let rows: [(u64, &str); 6] = [
-        (0, "read fault\n"),
-        (3, "read fault\n"),
-        (7, "report\nread fault\n"),
-        (17, "report\nread fault\n"),
-        (20, "report\nread fault\n"),
-        (22, "report\nput a.c: hello\nread fault\n"),
-    ];
-    for (call, want) in rows {
-        let bytes = Vec::from_slice(alloc, b"report\nput a.c 5\nhello")?;
-        let inner = MemorySource::new(alloc, bytes, Vec::from_slice(alloc, &[call])?)?;
-        let mut source = InPieces::new(inner, 1);
-        let text = session_of(alloc, &mut source)?;
+    for (call, want) in FAULTS {
+        let text = taken_to_fault(rt.alloc(), call)?;
         assert_eq!(&rt; text.as_slice(), want.as_bytes(), "at {call}");
     }
     Ok(())

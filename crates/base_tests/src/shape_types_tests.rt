@@ -1,10 +1,12 @@
 //! Each public function once, each generic impl at a type, and what callers of a row learn.
 ghost use Rattle.std.specs.Prelude.{◌≡◌, ◌<◌, ◌≤◌, ◌↔◌, ◌++◌, ◌∷◌, [], length, slice_get, Some, IsTrue, IfOk, All};
 
+use flow_json::Form;
+use serde_json::Value;
 use shape_types::answer::{Callee, Key};
 use shape_types::exact::{Exact, copy_of, is_same, is_same_shared, share};
 use shape_types::name::Name;
-use shape_types::program::{Cmd, Flow, Node, Operand, Proc, Program, Ty};
+use shape_types::program::{Flow, Proc, Program};
 use shape_types::row::Row;
 use shape_types::symbolic::{Atom, Exp, Spec, SymHeap};
 use std::alloc::{AllocError, Global};
@@ -48,60 +50,63 @@ fn one<T: Drop>(alloc: Global, value: T) -> Result<Row<T>, AllocError> {
     Ok(row)
 }
 
-fn flow(alloc: Global, node: Node) -> Result<Flow, AllocError> {
-    let nodes = one(alloc, node)?;
-    Ok(Flow {
-        name: name(alloc, b"five")?,
-        params: Row::new(alloc),
-        slots: Row::new(alloc),
-        ret: Ty::Int,
-        nodes,
-    })
+// A procedure that returns 5, and one that returns 6.
+const FIVE: &str =
+    r#"{"name": "five", "params": [], "slots": [], "ret": "int", "nodes": [[0, null, ["return", ["n", 5]]]]}"#;
+
+const SIX: &str =
+    r#"{"name": "five", "params": [], "slots": [], "ret": "int", "nodes": [[0, null, ["return", ["n", 6]]]]}"#;
+
+fn flow(alloc: Global, text: &str) -> Result<Flow, Fail> {
+    let value = Value::from_str(alloc, text)?;
+    Ok(Flow::of_value(alloc, &value)?)
 }
 
-// A program of one procedure, which returns this number.
-fn program(alloc: Global, number: i32) -> Result<Program, AllocError> {
-    let value = Operand::Num(number);
-    let node = Node {
-        line: 0,
-        cmd: Cmd::Return { value },
-        head: None,
+// A program of one procedure, which is written so.
+fn program(alloc: Global, text: &str) -> Result<Program, Fail> {
+    let proc = Proc {
+        file: name(alloc, b"five.c")?,
+        flow: flow(alloc, text)?,
+        line: 3,
     };
-    let flow = flow(alloc, node)?;
-    let file = name(alloc, b"five.c")?;
     Ok(Program {
         structs: Row::new(alloc),
-        procs: one(
-            alloc,
-            Proc {
-                flow,
-                file,
-                line: 3,
-            },
-        )?,
+        procs: one(alloc, proc)?,
     })
 }
 
-// A heap of one structure, which holds this number.
-fn heap(alloc: Global, number: i32) -> Result<SymHeap, AllocError> {
-    let kind = name(alloc, b"node")?;
-    let fields = one(alloc, Exp::Const(number))?;
-    let at = Exp::Var(0);
-    Ok(SymHeap {
+// A structure that holds this number.
+fn cell(alloc: Global, number: i32) -> Result<Atom, AllocError> {
+    Ok(Atom::Points {
+        at: Exp::Var(0),
+        kind: name(alloc, b"node")?,
+        fields: one(alloc, Exp::Const(number))?,
+    })
+}
+
+// A spec that asks for a heap of one structure, which holds this number.
+fn spec(alloc: Global, number: i32) -> Result<Spec, AllocError> {
+    let cell = cell(alloc, number)?;
+    let pre = SymHeap {
         pure: Row::new(alloc),
-        spatial: one(alloc, Atom::Points { at, kind, fields })?,
+        spatial: one(alloc, cell)?,
+    };
+    let posts = Row::new(alloc);
+    Ok(Spec { pre, posts })
+}
+
+fn callee(alloc: Global, number: i32) -> Result<Callee, AllocError> {
+    let spec = spec(alloc, number)?;
+    Ok(Callee {
+        name: name(alloc, b"get")?,
+        params: Row::new(alloc),
+        specs: one(alloc, spec)?,
     })
 }
 
 // A key with one callee, whose spec asks for a heap that holds this number.
 fn key(alloc: Global, number: i32) -> Result<Key, AllocError> {
-    let pre = heap(alloc, number)?;
-    let posts = Row::new(alloc);
-    let callee = Callee {
-        name: name(alloc, b"get")?,
-        params: Row::new(alloc),
-        specs: one(alloc, Spec { pre, posts })?,
-    };
+    let callee = callee(alloc, number)?;
     Ok(Key {
         recursive: true,
         procs: Row::new(alloc),
@@ -119,7 +124,7 @@ fn is_told_apart<T: Exact + Drop>(value: &T, other: &T) -> Result<bool, AllocErr
 #[test]
 fn deep_values_are_told_apart(rt: HostRuntime) -> Result<(), Fail> {
     let alloc = rt.alloc();
-    assert!(rt; is_told_apart(&program(alloc, 5)?, &program(alloc, 6)?)?);
+    assert!(rt; is_told_apart(&program(alloc, FIVE)?, &program(alloc, SIX)?)?);
     assert!(rt; is_told_apart(&key(alloc, 5)?, &key(alloc, 6)?)?);
     assert!(rt; is_told_apart(&Some(3u32), &None)?);
     Ok(())
@@ -160,19 +165,37 @@ fn rows_are_edited(rt: HostRuntime) -> Result<(), Fail> {
     Ok(())
 }
 
+// A row of two numbers.
+fn two(alloc: Global, first: u32, second: u32) -> Result<Row<u32>, AllocError>
+    ensures { IfOk result (λ row. row ≡ first ∷ second ∷ []) }
+{
+    Ok(vec![in alloc; first, second]?.into())
+}
+
 #[test]
 fn rows_are_read(rt: HostRuntime) -> Result<(), Fail> {
-    let alloc = rt.alloc();
-    let row: Row<u32> = vec![in alloc; 4, 7]?.into();
+    let row = two(rt.alloc(), 4, 7)?;
     assert!(rt; row.first() == row.get(0) && row.last() == row.get(1) && are_small(&row));
     assert!(rt; row.len() == 2 && at(&row, 1) == 7);
+    assert_eq!(rt; format!(in rt.alloc(); "{row:?}")?.as_str(), "[4, 7]");
+    Ok(())
+}
+
+#[test]
+fn rows_are_walked(rt: HostRuntime) -> Result<(), Fail> {
+    let row = two(rt.alloc(), 4, 7)?;
     let mut count = 0u32;
     for value in &row {
         count = count.wrapping_add(*value);
     }
     assert_eq!(rt; count, 11);
-    let other = Row::from_vec(vec![in alloc; 4, 8]?);
+    Ok(())
+}
+
+#[test]
+fn rows_are_compared(rt: HostRuntime) -> Result<(), Fail> {
+    let row = two(rt.alloc(), 4, 7)?;
+    let other = Row::from_vec(vec![in rt.alloc(); 4, 8]?);
     assert!(rt; row < other && row.cmp(&other) == Ordering::Less && is_told_apart(&row, &other)?);
-    assert_eq!(rt; format!(in alloc; "{row:?}")?.as_str(), "[4, 7]");
     Ok(())
 }

@@ -4,12 +4,13 @@ ghost use Rattle.std.specs.Prelude.{◌≡◌, ◌<◌, false, IfOk};
 
 use rand_core::utils::NextWord;
 use rand_pcg::Pcg32;
-use shape_data::answer::{Answer, Key, ProcSummary, Reason};
-use shape_data::program::{Cmd, Flow, Node, Operand, Proc, Program, Ty};
-use shape_data::symbolic::{Cert, Spec, SymHeap, SymState};
-use shape_data::{Name, Row, copy_of};
-use std::alloc::Global;
-use std::test::Fail;
+use shape_data::Row;
+use shape_data::answer::{Answer, Key};
+use shape_data::program::{Proc, Program};
+use std::alloc::{AllocError, Global};
+use std::sync::Arc;
+use toy_programs::answers::summary;
+use toy_programs::programs::{Sketch, proc, program_of};
 
 /// Numbers by the PCG generator.
 #[derive(Drop)]
@@ -39,116 +40,42 @@ impl Draws {
     }
 }
 
-/// A call of a procedure, or a command that does nothing.
-fn command(alloc: Global, draws: &mut Draws, letter: u8, next: u32) -> Result<Cmd, Fail> {
-    if draws.below(4) == 0 {
-        return Ok(Cmd::Call {
-            to: None,
-            callee: Name::of(alloc, &[letter])?,
-            args: Row::new(alloc),
-            next,
-        });
+/// Some of the letters `a` to `e` in order, with points in place of the others.
+fn body(draws: &mut Draws) -> [u8; 5] {
+    let mut body = *b"abcde";
+    for place in 0..5 {
+        if draws.below(4) > 0 {
+            body[place] = b'.';
+        }
     }
-    Ok(Cmd::Copy {
-        to: 0,
-        from: Operand::Num(0),
-        next,
-    })
+    body
 }
 
-fn node(cmd: Cmd) -> Node {
-    Node {
-        line: 0,
-        cmd,
-        head: None,
-    }
-}
-
-/// Five commands, and a small number as the value.
-fn nodes(alloc: Global, draws: &mut Draws) -> Result<Row<Node>, Fail> {
-    let mut nodes = Row::new(alloc);
-    let callees = [(b'a', 1), (b'b', 2), (b'c', 3), (b'd', 4), (b'e', 5)];
-    for (letter, next) in callees {
-        nodes.push(node(command(alloc, draws, letter, next)?))?;
-    }
-    nodes.push(node(Cmd::Return {
-        value: Operand::Num(draws.below(3) as i32),
-    }))?;
-    Ok(nodes)
-}
-
-fn procedure(alloc: Global, draws: &mut Draws, letter: u8) -> Result<Proc, Fail> {
-    let mut slots = Row::new(alloc);
-    slots.push(Ty::Int)?;
-    let flow = Flow {
-        name: Name::of(alloc, &[letter])?,
-        params: Row::new(alloc),
-        slots,
-        ret: Ty::Int,
-        nodes: nodes(alloc, draws)?,
+/// A procedure that calls some of `a` to `e`, and returns a small number.
+fn procedure(alloc: Global, draws: &mut Draws, letter: u8) -> Result<Proc, AllocError> {
+    let body = body(draws);
+    let sketch = Sketch {
+        name: letter,
+        body: &body,
+        slots: &[None],
+        value: draws.below(3) as i32,
     };
-    Ok(Proc {
-        flow,
-        file: Name::of(alloc, b"x")?,
-        line: 1,
-    })
+    proc(alloc, sketch)
 }
 
 /// A program, each of whose four procedures is left out one time in four.
-pub fn program(alloc: Global, draws: &mut Draws) -> Result<Program, Fail> {
+pub fn program(alloc: Global, draws: &mut Draws) -> Result<Arc<Program>, AllocError> {
     let mut procs = Row::new(alloc);
     for letter in *b"abcd" {
         if draws.below(4) > 0 {
             procs.push(procedure(alloc, draws, letter)?)?;
         }
     }
-    Ok(Program {
-        structs: Row::new(alloc),
-        procs,
-    })
-}
-
-/// A spec of nothing.
-fn spec(alloc: Global) -> Spec {
-    Spec {
-        pre: SymHeap {
-            pure: Row::new(alloc),
-            spatial: Row::new(alloc),
-        },
-        posts: Row::new(alloc),
-    }
-}
-
-/// A certificate without a state.
-fn certificate(alloc: Global, flow: &Flow) -> Result<Cert, Fail> {
-    let mut nodes = Row::new(alloc);
-    for _node in flow.nodes.as_slice() {
-        let states: Row<SymState> = Row::new(alloc);
-        nodes.push(states)?;
-    }
-    Ok(Cert {
-        nodes,
-        exits: Row::new(alloc),
-    })
-}
-
-fn summary(alloc: Global, flow: &Flow, count: u32) -> Result<ProcSummary, Fail> {
-    let mut specs = Row::new(alloc);
-    let mut certs = Row::new(alloc);
-    for _ in 0..count {
-        specs.push(spec(alloc))?;
-        certs.push(certificate(alloc, flow)?)?;
-    }
-    Ok(ProcSummary {
-        name: copy_of(&flow.name)?,
-        specs,
-        certs,
-        reason: Some(Reason::Endless),
-    })
+    program_of(alloc, procs)
 }
 
 /// An answer to a key, with up to two specs for each procedure.
-pub fn answer(alloc: Global, draws: &mut Draws, key: &Key) -> Result<Answer, Fail>
+pub fn answer(alloc: Global, draws: &mut Draws, key: &Key) -> Result<Answer, AllocError>
     ensures { IfOk result (λ answer. answer.stored ≡ false) }
 {
     let mut procs = Row::new(alloc);

@@ -94,7 +94,6 @@ fn meet(
     let program = program(alloc, draws)?;
     assert!(rt; well_formed_program(&program));
     assert!(rt; has_program_sizes(&program));
-    let program = Arc::new(alloc, program)?;
     let before = book.log().len();
     let met = book.meet(alloc, &program)?;
     let later = book.log().len();

@@ -53,18 +53,24 @@ fn calls_of(alloc: Global, text: &str) -> Result<Vec<Vec<u32>>, Fail> {
     Ok(calls)
 }
 
+/// Puts the names of a class behind the text, as one word.
+fn show(text: &mut Vec<u8>, names: &[Name], class: &[u32]) -> Result<(), Fail> {
+    if !text.is_empty() {
+        text.push(b' ')?;
+    }
+    for number in class {
+        if let Some(name) = names.get(*number as usize) {
+            text.extend_from_slice(name.as_bytes())?;
+        }
+    }
+    Ok(())
+}
+
 /// The names of each class, a word each.
 fn shown(alloc: Global, names: &[Name], all: &[Vec<u32>]) -> Result<Vec<u8>, Fail> {
     let mut text = Vec::new(alloc);
     for class in all {
-        if !text.is_empty() {
-            text.push(b' ')?;
-        }
-        for number in class {
-            if let Some(name) = names.get(*number as usize) {
-                text.extend_from_slice(name.as_bytes())?;
-            }
-        }
+        show(&mut text, names, class)?;
     }
     Ok(text)
 }
@@ -80,15 +86,20 @@ fn components_of(
     Ok(components(alloc, names, calls)?)
 }
 
+/// The components of a graph, a word each.
+fn answered(rt: &impl Abort, alloc: Global, graph: &str) -> Result<Vec<u8>, Fail> {
+    let names = names_of(alloc, graph)?;
+    let calls = calls_of(alloc, graph)?;
+    let all = components_of(rt, alloc, &names, &calls)?;
+    shown(alloc, &names, &all)
+}
+
 #[test]
 fn small_graphs(rt: HostRuntime) -> Result<(), Fail> {
     let alloc = rt.alloc();
     for (graph, expected) in ROWS {
-        let names = names_of(alloc, graph)?;
-        let calls = calls_of(alloc, graph)?;
-        let all = components_of(&rt, alloc, &names, &calls)?;
-        let text = shown(alloc, &names, &all)?;
-        assert_eq!(rt; text.as_slice(), expected.as_bytes(), "{graph}");
+        let text = answered(&rt, alloc, graph)?;
+        assert!(rt; text.as_slice() == expected.as_bytes(), "{graph}");
     }
     Ok(())
 }
@@ -103,43 +114,50 @@ fn many_names(alloc: Global) -> Result<Vec<Name>, Fail> {
     Ok(names)
 }
 
-/// Each calls the next one, and the last one calls `last`, if that is one of them.
+/// Whom the procedure of a number calls: the next one, and the last one calls `last`, if that is one of them.
+fn callees(alloc: Global, number: u32, last: u32) -> Result<Vec<u32>, Fail> {
+    let mut callees = Vec::new(alloc);
+    let callee = if number == 1023 {
+        last
+    } else {
+        number.wrapping_add(1)
+    };
+    if callee < 1024 {
+        callees.push(callee)?;
+    }
+    Ok(callees)
+}
+
 fn chain(alloc: Global, last: u32) -> Result<Vec<Vec<u32>>, Fail> {
     let mut calls = Vec::new(alloc);
     for number in 0..1024_u32 {
-        let mut row = Vec::new(alloc);
-        let callee = if number == 1023 { last } else { number + 1 };
-        if callee < 1024 {
-            row.push(callee)?;
-        }
-        calls.push(row)?;
+        calls.push(callees(alloc, number, last)?)?;
     }
     Ok(calls)
 }
 
+/// The components of 1,024 procedures in a chain.
+fn chained(rt: &impl Abort, alloc: Global, last: u32) -> Result<Vec<Vec<u32>>, Fail> {
+    let names = many_names(alloc)?;
+    let calls = chain(alloc, last)?;
+    components_of(rt, alloc, &names, &calls)
+}
+
 #[test]
 fn a_chain_of_all_procedures(rt: HostRuntime) -> Result<(), Fail> {
-    let alloc = rt.alloc();
-    let names = many_names(alloc)?;
-    let calls = chain(alloc, 1024)?;
-    let all = components_of(&rt, alloc, &names, &calls)?;
+    let all = chained(&rt, rt.alloc(), 1024)?;
     assert_eq!(rt; all.len(), 1024);
     let mut expected = 1024_u32;
     for class in &all {
-        assert_eq!(rt; class.len(), 1);
-        assert!(rt; expected > 0);
-        expected -= 1;
-        assert_eq!(rt; class[0], expected);
+        expected = expected.wrapping_sub(1);
+        assert!(rt; class.as_slice() == [expected].as_slice(), "{expected}");
     }
     Ok(())
 }
 
 #[test]
 fn a_cycle_of_all_procedures(rt: HostRuntime) -> Result<(), Fail> {
-    let alloc = rt.alloc();
-    let names = many_names(alloc)?;
-    let calls = chain(alloc, 0)?;
-    let all = components_of(&rt, alloc, &names, &calls)?;
+    let all = chained(&rt, rt.alloc(), 0)?;
     assert_eq!(rt; all.len(), 1);
     assert_eq!(rt; all[0].len(), 1024);
     Ok(())

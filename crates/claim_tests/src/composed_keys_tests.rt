@@ -1,87 +1,58 @@
-//! The components and a key of a small program: `f` calls `g`, and `g` takes a pointer to `s`, which points to `r`.
-use composed_keys::{are_flows, components_of, is_key_of, key_of, structures_of};
+//! The components and a key of a small program: `f` calls `g`, and `g` has a slot for a pointer to `s`, which points to `r`.
+use composed_keys::{Outer, are_flows, components_of, is_key_of, key_of, structures_of};
 use shape_data::answer::Key;
-use shape_data::program::{Cmd, Field, Flow, Node, Operand, Proc, Program, StructDef, Ty};
-use shape_data::{Name, Row, well_formed_program};
-use std::alloc::Global;
+use shape_data::program::{Field, Program, StructDef};
+use shape_data::{Row, well_formed_program};
+use std::alloc::{AllocError, Global};
+use std::process::Abort;
 use std::test::Fail;
+use toy_programs::programs::{CALLER, LEAF, Sketch, name_of, procs, type_of};
 
-fn name(alloc: Global, letter: u8) -> Result<Name, Fail> {
-    Ok(Name::of(alloc, &[letter])?)
-}
+/// The structures: the letter of each, and what its field points to, if not an int.
+const STRUCTURES: [(u8, Option<u8>); 3] = [(b's', Some(b'r')), (b't', Some(b's')), (b'r', None)];
 
-fn node(cmd: Cmd) -> Node {
-    Node {
-        line: 0,
-        cmd,
-        head: None,
-    }
-}
+const POINTER_LEAF: Sketch = Sketch {
+    slots: &[Some(b's')],
+    ..LEAF
+};
 
-/// Calls the other, if there is one, and returns 0.
-fn nodes(alloc: Global, callee: Option<u8>) -> Result<Row<Node>, Fail> {
-    let mut nodes = Row::new(alloc);
-    if let Some(letter) = callee {
-        let cmd = Cmd::Call {
-            to: None,
-            callee: name(alloc, letter)?,
-            args: Row::new(alloc),
-            next: 1,
-        };
-        nodes.push(node(cmd))?;
-    }
-    let cmd = Cmd::Return {
-        value: Operand::Num(0),
-    };
-    nodes.push(node(cmd))?;
-    Ok(nodes)
-}
+/// The components of the program: the places of their procedures, and whom these call outside.
+const COMPONENTS: [(&[u32], &[Outer]); 2] = [
+    (&[1], &[]),
+    (
+        &[0],
+        &[Outer {
+            number: 1,
+            component: 0,
+        }],
+    ),
+];
 
-fn proc(alloc: Global, letter: u8, callee: Option<u8>, slot: Option<u8>) -> Result<Proc, Fail> {
-    let mut slots = Row::new(alloc);
-    if let Some(kind) = slot {
-        slots.push(Ty::Ptr(name(alloc, kind)?))?;
-    }
-    let flow = Flow {
-        name: name(alloc, letter)?,
-        params: Row::new(alloc),
-        slots,
-        ret: Ty::Int,
-        nodes: nodes(alloc, callee)?,
-    };
-    Ok(Proc {
-        flow,
-        file: name(alloc, b'x')?,
-        line: 1,
-    })
-}
-
-/// A structure with one field, which points to another or holds an int.
-fn structure(alloc: Global, letter: u8, pointed: Option<u8>) -> Result<StructDef, Fail> {
-    let ty = match pointed {
-        Some(kind) => Ty::Ptr(name(alloc, kind)?),
-        None => Ty::Int,
-    };
+fn fields(alloc: Global, pointed: Option<u8>) -> Result<Row<Field>, AllocError> {
     let mut fields = Row::new(alloc);
     fields.push(Field {
-        name: name(alloc, b'n')?,
-        ty,
+        name: name_of(alloc, b'n')?,
+        ty: type_of(alloc, pointed)?,
     })?;
-    Ok(StructDef {
-        name: name(alloc, letter)?,
-        fields,
-    })
+    Ok(fields)
 }
 
-fn program(alloc: Global) -> Result<Program, Fail> {
+fn structs(alloc: Global) -> Result<Row<StructDef>, AllocError> {
     let mut structs = Row::new(alloc);
-    structs.push(structure(alloc, b's', Some(b'r'))?)?;
-    structs.push(structure(alloc, b't', Some(b's'))?)?;
-    structs.push(structure(alloc, b'r', None)?)?;
-    let mut procs = Row::new(alloc);
-    procs.push(proc(alloc, b'f', Some(b'g'), None)?)?;
-    procs.push(proc(alloc, b'g', None, Some(b's'))?)?;
-    Ok(Program { structs, procs })
+    for (letter, pointed) in STRUCTURES {
+        structs.push(StructDef {
+            name: name_of(alloc, letter)?,
+            fields: fields(alloc, pointed)?,
+        })?;
+    }
+    Ok(structs)
+}
+
+fn program(alloc: Global) -> Result<Program, AllocError> {
+    Ok(Program {
+        structs: structs(alloc)?,
+        procs: procs(alloc, &[CALLER, POINTER_LEAF])?,
+    })
 }
 
 #[test]
@@ -90,30 +61,34 @@ fn callees_stand_first(rt: HostRuntime) -> Result<(), Fail> {
     let program = program(alloc)?;
     assert!(rt; well_formed_program(&program));
     let rows = components_of(alloc, &program)?;
-    assert_eq!(rt; rows.len(), 2);
-    assert_eq!(rt; rows[0].members.as_slice(), [1].as_slice());
-    assert_eq!(rt; rows[0].outer.len(), 0);
-    assert_eq!(rt; rows[1].members.as_slice(), [0].as_slice());
-    assert_eq!(rt; rows[1].outer.len(), 1);
-    assert_eq!(rt; rows[1].outer[0].number, 1);
-    assert_eq!(rt; rows[1].outer[0].component, 0);
+    assert_eq!(rt; rows.len(), COMPONENTS.len());
+    for (row, (members, outer)) in rows.iter().zip(COMPONENTS) {
+        assert_eq!(rt; row.members.as_slice(), members);
+        assert_eq!(rt; row.outer.as_slice(), outer);
+    }
     Ok(())
+}
+
+/// The key of `g`, which is alone in its component.
+fn key_of_leaf(rt: &impl Abort, alloc: Global, program: &Program) -> Result<Key, Fail> {
+    assert!(rt; program.structs.len() < 100);
+    assert!(rt; program.procs.len() > 1);
+    let structures = structures_of(alloc, &program.structs)?;
+    let key = key_of(alloc, program, &structures, &[1], Row::new(alloc))?;
+    assert!(rt; are_flows(program, &[1], &key.procs));
+    assert!(rt; is_key_of(alloc, program, &structures, &[1], &key)?);
+    Ok(key)
 }
 
 #[test]
 fn a_key_has_the_structures_used(rt: HostRuntime) -> Result<(), Fail> {
     let alloc = rt.alloc();
     let program = program(alloc)?;
-    assert!(rt; program.structs.len() < 100);
-    assert!(rt; program.procs.len() > 1);
-    let structures = structures_of(alloc, &program.structs)?;
-    let key: Key = key_of(alloc, &program, &structures, &[1], Row::new(alloc))?;
+    let key = key_of_leaf(&rt, alloc, &program)?;
     assert!(rt; !key.recursive);
     assert_eq!(rt; key.procs.len(), 1);
     assert_eq!(rt; key.structs.len(), 2);
     assert_eq!(rt; key.structs[0].name.as_bytes(), b"r".as_slice());
     assert_eq!(rt; key.structs[1].name.as_bytes(), b"s".as_slice());
-    assert!(rt; are_flows(&program, &[1], &key.procs));
-    assert!(rt; is_key_of(alloc, &program, &structures, &[1], &key)?);
     Ok(())
 }

@@ -1,14 +1,19 @@
 //! The book over small programs, with a job that answers at once: a procedure has one spec exactly where it has a slot. Its answers are
-//! tested to be within the limits of a store.
-use claim_core::has_program_sizes;
-use shape_data::answer::{Answer, Key, ProcSummary, Reason};
-use shape_data::program::{Cmd, Flow, Node, Operand, Proc, Program, Ty};
-use shape_data::symbolic::{Cert, Spec, SymHeap, SymState};
-use shape_data::{Name, Row, well_formed_answer, well_formed_program};
+//! tested to be within the limits of a store. What is asked of a book, and what has to come of it, are tables of plain values; a claim
+//! is made anew of what the log says of it.
+use claim_core::{has_key_sizes, has_program_sizes};
+use shape_data::answer::{Kept, Key};
+use shape_data::exact::share;
+use shape_data::{well_formed_key, well_formed_program};
 use std::alloc::{AllocError, Global};
 use std::process::Abort;
 use std::sync::Arc;
-use summary_book::{Aim, Book, Claim, Job, Meaning, Met, Next, Published, Seen, Solved, Tally};
+use std::test::Fail;
+use summary_book::{
+    Aim, Book, Claim, Event, Job, Meaning, Met, Next, Published, Seen, Solved, Tally,
+};
+use toy_programs::answers::answer;
+use toy_programs::programs::{CALLER, LEAF, OTHER_LEAF, Sketch, name_of, program};
 
 /// A job that answers every key.
 struct Toy;
@@ -19,51 +24,13 @@ impl Meaning for Toy {
     ghost solves = { λ key answer. answer.stored ≡ false };
 }
 
-/// The empty heap.
-fn empty_heap(alloc: Global) -> SymHeap {
-    SymHeap {
-        pure: Row::new(alloc),
-        spatial: Row::new(alloc),
+/// One spec for each procedure of a key in which one has a slot.
+fn count_of(key: &Key) -> u32 {
+    if key.procs.iter().any(|flow| !flow.slots.is_empty()) {
+        1
+    } else {
+        0
     }
-}
-
-/// A certificate with no state.
-fn certificate(alloc: Global, flow: &Flow) -> Result<Cert, AllocError> {
-    let mut nodes = Row::new(alloc);
-    for _node in flow.nodes.as_slice() {
-        let states: Row<SymState> = Row::new(alloc);
-        nodes.push(states)?;
-    }
-    Ok(Cert {
-        nodes,
-        exits: Row::new(alloc),
-    })
-}
-
-fn summary(alloc: Global, flow: &Flow) -> Result<ProcSummary, AllocError> {
-    let mut specs = Row::new(alloc);
-    let mut certs = Row::new(alloc);
-    if !flow.slots.is_empty() {
-        certs.push(certificate(alloc, flow)?)?;
-        specs.push(Spec {
-            pre: empty_heap(alloc),
-            posts: Row::new(alloc),
-        })?;
-    }
-    Ok(ProcSummary {
-        name: flow.name.clone()?,
-        specs,
-        certs,
-        reason: Some(Reason::Endless),
-    })
-}
-
-fn summaries(alloc: Global, key: &Key) -> Result<Row<ProcSummary>, AllocError> {
-    let mut procs = Row::new(alloc);
-    for flow in key.procs.as_slice() {
-        procs.push(summary(alloc, flow)?)?;
-    }
-    Ok(procs)
 }
 
 impl Job for Toy {
@@ -73,348 +40,370 @@ impl Job for Toy {
         key: &Arc<Key>,
         tally: &mut Tally,
     ) -> Result<Solved<Toy>, AllocError> {
-        let answer = Answer {
-            stored: false,
-            procs: summaries(alloc, key)?,
-        };
-        if !well_formed_answer(key, &answer) {
-            return Err(AllocError);
-        }
-        let answer = Arc::new(alloc, answer)?;
+        let answer = answer(alloc, key, count_of(key))?;
         let key = key.clone()?;
         tally.raise();
         Ok(Solved::new(key, answer))
     }
 }
 
-/// A procedure of one letter, which may call another one, may have a slot, and returns a number.
-#[derive(Clone, Copy)]
-struct Sketch {
-    name: u8,
-    callee: Option<u8>,
-    slot: bool,
-    value: i32,
+/// What the book says is next for an aim.
+#[derive(PartialEq, Drop)]
+enum Told {
+    /// A claim of this number, of this component.
+    Yours(u64, u32),
+    /// The number of a claim.
+    Waits(u64),
+    All,
 }
 
-fn name(alloc: Global, letter: u8) -> Result<Name, AllocError> {
-    Name::of(alloc, &[letter])
-}
-
-fn node(cmd: Cmd) -> Node {
-    Node {
-        line: 0,
-        cmd,
-        head: None,
-    }
-}
-
-fn nodes(alloc: Global, sketch: Sketch) -> Result<Row<Node>, AllocError> {
-    let mut nodes = Row::new(alloc);
-    if let Some(letter) = sketch.callee {
-        let cmd = Cmd::Call {
-            to: None,
-            callee: name(alloc, letter)?,
-            args: Row::new(alloc),
-            next: 1,
-        };
-        nodes.push(node(cmd))?;
-    }
-    let cmd = Cmd::Return {
-        value: Operand::Num(sketch.value),
-    };
-    nodes.push(node(cmd))?;
-    Ok(nodes)
-}
-
-fn proc(alloc: Global, sketch: Sketch) -> Result<Proc, AllocError> {
-    let mut slots = Row::new(alloc);
-    if sketch.slot {
-        slots.push(Ty::Int)?;
-    }
-    let flow = Flow {
-        name: name(alloc, sketch.name)?,
-        params: Row::new(alloc),
-        slots,
-        ret: Ty::Int,
-        nodes: nodes(alloc, sketch)?,
-    };
-    Ok(Proc {
-        flow,
-        file: name(alloc, b'x')?,
-        line: 1,
-    })
-}
-
-fn program(alloc: Global, sketches: &[Sketch]) -> Result<Arc<Program>, AllocError> {
-    let mut procs = Row::new(alloc);
-    for sketch in sketches {
-        procs.push(proc(alloc, *sketch)?)?;
-    }
-    let program = Program {
-        structs: Row::new(alloc),
-        procs,
-    };
-    Ok(Arc::new(alloc, program)?)
+/// What is asked of a book, and what has to come of it.
+enum Turn<'a> {
+    /// These procedures become the present program.
+    Meet(&'a [Sketch<'a>], Met),
+    /// What is next for a procedure and those that it reaches, or for all components.
+    Next(Option<u8>, Told),
+    /// An answer to the claim of this number.
+    Answer(u64, Published),
+    /// The claim of this number ends without an answer.
+    GiveBack(u64),
+    /// Every claim ends.
+    Sweep,
+    /// Whether the claim of this number is the book's.
+    Holds(u64, bool),
+    /// Claims are answered until each component is settled: so many.
+    Settle(u32),
+    /// How many components are marked.
+    Marked(u32),
+    /// Of each component, callees first, how many procedures and callees its key has. They have to be settled.
+    Collect(&'a [(usize, usize)]),
 }
 
 /// Makes these procedures the present program.
-fn meet(rt: &impl Abort, alloc: Global, book: &mut Book<Toy>, sketches: &[Sketch]) -> Met {
-    let program = program(alloc, sketches).expect(rt, "memory");
+fn meet(
+    rt: &impl Abort,
+    alloc: Global,
+    book: &mut Book<Toy>,
+    sketches: &[Sketch],
+) -> Result<Met, Fail> {
+    let program = program(alloc, sketches)?;
     assert!(rt; well_formed_program(&program));
     assert!(rt; has_program_sizes(&program));
-    book.meet(alloc, &program).expect(rt, "memory")
+    Ok(book.meet(alloc, &program)?)
 }
 
-/// Answers a claim.
-fn answer(rt: &impl Abort, alloc: Global, book: &mut Book<Toy>, claim: Claim) -> Published {
+fn aim_of(alloc: Global, at: Option<u8>) -> Result<Aim, AllocError> {
+    match at {
+        None => Ok(Aim::All),
+        Some(letter) => Ok(Aim::One(name_of(alloc, letter)?)),
+    }
+}
+
+/// What is next for an aim. A claim that is handed out is the book's.
+fn next(
+    rt: &impl Abort,
+    alloc: Global,
+    book: &mut Book<Toy>,
+    at: Option<u8>,
+) -> Result<Told, Fail> {
+    let aim = aim_of(alloc, at)?;
+    match book.next(alloc, 0, &aim)? {
+        Next::Yours(claim) => {
+            assert!(rt; book.holds(&claim));
+            let told = Told::Yours(claim.number(), claim.component());
+            claim.forget();
+            Ok(told)
+        }
+        Next::Waits { claim } => Ok(Told::Waits(claim)),
+        Next::All => Ok(Told::All),
+    }
+}
+
+/// A claim of these parts.
+fn claim_by(
+    rt: &impl Abort,
+    number: u64,
+    component: u32,
+    revision: u64,
+    key: &Arc<Key>,
+) -> Result<Claim, Fail> {
+    let key = share(key)?;
+    assert!(rt; well_formed_key(&key));
+    assert!(rt; has_key_sizes(&key));
+    Ok(Claim::new(number, component, revision, key))
+}
+
+/// The claim of a number, as it was handed out.
+fn claim_of(rt: &impl Abort, log: &[Event], number: u64) -> Result<Claim, Fail> {
+    let mut present = 0;
+    for event in log {
+        match event {
+            Event::Revise { revision, .. } => present = *revision,
+            Event::Claim {
+                number: own,
+                component,
+                key,
+                ..
+            } if *own == number => return claim_by(rt, number, *component, present, key),
+            _ => {}
+        }
+    }
+    panic!(rt; "no claim {number}")
+}
+
+/// An answer comes to the claim of a number.
+fn publish(
+    rt: &impl Abort,
+    alloc: Global,
+    book: &mut Book<Toy>,
+    number: u64,
+) -> Result<Published, Fail> {
+    let claim = claim_of(rt, book.log(), number)?;
     assert!(rt; book.holds(&claim));
     let mut tally = Tally::new();
     let solved = Toy
         .solve(alloc, claim.key(), &mut tally)
         .expect(rt, "memory");
-    book.publish(claim, solved)
+    Ok(book.publish(claim, solved))
 }
 
-/// What is handed out next for an aim, which has to be this component.
-fn take(rt: &impl Abort, alloc: Global, book: &mut Book<Toy>, aim: &Aim, component: u32) -> Claim {
-    match book.next(alloc, 0, aim).expect(rt, "memory") {
-        Next::Yours(claim) => {
-            assert_eq!(rt; claim.component(), component);
-            claim
-        }
-        Next::Waits { claim: _ } => panic!(rt; "waits"),
-        Next::All => panic!(rt; "all is settled"),
-    }
+fn give_back(rt: &impl Abort, book: &mut Book<Toy>, number: u64) -> Result<(), Fail> {
+    let claim = claim_of(rt, book.log(), number)?;
+    assert!(rt; book.holds(&claim));
+    book.give_back(claim);
+    Ok(())
 }
 
-/// The claim on which an aim waits.
-fn waits(rt: &impl Abort, alloc: Global, book: &mut Book<Toy>, aim: &Aim) -> u64 {
-    match book.next(alloc, 0, aim).expect(rt, "memory") {
-        Next::Yours(claim) => {
-            claim.forget();
-            panic!(rt; "not waiting")
-        }
-        Next::Waits { claim } => claim,
-        Next::All => panic!(rt; "all is settled"),
-    }
-}
-
-/// Whether each component of an aim is settled.
-fn is_settled(rt: &impl Abort, alloc: Global, book: &mut Book<Toy>, aim: &Aim) -> bool {
-    match book.next(alloc, 0, aim).expect(rt, "memory") {
-        Next::Yours(claim) => {
-            claim.forget();
-            false
-        }
-        Next::Waits { claim: _ } => false,
-        Next::All => true,
-    }
+fn holds(rt: &impl Abort, book: &Book<Toy>, number: u64) -> Result<bool, Fail> {
+    let claim = claim_of(rt, book.log(), number)?;
+    let holds = book.holds(&claim);
+    claim.forget();
+    Ok(holds)
 }
 
 /// Hands out a component and answers its claim at once; false where each is settled.
-fn step(rt: &impl Abort, alloc: Global, book: &mut Book<Toy>) -> bool {
-    match book.next(alloc, 0, &Aim::All).expect(rt, "memory") {
+fn solve_next(rt: &impl Abort, alloc: Global, book: &mut Book<Toy>) -> Result<bool, Fail> {
+    match book.next(alloc, 0, &Aim::All)? {
         Next::Yours(claim) => {
             let mut tally = Tally::new();
             let solved = Toy
                 .solve(alloc, claim.key(), &mut tally)
                 .expect(rt, "memory");
             book.publish(claim, solved);
-            true
+            Ok(true)
         }
         Next::Waits { claim: _ } => panic!(rt; "waits"),
-        Next::All => false,
+        Next::All => Ok(false),
     }
 }
 
 /// Answers claims until each component is settled, and says how many there were.
-fn settle(rt: &impl Abort, alloc: Global, book: &mut Book<Toy>) -> u32 {
+fn settle(rt: &impl Abort, alloc: Global, book: &mut Book<Toy>) -> Result<u32, Fail> {
     for turn in 0..100 {
-        if !step(rt, alloc, book) {
-            return turn;
+        if !solve_next(rt, alloc, book)? {
+            return Ok(turn);
         }
     }
     panic!(rt; "no end")
 }
 
-const LEAF: Sketch = Sketch {
-    name: b'g',
-    callee: None,
-    slot: false,
-    value: 0,
-};
-
-const CALLER: Sketch = Sketch {
-    name: b'f',
-    callee: Some(b'g'),
-    slot: false,
-    value: 0,
-};
-
-/// The leaf with another body, which the toy answers in the same way.
-const OTHER_LEAF: Sketch = Sketch {
-    name: b'g',
-    callee: None,
-    slot: false,
-    value: 1,
-};
-
-/// The leaf with a slot, for which the toy has a spec.
-const SLOT_LEAF: Sketch = Sketch {
-    name: b'g',
-    callee: None,
-    slot: true,
-    value: 0,
-};
-
-#[test]
-fn only_what_changed_is_claimed(rt: HostRuntime) {
-    let alloc = rt.alloc();
-    let mut book: Book<Toy> = Book::new(alloc).expect(&rt, "memory");
-    assert_eq!(rt;
-        meet(&rt, alloc, &mut book, &[CALLER, LEAF]),
-        Met::Revised(1)
-    );
-    assert_eq!(rt; book.marked(), 0);
-    assert_eq!(rt; settle(&rt, alloc, &mut book), 2);
-    assert_eq!(rt; book.marked(), 2);
-    assert_eq!(rt; meet(&rt, alloc, &mut book, &[CALLER, LEAF]), Met::Same);
-    assert_eq!(rt; book.marked(), 2);
-    assert_eq!(rt;
-        meet(&rt, alloc, &mut book, &[CALLER, OTHER_LEAF]),
-        Met::Revised(2)
-    );
-    assert_eq!(rt; book.marked(), 0);
-    assert_eq!(rt; settle(&rt, alloc, &mut book), 1);
-    assert_eq!(rt;
-        meet(&rt, alloc, &mut book, &[CALLER, SLOT_LEAF]),
-        Met::Revised(3)
-    );
-    assert_eq!(rt; settle(&rt, alloc, &mut book), 2);
-    assert_eq!(rt; book.log().len(), 13);
-    let log = book.into_log();
-    assert_eq!(rt; log.len(), 13);
-}
-
-#[test]
-fn a_late_answer_is_kept_where_its_key_is_due_again(rt: HostRuntime) {
-    let alloc = rt.alloc();
-    let mut book: Book<Toy> = Book::new(alloc).expect(&rt, "memory");
-    meet(&rt, alloc, &mut book, &[LEAF]);
-    assert_eq!(rt; book.marked(), 0);
-    let first = take(&rt, alloc, &mut book, &Aim::All, 0);
-    meet(&rt, alloc, &mut book, &[OTHER_LEAF]);
-    let second = take(&rt, alloc, &mut book, &Aim::All, 0);
-    meet(&rt, alloc, &mut book, &[LEAF]);
-    assert_eq!(rt; waits(&rt, alloc, &mut book, &Aim::All), 1);
-    assert_eq!(rt; answer(&rt, alloc, &mut book, first), Published::Kept);
-    assert_eq!(rt; book.marked(), 1);
-    assert_eq!(rt;
-        answer(&rt, alloc, &mut book, second),
-        Published::Stale(Seen::Settled(1))
-    );
-    assert_eq!(rt; meet(&rt, alloc, &mut book, &[LEAF]), Met::Same);
-    assert_eq!(rt; book.marked(), 1);
-}
-
-#[test]
-fn a_claim_of_another_book_is_not_held(rt: HostRuntime) {
-    let alloc = rt.alloc();
-    let mut book: Book<Toy> = Book::new(alloc).expect(&rt, "memory");
-    let mut other: Book<Toy> = Book::new(alloc).expect(&rt, "memory");
-    meet(&rt, alloc, &mut book, &[LEAF]);
-    meet(&rt, alloc, &mut other, &[OTHER_LEAF]);
-    let own = take(&rt, alloc, &mut book, &Aim::All, 0);
-    let foreign = take(&rt, alloc, &mut other, &Aim::All, 0);
-    assert_eq!(rt; foreign.number(), own.number());
-    assert!(rt; book.holds(&own));
-    assert!(rt; !book.holds(&foreign));
-    own.forget();
-    foreign.forget();
-}
-
-#[test]
-fn answers_are_stale_in_order(rt: HostRuntime) {
-    let alloc = rt.alloc();
-    let mut book: Book<Toy> = Book::new(alloc).expect(&rt, "memory");
-    meet(&rt, alloc, &mut book, &[CALLER, LEAF]);
-    let leaf = take(&rt, alloc, &mut book, &Aim::All, 0);
-    assert_eq!(rt; answer(&rt, alloc, &mut book, leaf), Published::Kept);
-    let caller = take(&rt, alloc, &mut book, &Aim::All, 1);
-    meet(&rt, alloc, &mut book, &[CALLER, SLOT_LEAF]);
-    let leaf = take(&rt, alloc, &mut book, &Aim::All, 0);
-    assert_eq!(rt; answer(&rt, alloc, &mut book, leaf), Published::Kept);
-    let later = take(&rt, alloc, &mut book, &Aim::All, 1);
-    assert_eq!(rt; answer(&rt, alloc, &mut book, later), Published::Kept);
-    meet(&rt, alloc, &mut book, &[CALLER, OTHER_LEAF]);
-    let changed = take(&rt, alloc, &mut book, &Aim::All, 0);
-    assert_eq!(rt;
-        answer(&rt, alloc, &mut book, caller),
-        Published::Stale(Seen::Later(4))
-    );
-    meet(&rt, alloc, &mut book, &[LEAF]);
-    assert_eq!(rt;
-        answer(&rt, alloc, &mut book, changed),
-        Published::Stale(Seen::Changed(4))
-    );
-    let gone = take(&rt, alloc, &mut book, &Aim::All, 0);
-    meet(&rt, alloc, &mut book, &[CALLER]);
-    assert_eq!(rt;
-        answer(&rt, alloc, &mut book, gone),
-        Published::Stale(Seen::Gone(5))
-    );
-}
-
-#[test]
-fn an_aim_waits_on_the_least_claim(rt: HostRuntime) {
-    let alloc = rt.alloc();
-    let mut book: Book<Toy> = Book::new(alloc).expect(&rt, "memory");
-    let undefined = Sketch {
-        name: b'a',
-        callee: Some(b'z'),
-        slot: false,
-        value: 0,
-    };
-    meet(&rt, alloc, &mut book, &[undefined, LEAF]);
-    let all = Aim::All;
-    let one = Aim::One(name(alloc, b'g').expect(&rt, "memory"));
-    let nothing = Aim::One(name(alloc, b'z').expect(&rt, "memory"));
-    let first = take(&rt, alloc, &mut book, &all, 0);
-    let second = take(&rt, alloc, &mut book, &one, 1);
-    assert_eq!(rt; waits(&rt, alloc, &mut book, &all), 1);
-    assert_eq!(rt; waits(&rt, alloc, &mut book, &one), 2);
-    assert!(rt; book.holds(&first));
-    book.give_back(first);
-    let third = take(&rt, alloc, &mut book, &all, 0);
-    assert_eq!(rt; third.number(), 3);
-    assert_eq!(rt; waits(&rt, alloc, &mut book, &all), 2);
-    book.sweep();
-    assert!(rt; !book.holds(&second));
-    assert!(rt; !book.holds(&third));
-    second.forget();
-    third.forget();
-    assert_eq!(rt; settle(&rt, alloc, &mut book), 2);
-    assert!(rt; is_settled(&rt, alloc, &mut book, &nothing));
-}
-
-#[test]
-fn a_settled_aim_is_collected(rt: HostRuntime) {
-    let alloc = rt.alloc();
-    let mut book: Book<Toy> = Book::new(alloc).expect(&rt, "memory");
-    meet(&rt, alloc, &mut book, &[CALLER, LEAF]);
-    settle(&rt, alloc, &mut book);
+/// What is kept of all components, which have to be settled.
+fn collect(rt: &impl Abort, alloc: Global, book: &mut Book<Toy>) -> Result<Vec<Kept>, Fail> {
     let aim = Aim::All;
-    match book.next(alloc, 0, &aim).expect(&rt, "memory") {
-        Next::All => {
-            let kept = book.collect(alloc, &aim).expect(&rt, "memory");
-            assert_eq!(rt; kept.len(), 2);
-            assert_eq!(rt; kept[0].key.procs.len(), 1);
-            assert_eq!(rt; kept[1].key.callees.len(), 1);
-        }
+    match book.next(alloc, 0, &aim)? {
+        Next::All => Ok(book.collect(alloc, &aim)?),
         Next::Waits { claim: _ } => panic!(rt; "waits"),
         Next::Yours(claim) => {
             claim.forget();
             panic!(rt; "unsettled")
         }
     }
+}
+
+/// Whether these keys have so many procedures and callees.
+fn have_sizes(kept: &[Kept], sizes: &[(usize, usize)]) -> bool {
+    for (one, (procs, callees)) in kept.iter().zip(sizes) {
+        if one.key.procs.len() != *procs || one.key.callees.len() != *callees {
+            return false;
+        }
+    }
+    kept.len() == sizes.len()
+}
+
+/// Whether what comes of a turn is what has to.
+fn comes(rt: &impl Abort, alloc: Global, book: &mut Book<Toy>, turn: &Turn) -> Result<bool, Fail> {
+    match turn {
+        Turn::Meet(sketches, met) => Ok(meet(rt, alloc, book, *sketches)? == *met),
+        Turn::Next(at, told) => Ok(next(rt, alloc, book, *at)? == *told),
+        Turn::Answer(number, published) => Ok(publish(rt, alloc, book, *number)? == *published),
+        Turn::GiveBack(number) => {
+            give_back(rt, book, *number)?;
+            Ok(true)
+        }
+        Turn::Sweep => {
+            book.sweep();
+            Ok(true)
+        }
+        Turn::Holds(number, is) => Ok(holds(rt, book, *number)? == *is),
+        Turn::Settle(count) => Ok(settle(rt, alloc, book)? == *count),
+        Turn::Marked(count) => Ok(book.marked() == *count),
+        Turn::Collect(sizes) => {
+            let kept = collect(rt, alloc, book)?;
+            Ok(have_sizes(&kept, *sizes))
+        }
+    }
+}
+
+/// What has to come of the turns of a book does.
+fn play(rt: &impl Abort, alloc: Global, book: &mut Book<Toy>, turns: &[Turn]) -> Result<(), Fail> {
+    for (place, turn) in turns.iter().enumerate() {
+        assert!(rt; comes(rt, alloc, book, turn)?, "at turn {place}");
+    }
+    Ok(())
+}
+
+/// What has to come of the turns of a new book does, and its log then has so many events.
+fn plays(rt: &impl Abort, alloc: Global, turns: &[Turn], events: usize) -> Result<(), Fail> {
+    let mut book: Book<Toy> = Book::new(alloc)?;
+    play(rt, alloc, &mut book, turns)?;
+    assert_eq!(rt; book.log().len(), events);
+    assert_eq!(rt; book.into_log().len(), events);
+    Ok(())
+}
+
+/// The leaf with a slot, for which the toy has a spec.
+const SLOT_LEAF: Sketch = Sketch {
+    slots: &[None],
+    ..LEAF
+};
+
+/// `a`, which calls what is not defined.
+const STRAY: Sketch = Sketch {
+    name: b'a',
+    body: b"z",
+    ..LEAF
+};
+
+const CHANGES: &[Turn] = &[
+    Turn::Meet(&[CALLER, LEAF], Met::Revised(1)),
+    Turn::Marked(0),
+    Turn::Settle(2),
+    Turn::Marked(2),
+    Turn::Meet(&[CALLER, LEAF], Met::Same),
+    Turn::Marked(2),
+    Turn::Meet(&[CALLER, OTHER_LEAF], Met::Revised(2)),
+    Turn::Marked(0),
+    Turn::Settle(1),
+    Turn::Meet(&[CALLER, SLOT_LEAF], Met::Revised(3)),
+    Turn::Settle(2),
+];
+
+#[test]
+fn only_what_changed_is_claimed(rt: HostRuntime) -> Result<(), Fail> {
+    plays(&rt, rt.alloc(), CHANGES, 13)
+}
+
+const THERE_AND_BACK: &[Turn] = &[
+    Turn::Meet(&[LEAF], Met::Revised(1)),
+    Turn::Marked(0),
+    Turn::Next(None, Told::Yours(1, 0)),
+    Turn::Meet(&[OTHER_LEAF], Met::Revised(2)),
+    Turn::Next(None, Told::Yours(2, 0)),
+    Turn::Meet(&[LEAF], Met::Revised(3)),
+    Turn::Next(None, Told::Waits(1)),
+    Turn::Answer(1, Published::Kept),
+    Turn::Marked(1),
+    Turn::Answer(2, Published::Stale(Seen::Settled(1))),
+    Turn::Meet(&[LEAF], Met::Same),
+    Turn::Marked(1),
+];
+
+#[test]
+fn a_late_answer_is_kept_where_its_key_is_due_again(rt: HostRuntime) -> Result<(), Fail> {
+    plays(&rt, rt.alloc(), THERE_AND_BACK, 7)
+}
+
+const ONE_CLAIM: &[Turn] = &[
+    Turn::Meet(&[LEAF], Met::Revised(1)),
+    Turn::Next(None, Told::Yours(1, 0)),
+    Turn::Holds(1, true),
+];
+
+const OTHER_CLAIM: &[Turn] = &[
+    Turn::Meet(&[OTHER_LEAF], Met::Revised(1)),
+    Turn::Next(None, Told::Yours(1, 0)),
+    Turn::Holds(1, true),
+];
+
+#[test]
+fn a_claim_of_another_book_is_not_held(rt: HostRuntime) -> Result<(), Fail> {
+    let alloc = rt.alloc();
+    let mut book: Book<Toy> = Book::new(alloc)?;
+    let mut other: Book<Toy> = Book::new(alloc)?;
+    play(&rt, alloc, &mut book, ONE_CLAIM)?;
+    play(&rt, alloc, &mut other, OTHER_CLAIM)?;
+    let foreign = claim_of(&rt, other.log(), 1)?;
+    let holds = book.holds(&foreign);
+    foreign.forget();
+    assert!(rt; !holds);
+    Ok(())
+}
+
+/// Of an answer that is not kept, each reason in order.
+const STALE: &[Turn] = &[
+    Turn::Meet(&[CALLER, LEAF], Met::Revised(1)),
+    Turn::Next(None, Told::Yours(1, 0)),
+    Turn::Answer(1, Published::Kept),
+    Turn::Next(None, Told::Yours(2, 1)),
+    Turn::Meet(&[CALLER, SLOT_LEAF], Met::Revised(2)),
+    Turn::Next(None, Told::Yours(3, 0)),
+    Turn::Answer(3, Published::Kept),
+    Turn::Next(None, Told::Yours(4, 1)),
+    Turn::Answer(4, Published::Kept),
+    Turn::Meet(&[CALLER, OTHER_LEAF], Met::Revised(3)),
+    Turn::Next(None, Told::Yours(5, 0)),
+    Turn::Answer(2, Published::Stale(Seen::Later(4))),
+    Turn::Meet(&[LEAF], Met::Revised(4)),
+    Turn::Answer(5, Published::Stale(Seen::Changed(4))),
+    Turn::Next(None, Told::Yours(6, 0)),
+    Turn::Meet(&[CALLER], Met::Revised(5)),
+    Turn::Answer(6, Published::Stale(Seen::Gone(5))),
+];
+
+#[test]
+fn answers_are_stale_in_order(rt: HostRuntime) -> Result<(), Fail> {
+    plays(&rt, rt.alloc(), STALE, 17)
+}
+
+const WAITING: &[Turn] = &[
+    Turn::Meet(&[STRAY, LEAF], Met::Revised(1)),
+    Turn::Next(None, Told::Yours(1, 0)),
+    Turn::Next(Some(b'g'), Told::Yours(2, 1)),
+    Turn::Next(None, Told::Waits(1)),
+    Turn::Next(Some(b'g'), Told::Waits(2)),
+    Turn::Holds(1, true),
+    Turn::GiveBack(1),
+    Turn::Next(None, Told::Yours(3, 0)),
+    Turn::Next(None, Told::Waits(2)),
+    Turn::Sweep,
+    Turn::Holds(2, false),
+    Turn::Holds(3, false),
+    Turn::Settle(2),
+    Turn::Next(Some(b'z'), Told::All),
+];
+
+#[test]
+fn an_aim_waits_on_the_least_claim(rt: HostRuntime) -> Result<(), Fail> {
+    plays(&rt, rt.alloc(), WAITING, 11)
+}
+
+const COLLECTED: &[Turn] = &[
+    Turn::Meet(&[CALLER, LEAF], Met::Revised(1)),
+    Turn::Settle(2),
+    Turn::Collect(&[(1, 0), (1, 1)]),
+];
+
+#[test]
+fn a_settled_aim_is_collected(rt: HostRuntime) -> Result<(), Fail> {
+    plays(&rt, rt.alloc(), COLLECTED, 5)
 }

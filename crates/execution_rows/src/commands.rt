@@ -1,10 +1,11 @@
 //! The command of a row.
-use crate::fault::Fault;
-use crate::rows::{first_word, word};
-use crate::scope::name_of;
-use shape_data::program::{ArithOp, Cmd, Node, Operand, TestOp, Ty};
+use crate::rows::word;
+use shape_data::program::{ArithOp, Cmd, Operand, TestOp, Ty};
 use shape_data::{Name, Row};
 use std::alloc::Global;
+use worked_rows::Fault;
+use worked_rows::parts::first_word;
+use worked_scopes::names::name_of;
 
 /// The number of a word of a text.
 fn number(text: &str, place: usize) -> Result<u32, Fault> {
@@ -86,8 +87,8 @@ fn load(alloc: Global, text: &str) -> Result<Cmd, Fault> {
     Ok(Cmd::Load {
         to: number(text, 0)?,
         base: number(text, 1)?,
-        kind: name(alloc, text, 2)?,
         field: number(text, 3)?,
+        kind: name(alloc, text, 2)?,
         next: 1,
     })
 }
@@ -95,9 +96,9 @@ fn load(alloc: Global, text: &str) -> Result<Cmd, Fault> {
 fn store(alloc: Global, text: &str) -> Result<Cmd, Fault> {
     Ok(Cmd::Store {
         base: number(text, 0)?,
-        kind: name(alloc, text, 1)?,
         field: number(text, 2)?,
         from: operand(text, 3)?,
+        kind: name(alloc, text, 1)?,
         next: 1,
     })
 }
@@ -156,7 +157,7 @@ fn branch(text: &str) -> Result<Cmd, Fault> {
 }
 
 /// The command of a text.
-fn command(alloc: Global, text: &str) -> Result<Cmd, Fault> {
+pub fn command(alloc: Global, text: &str) -> Result<Cmd, Fault> {
     let (word, rest) = first_word(text);
     match word {
         "copy" => copy(rest),
@@ -173,28 +174,4 @@ fn command(alloc: Global, text: &str) -> Result<Cmd, Fault> {
         }),
         _ => Err(Fault::Row),
     }
-}
-
-/// A node that returns.
-fn last() -> Node {
-    Node {
-        line: 6,
-        cmd: Cmd::Return {
-            value: Operand::Num(0),
-        },
-        head: None,
-    }
-}
-
-/// The nodes of a procedure: the command, on line 5, and two that return.
-pub fn nodes(alloc: Global, text: &str) -> Result<Row<Node>, Fault> {
-    let mut all = Row::new(alloc);
-    all.push(Node {
-        line: 5,
-        cmd: command(alloc, text)?,
-        head: None,
-    })?;
-    all.push(last())?;
-    all.push(last())?;
-    Ok(all)
 }

@@ -6,13 +6,13 @@ ghost use Rattle.shape_data.specs.Heap.{struct_named};
 ghost use Rattle.shape_data.specs.WellFormed.{widest as within, FitCalls, FitsCall, IsAtom, IsCallee, IsExp, IsFact, IsField, IsPost, IsSpec, IsState, IsSymHeap};
 ghost use Rattle.exec_laws.specs.Laws.{IsTable, callees_of};
 
-use crate::scope::are_params;
 use exec_laws::Table;
 use shape_data::answer::Callee;
 use shape_data::names::is_c_name;
 use shape_data::program::{Cmd, Flow, StructDef};
 use shape_data::symbolic::{Atom, Exp, Fact, Post, Spec, SymHeap, SymState};
 use shape_data::{Name, struct_of};
+use worked_scopes::names::are_params;
 
 /// The most parts of a heap.
 const MOST_PARTS: usize = 4_000;

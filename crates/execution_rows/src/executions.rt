@@ -1,9 +1,7 @@
 //! Rows of execution: what is asked, what is found, and what is told.
-use crate::commands::nodes;
 use crate::conditions::{fits, is_heap, is_state, is_table};
-use crate::fault::Fault;
-use crate::rows::{first_word, piece, text};
-use crate::scope::Scope;
+use crate::programs::{LINE, program};
+use crate::rows::piece;
 use crate::tables::table;
 use exec_laws::{Case, Step, Table};
 use shape_data::program::Program;
@@ -12,9 +10,9 @@ use shape_data::{Row, answer, well_formed_program};
 use std::alloc::{AllocError, Global};
 use sym_canon::Pair;
 use sym_exec::{exec, search_cases};
-
-/// The line of the node.
-const LINE: u32 = 5;
+use worked_rows::Fault;
+use worked_rows::parts::{first_word, text};
+use worked_scopes::Scope;
 
 /// What is asked: the program of the procedure, the pair, and the table.
 #[derive(Drop)]
@@ -24,17 +22,20 @@ struct Asked {
     table: Table,
 }
 
+/// The pair that the row asks of.
+fn pair_asked(alloc: Global, scope: &Scope, row: &str) -> Result<Pair, Fault> {
+    Ok(Pair {
+        state: scope.state(alloc, text(row, "state"), text(row, "slots"))?,
+        missing: scope.heap(alloc, text(row, "missing"))?,
+    })
+}
+
 /// What the row asks, of the command behind its first word.
 fn question(alloc: Global, scope: &Scope, row: &str) -> Result<Asked, Fault> {
     let (_, command) = first_word(row.split(';').next().unwrap_or(""));
-    let state = SymState {
-        locals: scope.exps(alloc, text(row, "slots"))?,
-        heap: scope.own_heap(alloc, text(row, "state"))?,
-    };
-    let missing = scope.own_heap(alloc, text(row, "missing"))?;
     Ok(Asked {
-        program: scope.with_nodes(alloc, nodes(alloc, command)?)?,
-        pair: Pair { missing, state },
+        pair: pair_asked(alloc, scope, row)?,
+        program: program(alloc, scope, command)?,
         table: table(alloc, scope, row)?,
     })
 }
@@ -122,21 +123,24 @@ fn add_next(
     Ok(())
 }
 
+/// The case that leaves with a post, with nothing missing.
+fn leaving(alloc: Global, post: Post) -> Result<Case, AllocError> {
+    let locals = Row::from_vec(Vec::from_array(alloc, [post.ret])?);
+    Ok(Case::Leaves {
+        pair: Pair {
+            missing: emp(alloc),
+            state: SymState {
+                locals,
+                heap: post.heap,
+            },
+        },
+    })
+}
+
 /// Puts the cases that leave behind others.
 fn add_exits(alloc: Global, cases: &mut Row<Case>, exits: Row<Post>) -> Result<(), AllocError> {
     for post in exits.into_vec() {
-        let mut locals = Row::new(alloc);
-        locals.push(post.ret)?;
-        let state = SymState {
-            locals,
-            heap: post.heap,
-        };
-        cases.push(Case::Leaves {
-            pair: Pair {
-                missing: emp(alloc),
-                state,
-            },
-        })?;
+        cases.push(leaving(alloc, post)?)?;
     }
     Ok(())
 }
@@ -153,49 +157,49 @@ fn fault_of(word: &str) -> Result<answer::Fault, Fault> {
 }
 
 /// The pair of the pieces behind the first; where no heap is told to be missing, none is.
-fn pair_of(alloc: Global, scope: &Scope, text: &str) -> Result<Pair, Fault> {
+fn pair_told(alloc: Global, scope: &Scope, text: &str) -> Result<Pair, Fault> {
     let with_missing = !piece(text, 3).is_empty();
     let missing = if with_missing { piece(text, 1) } else { "emp" };
     let place = if with_missing { 2 } else { 1 };
     Ok(Pair {
-        missing: scope.own_heap(alloc, missing)?,
-        state: SymState {
-            locals: scope.exps(alloc, piece(text, place))?,
-            heap: scope.own_heap(alloc, piece(text, place + 1))?,
-        },
+        missing: scope.heap(alloc, missing)?,
+        state: scope.state(alloc, piece(text, place + 1), piece(text, place))?,
     })
 }
 
-/// Puts the case of a part behind others, if it is of a case.
-fn add_told(alloc: Global, scope: &Scope, cases: &mut Row<Case>, part: &str) -> Result<(), Fault> {
-    let (word, text) = first_word(part);
-    let case = match word {
-        "on" => {
-            let Ok(node) = piece(text, 0).parse() else {
-                return Err(Fault::Row);
-            };
-            Case::On {
-                node,
-                pair: pair_of(alloc, scope, text)?,
-            }
-        }
-        "leaves" => Case::Leaves {
-            pair: pair_of(alloc, scope, text)?,
-        },
-        "drops" => Case::Drops {
-            fault: fault_of(text)?,
-        },
-        _ => return Ok(()),
+/// The case that goes on at the node of the first piece.
+fn case_on(alloc: Global, scope: &Scope, text: &str) -> Result<Case, Fault> {
+    let Ok(node) = piece(text, 0).parse() else {
+        return Err(Fault::Row);
     };
-    cases.push(case)?;
-    Ok(())
+    Ok(Case::On {
+        node,
+        pair: pair_told(alloc, scope, text)?,
+    })
+}
+
+/// The case of a part, if it is of one.
+fn case_told(alloc: Global, scope: &Scope, part: &str) -> Result<Option<Case>, Fault> {
+    let (word, text) = first_word(part);
+    match word {
+        "on" => Ok(Some(case_on(alloc, scope, text)?)),
+        "leaves" => Ok(Some(Case::Leaves {
+            pair: pair_told(alloc, scope, text)?,
+        })),
+        "drops" => Ok(Some(Case::Drops {
+            fault: fault_of(text)?,
+        })),
+        _ => Ok(None),
+    }
 }
 
 /// The cases that the row tells.
 fn told(alloc: Global, scope: &Scope, row: &str) -> Result<Row<Case>, Fault> {
     let mut cases = Row::new(alloc);
     for part in row.split(';') {
-        add_told(alloc, scope, &mut cases, part)?;
+        if let Some(case) = case_told(alloc, scope, part)? {
+            cases.push(case)?;
+        }
     }
     Ok(cases)
 }
@@ -223,16 +227,25 @@ fn are_told(rt: &impl Print, found: &Row<Case>, told: &Row<Case>) -> Result<bool
     Ok(agrees)
 }
 
+/// The cases that strict execution answers to the row.
+fn cases_stepped(alloc: Global, scope: &Scope, row: &str) -> Result<Row<Case>, Fault> {
+    let step = stepped(alloc, &question(alloc, scope, row)?)?;
+    cases_of(alloc, step)
+}
+
+/// The cases that the search's execution answers to the row.
+fn cases_searched(alloc: Global, scope: &Scope, row: &str) -> Result<Row<Case>, Fault> {
+    searched(alloc, &question(alloc, scope, row)?)
+}
+
 /// Whether strict execution answers what the row tells.
 pub fn steps(rt: &impl Print, alloc: Global, scope: &Scope, row: &str) -> Result<bool, Fault> {
     let told = told(alloc, scope, row)?;
-    let found = cases_of(alloc, stepped(alloc, &question(alloc, scope, row)?)?)?;
-    are_told(rt, &found, &told)
+    are_told(rt, &cases_stepped(alloc, scope, row)?, &told)
 }
 
 /// Whether the search's execution answers what the row tells.
 pub fn searches(rt: &impl Print, alloc: Global, scope: &Scope, row: &str) -> Result<bool, Fault> {
     let told = told(alloc, scope, row)?;
-    let found = searched(alloc, &question(alloc, scope, row)?)?;
-    are_told(rt, &found, &told)
+    are_told(rt, &cases_searched(alloc, scope, row)?, &told)
 }

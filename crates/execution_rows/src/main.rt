@@ -6,16 +6,20 @@
 mod commands;
 mod conditions;
 mod executions;
-mod fault;
+mod programs;
 mod rows;
-mod scope;
 mod tables;
 
-use fault::Fault;
-use rows::first_word;
-use scope::Scope;
 use std::alloc::Global;
-use std::io::{self, BufRead, BufReader};
+use std::io;
+use worked_rows::parts::first_word;
+use worked_rows::{Fault, count_rows};
+use worked_scopes::Scope;
+
+/// Each structure as its name and then the names of its fields.
+const STRUCTS: &[&[&str]] = &[&["node", "data", "next"], &["q", "head", "tail", "size"]];
+
+const PARAMS: &[&str] = &["x", "y"];
 
 /// Whether the row's answer is the one found; where it is not, it is printed.
 fn agrees(rt: &impl Print, alloc: Global, scope: &Scope, row: &str) -> Result<bool, Fault> {
@@ -29,20 +33,8 @@ fn agrees(rt: &impl Print, alloc: Global, scope: &Scope, row: &str) -> Result<bo
 
 fn main(rt: HostRuntime) -> io::Result<()> {
     let alloc = rt.alloc();
-    let Ok(scope) = Scope::new(alloc) else {
-        return println!(rt; "no scope");
-    };
-    let mut count = 0u32;
-    for line in BufReader::new(alloc, rt.reader())?.lines(alloc) {
-        let row = line?;
-        if row.is_empty() || row.starts_with('#') {
-            continue;
-        }
-        match agrees(&rt, alloc, &scope, row.as_str()) {
-            Ok(true) => count = count.saturating_add(1),
-            Ok(false) => println!(rt; "another answer: {row}")?,
-            Err(fault) => println!(rt; "{fault:?}: {row}")?,
-        }
+    match Scope::new(alloc, PARAMS, STRUCTS) {
+        Ok(scope) => count_rows(&rt, |row| agrees(&rt, alloc, &scope, row).map(Some)),
+        Err(_) => println!(rt; "no scope"),
     }
-    println!(rt; "{count} rows agree")
 }

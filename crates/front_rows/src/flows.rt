@@ -1,5 +1,4 @@
 //! Rows of lowering.
-use crate::fault::Fault;
 use crate::rows::{both_sides, text_behind};
 use itoa::Buffer;
 use project_form::{ProgramFault, Project, PutFault};
@@ -7,6 +6,7 @@ use shape_data::Name;
 use shape_data::program::{ArithOp, Cmd, Flow, HeadMark, Node, Operand, Program, TestOp, Ty};
 use std::alloc::{AllocError, Global};
 use std::sync::Arc;
+use worked_rows::Fault;
 
 /// A text, and a number behind it.
 #[derive(Clone, Copy)]

@@ -1,19 +1,18 @@
 //! Worked rows of the front end. Each line of standard input is a row: a text in C, and what was worked for it by hand from the rules of
-//! the grammar, of typing or of lowering. Rows with another answer are printed with what was found, and at the end how many rows agree. Lines that are
-//! empty or begin with `#` are no rows. [`rows`] says what a row is.
+//! the grammar, of typing or of lowering. Rows with another answer are printed with what was found, and at the end how many rows agree.
+//! Lines that are empty or begin with `#` are no rows. [`rows`] says what a row is.
 #![tactic(auto)]
 
-mod fault;
 mod flows;
 mod rows;
 mod show;
 mod trees;
 mod typing;
 
-use fault::Fault;
-use rows::first_word;
 use std::alloc::Global;
-use std::io::{self, BufRead, BufReader};
+use std::io;
+use worked_rows::parts::first_word;
+use worked_rows::{Fault, count_rows};
 
 /// Whether the row's answer is the one found; where it is not, what was found is printed.
 fn agrees(rt: &impl Print, alloc: Global, before: &str, row: &str) -> Result<bool, Fault> {
@@ -29,26 +28,26 @@ fn agrees(rt: &impl Print, alloc: Global, before: &str, row: &str) -> Result<boo
     }
 }
 
-fn main(rt: HostRuntime) -> io::Result<()> {
-    let alloc = rt.alloc();
-    let mut before = String::new(alloc);
-    let mut count = 0u32;
-    for line in BufReader::new(alloc, rt.reader())?.lines(alloc) {
-        let row = line?;
-        if row.is_empty() || row.starts_with('#') {
-            continue;
-        }
-        if let Some(text) = row.strip_prefix("before ") {
+/// Whether the row agrees; a line that says what the texts of those below stand behind is no row.
+fn answer(
+    rt: &impl Print,
+    alloc: Global,
+    before: &mut String,
+    row: &str,
+) -> Result<Option<bool>, Fault> {
+    match row.strip_prefix("before ") {
+        None => Ok(Some(agrees(rt, alloc, before.as_str(), row)?)),
+        Some(text) => {
             before.clear();
             before.push_str(text)?;
             before.push(' ')?;
-            continue;
-        }
-        match agrees(&rt, alloc, before.as_str(), row.as_str()) {
-            Ok(true) => count = count.saturating_add(1),
-            Ok(false) => println!(rt; "another answer: {row}")?,
-            Err(fault) => println!(rt; "{fault:?}: {row}")?,
+            Ok(None)
         }
     }
-    println!(rt; "{count} rows agree")
+}
+
+fn main(rt: HostRuntime) -> io::Result<()> {
+    let alloc = rt.alloc();
+    let mut before = String::new(alloc);
+    count_rows(&rt, |row| answer(&rt, alloc, &mut before, row))
 }

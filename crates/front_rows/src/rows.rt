@@ -13,15 +13,6 @@
 //! `%` in a text or a tree is the end of a line.
 use std::alloc::{AllocError, Global};
 
-/// The first word, and the text behind it.
-pub fn first_word(text: &str) -> (&str, &str) {
-    let text = text.trim();
-    match text.split_once(' ') {
-        Some((word, behind)) => (word, behind.trim()),
-        None => (text, ""),
-    }
-}
-
 /// What stands before `$`, and behind it.
 pub fn both_sides(text: &str) -> (&str, &str) {
     match text.split_once('$') {

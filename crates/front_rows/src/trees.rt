@@ -1,11 +1,11 @@
 //! Rows of parsing.
-use crate::fault::Fault;
 use crate::rows::{both_sides, text_behind};
 use crate::show::show_unit;
 use c_parse::parse;
 use c_parse_exprs::SyntaxFault;
 use c_tokens::{TokenFault, tokens};
 use std::alloc::Global;
+use worked_rows::Fault;
 
 /// The tree of a text as `show` writes it, or its refusal as `CODE LINE:COLUMN`.
 fn read(alloc: Global, text: &[u8]) -> Result<Vec<u8>, Fault> {

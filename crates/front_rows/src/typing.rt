@@ -1,11 +1,12 @@
 //! Rows of typing.
-use crate::fault::Fault;
-use crate::rows::{both_sides, first_word, text_behind};
+use crate::rows::{both_sides, text_behind};
 use c_front::{ReadFault, read_unit};
 use c_tree::Unit;
 use c_types::{TypeFault, check};
 use c_types_names::kinds::{CType, Kind};
 use std::alloc::Global;
+use worked_rows::Fault;
+use worked_rows::parts::first_word;
 
 /// The tree of a text that is a file.
 fn unit_of(alloc: Global, text: &[u8]) -> Result<Unit, Fault> {

@@ -1,14 +1,24 @@
 //! Projects of several files, as tables.
 
-mod stack;
-
 use project_form::{ProgramFault, Project, PutFault};
 use shape_data::Name;
 use shape_data::program::Program;
-use stack::{STACK, STACK_PROCS};
+use stack_module::STACK;
 use std::alloc::Global;
 use std::rt::HostRuntime;
 use std::test::Fail;
+
+/// The line and the number of nodes of each procedure of the stack module.
+const STACK_PROCS: [(u32, usize); 8] = [
+    (13, 8),
+    (21, 7),
+    (25, 13),
+    (35, 13),
+    (45, 8),
+    (54, 8),
+    (60, 5),
+    (64, 3),
+];
 
 /// A name that is short enough.
 fn name(alloc: Global, text: &[u8]) -> Result<Name, Fail> {

@@ -1,19 +1,19 @@
 //! Rows of abstraction.
-use crate::fault::Fault;
-use crate::rows::{part, text};
-use crate::scope::Scope;
-use crate::told::{is_told, told_heap, told_pair, told_post, told_state};
-use shape_data::Row;
+use crate::rows::{PARAMS, state_of};
+use crate::told::is_given;
 use shape_data::program::{Flow, HeadMark};
-use shape_data::symbolic::{Post, SymState};
+use shape_data::symbolic::{Post, SymHeap, SymState};
+use shape_data::{Row, copy_of};
 use std::alloc::Global;
 use sym_abstract::{
     abstract_exit, abstract_head, abstract_pair, abstract_pre, have_few_fields, is_within_room,
 };
 use sym_canon::Pair;
-
-/// The parameters.
-const PARAMS: u32 = 3;
+use worked_rows::Fault;
+use worked_rows::parts::{part, text};
+use worked_scopes::Scope;
+use worked_scopes::names::name_of;
+use worked_scopes::structures::type_of;
 
 /// The slots behind a word.
 fn slots(alloc: Global, row: &str, word: &str) -> Result<Row<u32>, Fault> {
@@ -27,23 +27,42 @@ fn slots(alloc: Global, row: &str, word: &str) -> Result<Row<u32>, Fault> {
 
 /// The mark of a row: its int slots and its dead ones.
 fn mark(alloc: Global, row: &str) -> Result<HeadMark, Fault> {
-    let ints = slots(alloc, row, "ints")?;
-    let dead = slots(alloc, row, "dead")?;
-    Ok(HeadMark { ints, dead })
+    Ok(HeadMark {
+        ints: slots(alloc, row, "ints")?,
+        dead: slots(alloc, row, "dead")?,
+    })
 }
 
-/// The abstraction of a state at the head of a loop.
-fn head(
+/// A procedure with the parameters, whose result is a pointer to a structure, or an int where there is no name. It has no node.
+fn flow(alloc: Global, scope: &Scope, pointed: Option<&str>) -> Result<Flow, Fault> {
+    Ok(Flow {
+        name: name_of(alloc, "f")?,
+        params: copy_of(&scope.params)?,
+        ret: type_of(alloc, pointed)?,
+        slots: Row::new(alloc),
+        nodes: Row::new(alloc),
+    })
+}
+
+/// The abstraction of a state at the head of a loop that has this mark.
+fn head_with(
     alloc: Global,
     scope: &Scope,
     state: &SymState,
-    flow: &Flow,
     mark: &HeadMark,
 ) -> Result<Option<SymState>, Fault> {
+    let flow = flow(alloc, scope, None)?;
     if !is_within_room(state.locals.as_slice(), &state.heap) || flow.params.len() > 4 {
         return Err(Fault::Row);
     }
-    Ok(abstract_head(alloc, state, flow, mark, scope.structs())?)
+    Ok(abstract_head(alloc, state, &flow, mark, scope.program.structs.as_slice())?)
+}
+
+/// The abstraction of the row's state at the head of a loop.
+fn head(alloc: Global, scope: &Scope, row: &str) -> Result<Option<SymState>, Fault> {
+    let state = state_of(alloc, scope, row, "head", "locals")?;
+    let mark = mark(alloc, row)?;
+    head_with(alloc, scope, &state, &mark)
 }
 
 /// Whether the state at the head of a loop becomes what the row tells.
@@ -53,16 +72,12 @@ pub fn abstracts_at_head(
     scope: &Scope,
     row: &str,
 ) -> Result<bool, Fault> {
-    let given = scope.state_of(alloc, row, "head", "locals")?;
-    let mark = mark(alloc, row)?;
-    let flow = scope.flow(alloc, None)?;
-    let found = head(alloc, scope, &given, &flow, &mark)?;
-    let told = told_state(alloc, scope, row)?;
-    is_told(rt, &found, &told)
+    let found = head(alloc, scope, row)?;
+    is_given(rt, alloc, scope, row, &found)
 }
 
-/// The abstraction of a post at an exit.
-fn exit(
+/// The abstraction of the post at an exit of a procedure.
+fn exit_of(
     alloc: Global,
     scope: &Scope,
     post: &Post,
@@ -72,7 +87,20 @@ fn exit(
     if !is_within_room(&[post.ret], &post.heap) || flow.params.len() > 4 {
         return Err(Fault::Row);
     }
-    Ok(abstract_exit(alloc, post, flow, scope.structs(), recursive)?)
+    Ok(abstract_exit(
+        alloc,
+        post,
+        flow,
+        scope.program.structs.as_slice(),
+        recursive,
+    )?)
+}
+
+/// The abstraction of the row's post at an exit.
+fn exit(alloc: Global, scope: &Scope, row: &str) -> Result<Option<Post>, Fault> {
+    let post = scope.post(alloc, text(row, "exit"))?;
+    let flow = flow(alloc, scope, part(row, "pointer"))?;
+    exit_of(alloc, scope, &post, &flow, part(row, "recursive").is_some())
 }
 
 /// Whether the post at an exit becomes what the row tells.
@@ -82,29 +110,40 @@ pub fn abstracts_at_exit(
     scope: &Scope,
     row: &str,
 ) -> Result<bool, Fault> {
-    let given = scope.post(alloc, text(row, "exit"))?;
-    let flow = scope.flow(alloc, part(row, "pointer"))?;
-    let recursive = part(row, "recursive").is_some();
-    let found = exit(alloc, scope, &given, &flow, recursive)?;
-    let told = told_post(alloc, scope, row)?;
-    is_told(rt, &found, &told)
+    let found = exit(alloc, scope, row)?;
+    is_given(rt, alloc, scope, row, &found)
 }
 
-/// The abstraction of a pair at the head of a loop.
-fn pair(
+/// The abstraction of a pair at the head of a loop that has this mark.
+fn pair_with(
     alloc: Global,
     scope: &Scope,
     pair: &Pair,
-    flow: &Flow,
     mark: &HeadMark,
 ) -> Result<Option<Pair>, Fault> {
+    let flow = flow(alloc, scope, None)?;
     if !have_few_fields(pair.missing.spatial.as_slice())
         || !is_within_room(pair.state.locals.as_slice(), &pair.state.heap)
         || flow.params.len() > 4
     {
         return Err(Fault::Row);
     }
-    Ok(abstract_pair(alloc, pair, flow, mark, scope.structs())?)
+    Ok(abstract_pair(alloc, pair, &flow, mark, scope.program.structs.as_slice())?)
+}
+
+/// The row's pair.
+fn pair_of(alloc: Global, scope: &Scope, row: &str) -> Result<Pair, Fault> {
+    Ok(Pair {
+        missing: scope.heap(alloc, text(row, "missing"))?,
+        state: state_of(alloc, scope, row, "pair", "locals")?,
+    })
+}
+
+/// The abstraction of the row's pair at the head of a loop.
+fn pair(alloc: Global, scope: &Scope, row: &str) -> Result<Option<Pair>, Fault> {
+    let pair = pair_of(alloc, scope, row)?;
+    let mark = mark(alloc, row)?;
+    pair_with(alloc, scope, &pair, &mark)
 }
 
 /// Whether the pair at the head of a loop becomes what the row tells.
@@ -114,13 +153,17 @@ pub fn abstracts_pair(
     scope: &Scope,
     row: &str,
 ) -> Result<bool, Fault> {
-    let missing = scope.heap(alloc, text(row, "missing"))?;
-    let state = scope.state_of(alloc, row, "pair", "locals")?;
-    let mark = mark(alloc, row)?;
-    let flow = scope.flow(alloc, None)?;
-    let found = pair(alloc, scope, &Pair { missing, state }, &flow, &mark)?;
-    let told = told_pair(alloc, scope, row)?;
-    is_told(rt, &found, &told)
+    let found = pair(alloc, scope, row)?;
+    is_given(rt, alloc, scope, row, &found)
+}
+
+/// The abstraction of the row's candidate.
+fn candidate(alloc: Global, scope: &Scope, row: &str) -> Result<Option<SymHeap>, Fault> {
+    let missing = scope.heap(alloc, text(row, "candidate"))?;
+    if !have_few_fields(missing.spatial.as_slice()) {
+        return Err(Fault::Row);
+    }
+    Ok(abstract_pre(alloc, &missing, PARAMS)?)
 }
 
 /// Whether the candidate of a recursive component becomes what the row tells.
@@ -130,11 +173,6 @@ pub fn abstracts_candidate(
     scope: &Scope,
     row: &str,
 ) -> Result<bool, Fault> {
-    let missing = scope.heap(alloc, text(row, "candidate"))?;
-    if !have_few_fields(missing.spatial.as_slice()) {
-        return Err(Fault::Row);
-    }
-    let found = abstract_pre(alloc, &missing, PARAMS)?;
-    let told = told_heap(alloc, scope, row)?;
-    is_told(rt, &found, &told)
+    let found = candidate(alloc, scope, row)?;
+    is_given(rt, alloc, scope, row, &found)
 }

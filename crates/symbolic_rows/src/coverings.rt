@@ -1,12 +1,13 @@
 //! Rows of coverings.
-use crate::fault::Fault;
-use crate::rows::text;
-use crate::scope::Scope;
+use crate::rows::state_of;
 use crate::told::is_yes;
 use shape_data::symbolic::SymState;
 use std::alloc::Global;
 use subtraction::sizes::{is_post_within_sizes, is_state_within_sizes};
 use subtraction::{covers_post, covers_state};
+use worked_rows::Fault;
+use worked_rows::parts::text;
+use worked_scopes::Scope;
 
 /// Whether the second state covers the first.
 fn covers_states(alloc: Global, a: &SymState, b: &SymState) -> Result<bool, Fault> {
@@ -19,8 +20,8 @@ fn covers_states(alloc: Global, a: &SymState, b: &SymState) -> Result<bool, Faul
 /// Whether the covering of states is as the row tells.
 pub fn covers_as_state(alloc: Global, scope: &Scope, row: &str) -> Result<bool, Fault> {
     let told = is_yes(row)?;
-    let a = scope.state_of(alloc, row, "state", "locals")?;
-    let b = scope.state_of(alloc, row, "by", "slots")?;
+    let a = state_of(alloc, scope, row, "state", "locals")?;
+    let b = state_of(alloc, scope, row, "by", "slots")?;
     Ok(covers_states(alloc, &a, &b)? == told)
 }
 

@@ -1,15 +1,13 @@
 //! Rows of the normal form and of the canonical form.
-use crate::fault::Fault;
-use crate::rows::{part, text};
-use crate::scope::Scope;
-use crate::told::{is_told, is_yes, told_pair, told_post, told_state};
+use crate::rows::{PARAMS, state_of};
+use crate::told::{is_given, is_yes};
 use shape_data::symbolic::SymState;
 use std::alloc::Global;
-use sym_canon::{canon_pair, canon_post, canon_state};
+use sym_canon::{Pair, canon_pair, canon_post, canon_state};
 use sym_pure::{Normal, differs, is_normal, is_normal_heap, normal};
-
-/// The parameters.
-const PARAMS: u32 = 3;
+use worked_rows::Fault;
+use worked_rows::parts::{part, text};
+use worked_scopes::Scope;
 
 /// The normal form of a state, if it has one.
 fn form_of(alloc: Global, state: &SymState) -> Result<Option<SymState>, Fault> {
@@ -35,6 +33,18 @@ fn is_alone(alloc: Global, state: &SymState, form: &Option<SymState>) -> Result<
     }
 }
 
+/// Whether the state's normal form is what the row tells, and the state normal nowhere else.
+fn has_form(
+    rt: &impl Print,
+    alloc: Global,
+    scope: &Scope,
+    row: &str,
+    state: &SymState,
+) -> Result<bool, Fault> {
+    let form = form_of(alloc, state)?;
+    Ok(is_given(rt, alloc, scope, row, &form)? && is_alone(alloc, state, &form)?)
+}
+
 /// Whether the state has the normal form that the row tells.
 pub fn has_normal_form(
     rt: &impl Print,
@@ -42,11 +52,8 @@ pub fn has_normal_form(
     scope: &Scope,
     row: &str,
 ) -> Result<bool, Fault> {
-    let given = scope.state_of(alloc, row, "normal", "locals")?;
-    let found = form_of(alloc, &given)?;
-    let told = told_state(alloc, scope, row)?;
-    let alone = is_alone(alloc, &given, &told)?;
-    Ok(is_told(rt, &found, &told)? && alone)
+    let state = state_of(alloc, scope, row, "normal", "locals")?;
+    has_form(rt, alloc, scope, row, &state)
 }
 
 /// Whether the two sides are known to differ as the row tells, whichever comes first.
@@ -67,10 +74,9 @@ pub fn has_canonical_form(
     scope: &Scope,
     row: &str,
 ) -> Result<bool, Fault> {
-    let given = scope.state_of(alloc, row, "canonical", "locals")?;
-    let found = canon_state(alloc, &given, PARAMS)?;
-    let told = told_state(alloc, scope, row)?;
-    is_told(rt, &Some(found), &told)
+    let state = state_of(alloc, scope, row, "canonical", "locals")?;
+    let found = Some(canon_state(alloc, &state, PARAMS)?);
+    is_given(rt, alloc, scope, row, &found)
 }
 
 /// Whether the post has the canonical form that the row tells.
@@ -80,10 +86,16 @@ pub fn has_canonical_post(
     scope: &Scope,
     row: &str,
 ) -> Result<bool, Fault> {
-    let given = scope.post(alloc, text(row, "canonical-post"))?;
-    let found = canon_post(alloc, &given, PARAMS)?;
-    let told = told_post(alloc, scope, row)?;
-    is_told(rt, &Some(found), &told)
+    let post = scope.post(alloc, text(row, "canonical-post"))?;
+    let found = Some(canon_post(alloc, &post, PARAMS)?);
+    is_given(rt, alloc, scope, row, &found)
+}
+
+/// The canonical form of the row's pair.
+fn canonical_pair(alloc: Global, scope: &Scope, row: &str) -> Result<Option<Pair>, Fault> {
+    let missing = scope.heap(alloc, text(row, "missing"))?;
+    let state = state_of(alloc, scope, row, "canonical-pair", "locals")?;
+    Ok(Some(canon_pair(alloc, &missing, &state, PARAMS)?))
 }
 
 /// Whether the pair has the canonical form that the row tells.
@@ -93,9 +105,6 @@ pub fn has_canonical_pair(
     scope: &Scope,
     row: &str,
 ) -> Result<bool, Fault> {
-    let missing = scope.heap(alloc, text(row, "missing"))?;
-    let state = scope.state_of(alloc, row, "canonical-pair", "locals")?;
-    let found = canon_pair(alloc, &missing, &state, PARAMS)?;
-    let told = told_pair(alloc, scope, row)?;
-    is_told(rt, &Some(found), &told)
+    let found = canonical_pair(alloc, scope, row)?;
+    is_given(rt, alloc, scope, row, &found)
 }

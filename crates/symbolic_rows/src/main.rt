@@ -1,28 +1,37 @@
-//! Worked rows of matching, of samples, of abstraction, and of the normal and the canonical form. Each line of standard input is a row: a question, and the answer that was worked for it
-//! by hand from the rules (or by a second program that shares nothing with this one). Rows with another answer are printed with
-//! what was found, and at the end how many rows agree. Lines that are empty or begin with `#` are no rows. [`rows`] says what a
-//! row is.
+//! Worked rows of matching, of samples, of abstraction, and of the normal and the canonical form. Each line of standard input is a row: a
+//! question, and the answer that was worked for it by hand from the rules (or by a second program that shares nothing with this one). Rows
+//! with another answer are printed with what was found, and at the end how many rows agree. Lines that are empty or begin with `#` are no
+//! rows. [`rows`] says what a row is.
 #![tactic(auto)]
 
 mod abstractions;
 mod coverings;
-mod fault;
 mod forms;
 mod matches;
 mod rows;
 mod samples;
-mod scope;
 mod told;
 
-use fault::Fault;
-use rows::question;
-use scope::Scope;
 use std::alloc::Global;
-use std::io::{self, BufRead, BufReader};
+use std::io;
+use worked_rows::parts::first_word;
+use worked_rows::{Fault, count_rows};
+use worked_scopes::Scope;
+
+/// Each structure as its name and then its fields: a name, and behind it the structure that a pointer points to.
+const STRUCTS: &[&[&str]] = &[
+    &["node", "data", "next node"],
+    &["leaf", "value"],
+    &["stack", "head node", "size"],
+    &["tree", "l tree", "k", "r tree"],
+];
+
+const NAMES: &[&str] = &["a", "b", "c"];
 
 /// Whether the row's answer is the one found; where it is not, it is printed.
 fn agrees(rt: &impl Print, alloc: Global, scope: &Scope, row: &str) -> Result<bool, Fault> {
-    match question(row) {
+    let (word, _) = first_word(row);
+    match word {
         "subtract" => matches::subtracts(rt, alloc, scope, row, "subtract"),
         "abduce" => matches::abduces(rt, alloc, scope, row, "abduce"),
         "both" => matches::agree(rt, alloc, scope, row),
@@ -44,20 +53,8 @@ fn agrees(rt: &impl Print, alloc: Global, scope: &Scope, row: &str) -> Result<bo
 
 fn main(rt: HostRuntime) -> io::Result<()> {
     let alloc = rt.alloc();
-    let Ok(scope) = Scope::new(alloc) else {
-        return println!(rt; "no scope");
-    };
-    let mut count = 0u32;
-    for line in BufReader::new(alloc, rt.reader())?.lines(alloc) {
-        let row = line?;
-        if row.is_empty() || row.starts_with('#') {
-            continue;
-        }
-        match agrees(&rt, alloc, &scope, row.as_str()) {
-            Ok(true) => count = count.saturating_add(1),
-            Ok(false) => println!(rt; "another answer: {row}")?,
-            Err(fault) => println!(rt; "{fault:?}: {row}")?,
-        }
+    match Scope::new(alloc, NAMES, STRUCTS) {
+        Ok(scope) => count_rows(&rt, |row| agrees(&rt, alloc, &scope, row).map(Some)),
+        Err(_) => println!(rt; "no scope"),
     }
-    println!(rt; "{count} rows agree")
 }

@@ -1,15 +1,16 @@
 //! Rows of subtraction and of abduction.
-use crate::fault::Fault;
-use crate::rows::{number, part, text};
-use crate::scope::{Scope, variables};
+use crate::rows::number;
 use crate::told::is_told;
 use abduction::{biabduce, biabduce_avoiding};
 use matching_steps::sizes::{are_small_variables, is_small_binding, is_within_sizes};
 use shape_data::Row;
-use shape_data::symbolic::{Exp, SymHeap};
+use shape_data::symbolic::{Exp, Fact, SymHeap};
 use std::alloc::Global;
 use subtraction::{subtract, subtract_avoiding};
 use sym_matching::{Abd, Sub};
+use worked_rows::Fault;
+use worked_rows::parts::{part, text};
+use worked_scopes::Scope;
 
 /// The flexible variables: `?11`, `?12` and `?13`.
 const FLEXIBLE: [u32; 3] = [65_546, 65_547, 65_548];
@@ -22,18 +23,37 @@ struct Asked {
     bound: Row<(u32, Exp)>,
 }
 
+/// What variables are bound to, of a text of equations.
+fn binding(alloc: Global, scope: &Scope, text: &str) -> Result<Row<(u32, Exp)>, Fault> {
+    let heap = scope.heap(alloc, text)?;
+    let mut all = Row::new(alloc);
+    for fact in heap.pure.as_slice() {
+        if let Fact::Eq(Exp::Var(x), e) = *fact {
+            all.push((x, e))?;
+        }
+    }
+    Ok(all)
+}
+
 /// What the row asks; the heap stands behind the word.
-fn question_of(alloc: Global, scope: &Scope, row: &str, word: &str) -> Result<Asked, Fault> {
-    let a = scope.heap(alloc, text(row, word))?;
-    let b = scope.heap(alloc, text(row, "wanted"))?;
-    let bound = scope.binding(alloc, text(row, "bound"))?;
-    Ok(Asked { a, b, bound })
+fn question(alloc: Global, scope: &Scope, row: &str, word: &str) -> Result<Asked, Fault> {
+    Ok(Asked {
+        a: scope.heap(alloc, text(row, word))?,
+        b: scope.heap(alloc, text(row, "wanted"))?,
+        bound: binding(alloc, scope, text(row, "bound"))?,
+    })
 }
 
 /// The further variables that new ones avoid.
 fn avoided(alloc: Global, scope: &Scope, row: &str) -> Result<Row<u32>, Fault> {
     let list = scope.exps(alloc, part(row, "avoid").unwrap_or(""))?;
-    variables(alloc, list.as_slice())
+    let mut all = Row::new(alloc);
+    for e in list.as_slice() {
+        if let Exp::Var(x) = *e {
+            all.push(x)?;
+        }
+    }
+    Ok(all)
 }
 
 /// What subtraction answers.
@@ -76,15 +96,15 @@ fn abduced(alloc: Global, asked: &Asked, fresh: u32, avoid: &[u32]) -> Result<Ab
 /// What subtraction answers to the row.
 fn found_by_subtraction(alloc: Global, scope: &Scope, row: &str, word: &str) -> Result<Sub, Fault> {
     let avoid = avoided(alloc, scope, row)?;
-    let question = question_of(alloc, scope, row, word)?;
+    let question = question(alloc, scope, row, word)?;
     subtracted(alloc, &question, avoid.as_slice())
 }
 
 /// What abduction answers to the row.
 fn found_by_abduction(alloc: Global, scope: &Scope, row: &str, word: &str) -> Result<Abd, Fault> {
-    let fresh = number(row, "fresh", 3).ok_or(Fault::Row)?;
+    let fresh = number(row, "fresh", 3)?;
     let avoid = avoided(alloc, scope, row)?;
-    let question = question_of(alloc, scope, row, word)?;
+    let question = question(alloc, scope, row, word)?;
     abduced(alloc, &question, fresh, avoid.as_slice())
 }
 
@@ -95,14 +115,14 @@ fn frame_and_binding(
     row: &str,
 ) -> Result<(SymHeap, Row<(u32, Exp)>), Fault> {
     let frame = scope.heap(alloc, text(row, "frame"))?;
-    let binding = scope.binding(alloc, text(row, "binds"))?;
+    let binding = binding(alloc, scope, text(row, "binds"))?;
     Ok((frame, binding))
 }
 
 /// The answer of a row of subtraction.
 fn told_of_subtraction(alloc: Global, scope: &Scope, row: &str) -> Result<Sub, Fault> {
     if part(row, "stuck").is_some() {
-        let wanted = number(row, "stuck", 0).ok_or(Fault::Row)?;
+        let wanted = number(row, "stuck", 0)?;
         return Ok(Sub::NoMatch { wanted });
     }
     let (frame, binding) = frame_and_binding(alloc, scope, row)?;
@@ -112,7 +132,7 @@ fn told_of_subtraction(alloc: Global, scope: &Scope, row: &str) -> Result<Sub, F
 /// The answer of a row of abduction.
 fn told_of_abduction(alloc: Global, scope: &Scope, row: &str) -> Result<Abd, Fault> {
     if part(row, "stuck").is_some() {
-        let wanted = number(row, "stuck", 0).ok_or(Fault::Row)?;
+        let wanted = number(row, "stuck", 0)?;
         return Ok(Abd::NoMatch { wanted });
     }
     let missing = scope.heap(alloc, text(row, "missing"))?;

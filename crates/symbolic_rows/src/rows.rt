@@ -5,8 +5,8 @@
 //! - `both HEAP ; wanted HEAP`, where subtraction and abduction have the same answer and nothing is missing;
 //! - `state HEAP ; locals EXPRESSIONS ; by HEAP ; slots EXPRESSIONS`, whether the second state covers the first: `yes` or `no`;
 //! - `post POST ; by POST`, whether the second post covers the first: `yes` or `no`;
-//! - `normal HEAP ; locals EXPRESSIONS`, a state and its normal form, with the answer `gives HEAP ; slots EXPRESSIONS` or `none`; the form is to be
-//!   normal and its own form, and the state normal only where it is its form;
+//! - `normal HEAP ; locals EXPRESSIONS`, a state and its normal form, with the answer `gives HEAP ; slots EXPRESSIONS` or `none`; the form
+//!   is to be normal and its own form, and the state normal only where it is its form;
 //! - `differ HEAP ; sides EXPRESSIONS`, whether two expressions are known to differ, whichever comes first: `yes` or `no`;
 //! - `canonical HEAP ; locals EXPRESSIONS`, a state and its canonical form, with the answer `gives HEAP ; slots EXPRESSIONS`;
 //! - `canonical-post POST`, a post and its canonical form, with the answer `gives POST`;
@@ -14,8 +14,8 @@
 //!   `gives HEAP ; slots EXPRESSIONS ; misses HEAP`;
 //! - `head HEAP ; locals EXPRESSIONS ; ints SLOTS ; dead SLOTS`, a state at the head of a loop with the int slots and the dead slots of
 //!   its mark, with the answer `gives HEAP ; slots EXPRESSIONS` or `none`;
-//! - `exit POST ; pointer STRUCTURE ; recursive`, a post at an exit: where there is no structure the result is an int, and `recursive` may be
-//!   left out, with the answer `gives POST` or `none`;
+//! - `exit POST ; pointer STRUCTURE ; recursive`, a post at an exit: where there is no structure the result is an int, and `recursive` may
+//!   be left out, with the answer `gives POST` or `none`;
 //! - `pair HEAP ; locals EXPRESSIONS ; missing HEAP ; ints SLOTS ; dead SLOTS`, a pair at the head of a loop, with the answer
 //!   `gives HEAP ; slots EXPRESSIONS ; misses HEAP` or `none`;
 //! - `candidate HEAP`, a candidate of a recursive component, with the answer `gives HEAP` or `none`;
@@ -24,41 +24,30 @@
 //! Heaps and posts are texts of `sym_text`; a part that is left out is `emp`. What variables are bound to is written as equations.
 //! `?11`, `?12` and `?13` are flexible. A match may also have `bound FACTS`, `avoid EXPRESSIONS` and `fresh NUMBER`, which is 3 where
 //! it is left out, so that the first new logical variable is `$1`.
+use shape_data::symbolic::SymState;
+use std::alloc::Global;
+use worked_rows::Fault;
+use worked_rows::parts::{part, text};
+use worked_scopes::Scope;
 
-/// The text behind a word, if the part is of it.
-fn behind<'a>(part: &'a str, word: &str) -> Option<&'a str> {
-    let text = part.strip_prefix(word)?;
-    if text.is_empty() || text.starts_with(' ') {
-        Some(text.trim())
-    } else {
-        None
-    }
-}
-
-/// The text of the part with this word, if the row has it.
-pub fn part<'a>(row: &'a str, word: &str) -> Option<&'a str> {
-    for part in row.split(';') {
-        if let Some(text) = behind(part.trim(), word) {
-            return Some(text);
-        }
-    }
-    None
-}
-
-/// The text of the part with this word, or of no heap.
-pub fn text<'a>(row: &'a str, word: &str) -> &'a str {
-    part(row, word).unwrap_or("emp")
-}
-
-/// The first word.
-pub fn question(row: &str) -> &str {
-    row.split(' ').next().unwrap_or("")
-}
+/// How many parameters texts are over.
+pub const PARAMS: u32 = 3;
 
 /// The number behind a word, or another.
-pub fn number(row: &str, word: &str, otherwise: u32) -> Option<u32> {
+pub fn number(row: &str, word: &str, otherwise: u32) -> Result<u32, Fault> {
     match part(row, word) {
-        Some(digits) => digits.parse().ok(),
-        None => Some(otherwise),
+        Some(digits) => digits.parse().ok().ok_or(Fault::Row),
+        None => Ok(otherwise),
     }
+}
+
+/// The state whose heap and locals stand behind these words.
+pub fn state_of(
+    alloc: Global,
+    scope: &Scope,
+    row: &str,
+    heap: &str,
+    locals: &str,
+) -> Result<SymState, Fault> {
+    scope.state(alloc, text(row, heap), part(row, locals).unwrap_or(""))
 }

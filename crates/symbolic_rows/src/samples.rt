@@ -1,13 +1,12 @@
 //! Rows of samples.
-use crate::fault::Fault;
-use crate::rows::{part, text};
-use crate::scope::Scope;
+use crate::rows::PARAMS;
 use shape_data::machine::{Cell, Value};
 use std::alloc::{AllocError, Global};
-use sym_samples::Sample;
-
-/// The parameters.
-const PARAMS: u32 = 3;
+use sym_samples::laws::well_formed_heaps_are_shaped;
+use sym_samples::{Sample, sample};
+use worked_rows::Fault;
+use worked_rows::parts::{part, text};
+use worked_scopes::Scope;
 
 /// Puts numbers behind a text, with a byte behind each.
 fn push_numbers(
@@ -44,6 +43,13 @@ fn text_of(alloc: Global, sample: &Sample) -> Result<Vec<u8>, AllocError> {
     Ok(text)
 }
 
+/// The sample of the row's heap, if it has one.
+fn sample_of(alloc: Global, scope: &Scope, row: &str) -> Result<Option<Sample>, Fault> {
+    let pre = scope.heap(alloc, text(row, "sample"))?;
+    well_formed_heaps_are_shaped();
+    Ok(sample(alloc, &pre, PARAMS, scope.program.structs.as_slice())?)
+}
+
 /// Whether the sample is what the row tells.
 fn is_told(alloc: Global, sample: &Sample, row: &str) -> Result<bool, Fault> {
     let found = text_of(alloc, sample)?;
@@ -55,7 +61,7 @@ fn is_told(alloc: Global, sample: &Sample, row: &str) -> Result<bool, Fault> {
 
 /// Whether the heap of the row has the sample that the row tells, or has none.
 pub fn samples(rt: &impl Print, alloc: Global, scope: &Scope, row: &str) -> Result<bool, Fault> {
-    match scope.sample(alloc, text(row, "sample"), PARAMS)? {
+    match sample_of(alloc, scope, row)? {
         None => Ok(part(row, "none").is_some()),
         Some(found) => {
             let agrees = is_told(alloc, &found, row)?;

@@ -1,11 +1,45 @@
 //! Answers that rows tell.
-use crate::fault::Fault;
-use crate::rows::{part, text};
-use crate::scope::Scope;
+use crate::rows::state_of;
 use shape_data::symbolic::{Post, SymHeap, SymState};
 use std::alloc::Global;
 use std::fmt::Debug;
 use sym_canon::Pair;
+use worked_rows::Fault;
+use worked_rows::parts::{part, text};
+use worked_scopes::Scope;
+
+/// What a row may give.
+pub trait Given: Sized + Drop {
+    /// What the row gives.
+    fn given(alloc: Global, scope: &Scope, row: &str) -> Result<Self, Fault>;
+}
+
+impl Given for SymHeap {
+    fn given(alloc: Global, scope: &Scope, row: &str) -> Result<SymHeap, Fault> {
+        scope.heap(alloc, text(row, "gives"))
+    }
+}
+
+impl Given for SymState {
+    fn given(alloc: Global, scope: &Scope, row: &str) -> Result<SymState, Fault> {
+        state_of(alloc, scope, row, "gives", "slots")
+    }
+}
+
+impl Given for Post {
+    fn given(alloc: Global, scope: &Scope, row: &str) -> Result<Post, Fault> {
+        scope.post(alloc, text(row, "gives"))
+    }
+}
+
+impl Given for Pair {
+    fn given(alloc: Global, scope: &Scope, row: &str) -> Result<Pair, Fault> {
+        Ok(Pair {
+            missing: scope.heap(alloc, text(row, "misses"))?,
+            state: SymState::given(alloc, scope, row)?,
+        })
+    }
+}
 
 /// Whether what was found is what was told; else it is printed.
 pub fn is_told<T: PartialEq + Debug>(rt: &impl Print, found: &T, told: &T) -> Result<bool, Fault> {
@@ -16,53 +50,32 @@ pub fn is_told<T: PartialEq + Debug>(rt: &impl Print, found: &T, told: &T) -> Re
     Ok(agrees)
 }
 
+/// What the row gives, if it does not tell of a contradiction.
+fn told<T: Given>(alloc: Global, scope: &Scope, row: &str) -> Result<Option<T>, Fault> {
+    if part(row, "none").is_some() {
+        Ok(None)
+    } else {
+        Ok(Some(T::given(alloc, scope, row)?))
+    }
+}
+
+/// Whether what was found is what the row gives, or its contradiction; else it is printed.
+pub fn is_given<T: Given + PartialEq + Debug>(
+    rt: &impl Print,
+    alloc: Global,
+    scope: &Scope,
+    row: &str,
+    found: &Option<T>,
+) -> Result<bool, Fault> {
+    let told = told::<T>(alloc, scope, row)?;
+    is_told(rt, found, &told)
+}
+
 /// What the row says: `yes` or `no`.
 pub fn is_yes(row: &str) -> Result<bool, Fault> {
     match (part(row, "yes"), part(row, "no")) {
         (Some(_), None) => Ok(true),
         (None, Some(_)) => Ok(false),
         _ => Err(Fault::Row),
-    }
-}
-
-/// Whether the row tells that what it gives is a contradiction.
-fn is_none(row: &str) -> bool {
-    part(row, "none").is_some()
-}
-
-/// The state that a row tells, if it tells one.
-pub fn told_state(alloc: Global, scope: &Scope, row: &str) -> Result<Option<SymState>, Fault> {
-    if is_none(row) {
-        Ok(None)
-    } else {
-        Ok(Some(scope.state_of(alloc, row, "gives", "slots")?))
-    }
-}
-
-/// The post that a row tells, if it tells one.
-pub fn told_post(alloc: Global, scope: &Scope, row: &str) -> Result<Option<Post>, Fault> {
-    if is_none(row) {
-        Ok(None)
-    } else {
-        Ok(Some(scope.post(alloc, text(row, "gives"))?))
-    }
-}
-
-/// The pair that a row tells, if it tells one.
-pub fn told_pair(alloc: Global, scope: &Scope, row: &str) -> Result<Option<Pair>, Fault> {
-    if is_none(row) {
-        return Ok(None);
-    }
-    let missing = scope.heap(alloc, text(row, "misses"))?;
-    let state = scope.state_of(alloc, row, "gives", "slots")?;
-    Ok(Some(Pair { missing, state }))
-}
-
-/// The heap that a row tells, if it tells one.
-pub fn told_heap(alloc: Global, scope: &Scope, row: &str) -> Result<Option<SymHeap>, Fault> {
-    if is_none(row) {
-        Ok(None)
-    } else {
-        Ok(Some(scope.heap(alloc, text(row, "gives"))?))
     }
 }

@@ -1,4 +1,5 @@
-//! Tests of the machine, of what symbolic crates share, and of texts. Tests alone: beside the libraries they would have these proved a second time.
+//! Tests of the machine, of what symbolic crates share, and of texts. Tests alone: beside the libraries they would have these proved a
+//! second time.
 #![tactic(auto)]
 
 #[cfg(test)]

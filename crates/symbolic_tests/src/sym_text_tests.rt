@@ -1,134 +1,76 @@
 //! Texts read and printed again, and texts that leave the grammar at a known byte.
-ghost use Rattle.std.specs.Prelude.{◌↔◌, IsTrue};
-ghost use Rattle.shape_data.specs.WellFormed.{IsTy, IsStruct, AreStructs, AreParams};
-
 mod tables;
 
-use shape_data::names::{have_different_names, is_c_name};
-use shape_data::program::{Field, StructDef, Ty};
-use shape_data::{Name, Row};
 use std::alloc::Global;
 use std::process::Abort;
 use std::test::Fail;
 use sym_text::laws::well_formed_is_shaped;
-use sym_text::{BadSpec, print_heap, print_post, read_heap, read_post};
-use tables::{
-    BARE, IDENTITY, LIKE_NAMES, LISTS, STACK_MADE, STACK_MEASURED, STACK_PUSHED, STACK_READ, TESTS,
-    TWO_CELLS, Table, WORDS_AS_NAMES,
-};
+use sym_text::{BadSpec, push_heap, push_post, read_heap, read_post};
+use tables::{PRINTED, REFUSED, Table};
+use worked_scopes::Scope;
 
-fn is_ty(ty: &Ty) -> bool
-    ensures { IsTrue result ↔ IsTy ty.now }
-{
-    match ty {
-        Ty::Int => true,
-        Ty::Ptr(name) => is_c_name(name.as_bytes()),
-        Ty::Void => true,
+/// Where the text of a heap is refused; where it is read, the heap is printed behind `again`.
+fn heap_again(
+    rt: &impl Abort,
+    alloc: Global,
+    scope: &Scope,
+    text: &[u8],
+    again: &mut Vec<u8>,
+) -> Result<Option<u32>, Fail> {
+    let params = scope.params.as_slice();
+    let structs = scope.program.structs.as_slice();
+    assert!(rt; scope.can_read(params, text));
+    well_formed_is_shaped();
+    match read_heap(alloc, text, params, structs) {
+        Ok(heap) => {
+            push_heap(again, params, structs, &heap)?;
+            Ok(None)
+        }
+        Err(BadSpec::At { offset }) => Ok(Some(offset)),
+        Err(BadSpec::OutOfMemory) => Err(Fail::from("no memory")),
     }
 }
 
-fn is_struct(def: &StructDef) -> bool
-    ensures { IsTrue result ↔ IsStruct def.now }
-{
-    let fields = def.fields.as_slice();
-    is_c_name(def.name.as_bytes())
-        && fields.len() <= 32_768
-        && fields.iter().all(|field| is_c_name(field.name.as_bytes()))
-        && fields.iter().all(|field| is_ty(&field.ty))
-        && have_different_names(fields)
-}
-
-fn are_structs(structs: &[StructDef]) -> bool
-    ensures { IsTrue result ↔ AreStructs structs.now }
-{
-    structs.len() < 4_294_967_296
-        && structs.iter().all(|def| is_struct(def))
-        && have_different_names(structs)
-}
-
-fn are_params(params: &[Name]) -> bool
-    ensures { IsTrue result ↔ AreParams params.now }
-{
-    params.len() <= 32_768
-        && params.iter().all(|name| is_c_name(name.as_bytes()))
-        && have_different_names(params)
-}
-
-fn name_of(alloc: Global, text: &str) -> Result<Name, Fail> {
-    let bytes = text.as_bytes();
-    if bytes.is_empty() || bytes.len() > 64 {
-        return Err(Fail::from("no name"));
+/// Where the text of a post is refused; where it is read, the post is printed behind `again`, and without its result behind
+/// `bare`.
+fn post_again(
+    rt: &impl Abort,
+    alloc: Global,
+    scope: &Scope,
+    text: &[u8],
+    again: &mut Vec<u8>,
+    bare: &mut Vec<u8>,
+) -> Result<Option<u32>, Fail> {
+    let params = scope.params.as_slice();
+    let structs = scope.program.structs.as_slice();
+    assert!(rt; scope.can_read(params, text));
+    well_formed_is_shaped();
+    match read_post(alloc, text, params, structs) {
+        Ok(post) => {
+            push_post(again, params, structs, &post, true)?;
+            push_post(bare, params, structs, &post, false)?;
+            Ok(None)
+        }
+        Err(BadSpec::At { offset }) => Ok(Some(offset)),
+        Err(BadSpec::OutOfMemory) => Err(Fail::from("no memory")),
     }
-    Ok(Name::of(alloc, bytes)?)
-}
-
-fn names_of(alloc: Global, texts: &[&str]) -> Result<Vec<Name>, Fail> {
-    let mut names = Vec::new(alloc);
-    for text in texts {
-        names.push(name_of(alloc, text)?)?;
-    }
-    Ok(names)
-}
-
-fn fields_of(alloc: Global, texts: &[&str]) -> Result<Row<Field>, Fail> {
-    let mut fields = Row::new(alloc);
-    for text in texts {
-        let name = name_of(alloc, text)?;
-        fields.push(Field { name, ty: Ty::Int })?;
-    }
-    Ok(fields)
-}
-
-fn struct_of(alloc: Global, words: &[&str]) -> Result<StructDef, Fail> {
-    match words {
-        [] => Err(Fail::from("no structure")),
-        [own, others @ ..] => Ok(StructDef {
-            name: name_of(alloc, own)?,
-            fields: fields_of(alloc, others)?,
-        }),
-    }
-}
-
-fn structs_of(alloc: Global, texts: &[&[&str]]) -> Result<Vec<StructDef>, Fail> {
-    let mut structs = Vec::new(alloc);
-    for words in texts {
-        structs.push(struct_of(alloc, words)?)?;
-    }
-    Ok(structs)
-}
-
-/// What a text is over.
-#[derive(Clone, Copy)]
-struct Scope<'a> {
-    params: &'a [Name],
-    structs: &'a [StructDef],
 }
 
 /// Checks the text of a heap: where it is refused, or that it is printed again.
 fn check_heap(
     rt: &impl Abort,
     alloc: Global,
-    scope: &Scope<'_>,
+    scope: &Scope,
     text: &[u8],
     refused: Option<u32>,
 ) -> Result<(), Fail> {
-    if text.len() >= 4_294_967_296 || !are_params(scope.params) || !are_structs(scope.structs) {
-        return Err(Fail::from("no scope"));
+    let mut again = Vec::new(alloc);
+    let found = heap_again(rt, alloc, scope, text, &mut again)?;
+    assert_eq!(rt; found, refused, "in {text:?}");
+    if found.is_none() {
+        assert_eq!(rt; again.as_slice(), text);
     }
-    well_formed_is_shaped();
-    match read_heap(alloc, text, scope.params, scope.structs) {
-        Ok(heap) => {
-            let printed = print_heap(alloc, &heap, scope.params, scope.structs)?;
-            assert_eq!(rt; refused, None, "in {text:?}");
-            assert_eq!(rt; printed.as_slice(), text);
-            Ok(())
-        }
-        Err(BadSpec::At { offset }) => {
-            assert_eq!(rt; refused, Some(offset), "in {text:?}");
-            Ok(())
-        }
-        Err(BadSpec::OutOfMemory) => Err(Fail::from("no memory")),
-    }
+    Ok(())
 }
 
 /// Checks the text of a post: where it is refused, or that it is printed again, and without ` ret=` and the result where the
@@ -136,36 +78,26 @@ fn check_heap(
 fn check_post(
     rt: &impl Abort,
     alloc: Global,
-    scope: &Scope<'_>,
+    scope: &Scope,
     text: &[u8],
     refused: Option<u32>,
 ) -> Result<(), Fail> {
-    if text.len() >= 4_294_967_296 || !are_params(scope.params) || !are_structs(scope.structs) {
-        return Err(Fail::from("no scope"));
+    let mut again = Vec::new(alloc);
+    let mut bare = Vec::new(alloc);
+    let found = post_again(rt, alloc, scope, text, &mut again, &mut bare)?;
+    bare.extend_from_slice(b" ret=")?;
+    assert_eq!(rt; found, refused, "in {text:?}");
+    if found.is_none() {
+        assert_eq!(rt; again.as_slice(), text);
+        assert!(rt; text.starts_with(bare.as_slice()), "in {text:?}");
     }
-    well_formed_is_shaped();
-    match read_post(alloc, text, scope.params, scope.structs) {
-        Ok(post) => {
-            let printed = print_post(alloc, &post, scope.params, scope.structs, true)?;
-            let mut bare = print_post(alloc, &post, scope.params, scope.structs, false)?;
-            assert_eq!(rt; refused, None, "in {text:?}");
-            assert_eq!(rt; printed.as_slice(), text);
-            bare.extend_from_slice(b" ret=")?;
-            assert!(rt; text.starts_with(bare.as_slice()), "in {text:?}");
-            Ok(())
-        }
-        Err(BadSpec::At { offset }) => {
-            assert_eq!(rt; refused, Some(offset), "in {text:?}");
-            Ok(())
-        }
-        Err(BadSpec::OutOfMemory) => Err(Fail::from("no memory")),
-    }
+    Ok(())
 }
 
 fn check_text(
     rt: &impl Abort,
     alloc: Global,
-    scope: &Scope<'_>,
+    scope: &Scope,
     is_post: bool,
     text: &[u8],
     refused: Option<u32>,
@@ -181,7 +113,7 @@ fn check_text(
 fn check_lines(
     rt: &impl Abort,
     alloc: Global,
-    scope: &Scope<'_>,
+    scope: &Scope,
     is_post: bool,
     lines: &[u8],
 ) -> Result<(), Fail> {
@@ -201,13 +133,8 @@ fn check_lines(
     Ok(())
 }
 
-fn check_table(rt: &impl Abort, alloc: Global, table: Table<'_>) -> Result<(), Fail> {
-    let params = names_of(alloc, table.params)?;
-    let structs = structs_of(alloc, table.structs)?;
-    let scope = Scope {
-        params: params.as_slice(),
-        structs: structs.as_slice(),
-    };
+fn check_table(rt: &impl Abort, alloc: Global, table: &Table<'_>) -> Result<(), Fail> {
+    let scope = Scope::new(alloc, table.params, table.structs)?;
     check_lines(rt, alloc, &scope, false, table.heaps.as_bytes())?;
     check_lines(rt, alloc, &scope, true, table.posts.as_bytes())
 }
@@ -215,16 +142,7 @@ fn check_table(rt: &impl Abort, alloc: Global, table: Table<'_>) -> Result<(), F
 #[test]
 fn printed_heaps_are_read_and_printed_again(rt: HostRuntime) -> Result<(), Fail> {
     let alloc = rt.alloc();
-    for table in [
-        IDENTITY,
-        LISTS,
-        TWO_CELLS,
-        TESTS,
-        STACK_MADE,
-        STACK_READ,
-        STACK_PUSHED,
-        STACK_MEASURED,
-    ] {
+    for table in PRINTED {
         check_table(&rt, alloc, table)?;
     }
     Ok(())
@@ -233,7 +151,7 @@ fn printed_heaps_are_read_and_printed_again(rt: HostRuntime) -> Result<(), Fail>
 #[test]
 fn texts_are_refused_where_they_leave_the_grammar(rt: HostRuntime) -> Result<(), Fail> {
     let alloc = rt.alloc();
-    for table in [LIKE_NAMES, WORDS_AS_NAMES, BARE] {
+    for table in REFUSED {
         check_table(&rt, alloc, table)?;
     }
     Ok(())
@@ -254,11 +172,7 @@ fn equations(alloc: Global, count: u32) -> Result<Vec<u8>, Fail> {
 #[test]
 fn at_most_four_thousand_parts_are_read(rt: HostRuntime) -> Result<(), Fail> {
     let alloc = rt.alloc();
-    let params = names_of(alloc, &["x"])?;
-    let scope = Scope {
-        params: params.as_slice(),
-        structs: &[],
-    };
+    let scope = Scope::new(alloc, &["x"], &[])?;
     for (count, heap_refused, post_refused) in [
         (4_000, None, None),
         (4_001, Some(23_997), Some(23_998)),

@@ -3,10 +3,9 @@ ghost use Rattle.std.specs.Prelude.{◌≡◌, ◌≤◌, IfOk, vec_len};
 
 use claim_core::{Job, Meaning, Solved, Tally, has_program_sizes};
 use io_ports::Gate;
-use shape_data::answer::{Answer, Kept, Key, ProcSummary, Reason};
-use shape_data::program::{Cmd, Flow, Node, Operand, Proc, Program, Ty};
-use shape_data::symbolic::{Cert, Spec, SymState};
-use shape_data::{Name, Row, well_formed_answer, well_formed_program};
+use shape_data::answer::{Kept, Key};
+use shape_data::program::Program;
+use shape_data::{Row, well_formed_program};
 use std::alloc::{AllocError, Global};
 use std::sync::atomic::{AtomicU64, Ordering};
 use std::sync::ledger::Ledger;
@@ -14,6 +13,8 @@ use std::sync::{Arc, Wait};
 use std::thread;
 use std::time::Duration;
 use summary_book::Aim;
+use toy_programs::answers::silent_answer;
+use toy_programs::programs::{LEAF, Sketch, name_of, proc, program, program_of};
 use worker_pool::desk::Desk;
 use worker_pool::pool::Leader;
 use worker_pool::shares::Hands;
@@ -50,21 +51,6 @@ impl Meaning for Toy {
     ghost solves = { λ key answer. answer.stored ≡ false };
 }
 
-fn summaries(alloc: Global, key: &Key) -> Result<Row<ProcSummary>, AllocError> {
-    let mut procs = Row::new(alloc);
-    for flow in key.procs.as_slice() {
-        let specs: Row<Spec> = Row::new(alloc);
-        let certs: Row<Cert> = Row::new(alloc);
-        procs.push(ProcSummary {
-            name: flow.name.clone()?,
-            specs,
-            certs,
-            reason: Some(Reason::Endless),
-        })?;
-    }
-    Ok(procs)
-}
-
 impl Job for Toy {
     fn solve(
         &self,
@@ -81,103 +67,43 @@ impl Job for Toy {
         if wants {
             return Err(AllocError);
         }
-        let answer = Answer {
-            stored: false,
-            procs: summaries(alloc, key)?,
-        };
-        if !well_formed_answer(key, &answer) {
-            return Err(AllocError);
-        }
-        let answer = Arc::new(alloc, answer)?;
+        let answer = silent_answer(alloc, key)?;
         let key = key.clone()?;
         tally.raise();
         Ok(Solved::new(key, answer))
     }
 }
 
-/// A procedure of one letter, which may call another one, and returns a number.
-#[derive(Clone, Copy)]
-pub struct Sketch {
-    pub name: u8,
-    pub callee: Option<u8>,
-    pub value: i32,
-}
-
-fn name(alloc: Global, letter: u8) -> Result<Name, AllocError> {
-    Name::of(alloc, &[letter])
-}
-
-fn node(cmd: Cmd) -> Node {
-    Node {
-        line: 0,
-        cmd,
-        head: None,
+/// These programs, one after the other.
+pub fn programs(alloc: Global, all: &[&[Sketch]]) -> Result<Vec<Arc<Program>>, AllocError> {
+    let mut programs = Vec::new(alloc);
+    for sketches in all {
+        programs.push(program(alloc, *sketches)?)?;
     }
-}
-
-fn nodes(alloc: Global, sketch: Sketch) -> Result<Row<Node>, AllocError> {
-    let mut nodes = Row::new(alloc);
-    if let Some(letter) = sketch.callee {
-        let cmd = Cmd::Call {
-            to: None,
-            callee: name(alloc, letter)?,
-            args: Row::new(alloc),
-            next: 1,
-        };
-        nodes.push(node(cmd))?;
-    }
-    let cmd = Cmd::Return {
-        value: Operand::Num(sketch.value),
-    };
-    nodes.push(node(cmd))?;
-    Ok(nodes)
-}
-
-fn proc(alloc: Global, sketch: Sketch) -> Result<Proc, AllocError> {
-    let slots: Row<Ty> = Row::new(alloc);
-    let flow = Flow {
-        name: name(alloc, sketch.name)?,
-        params: Row::new(alloc),
-        slots,
-        ret: Ty::Int,
-        nodes: nodes(alloc, sketch)?,
-    };
-    Ok(Proc {
-        flow,
-        file: name(alloc, b'x')?,
-        line: 1,
-    })
-}
-
-/// A program of these procedures.
-pub fn program(alloc: Global, sketches: &[Sketch]) -> Result<Arc<Program>, AllocError> {
-    let mut procs = Row::new(alloc);
-    for sketch in sketches {
-        procs.push(proc(alloc, *sketch)?)?;
-    }
-    let program = Program {
-        structs: Row::new(alloc),
-        procs,
-    };
-    Ok(Arc::new(alloc, program)?)
+    Ok(programs)
 }
 
 /// Twenty-six procedures that call nobody and return this number.
-pub fn wide(alloc: Global, value: i32) -> Result<Arc<Program>, AllocError> {
+fn wide(alloc: Global, value: i32) -> Result<Arc<Program>, AllocError> {
     let mut procs = Row::new(alloc);
-    for letter in b'a'..b'{' {
+    for name in b'a'..b'{' {
         let sketch = Sketch {
-            name: letter,
-            callee: None,
+            name,
             value,
+            ..LEAF
         };
         procs.push(proc(alloc, sketch)?)?;
     }
-    let program = Program {
-        structs: Row::new(alloc),
-        procs,
-    };
-    Ok(Arc::new(alloc, program)?)
+    program_of(alloc, procs)
+}
+
+/// So many programs, of 26 procedures each, that differ in all of these.
+pub fn wide_programs(alloc: Global, count: i32) -> Result<Vec<Arc<Program>>, AllocError> {
+    let mut programs = Vec::new(alloc);
+    for value in 0..count {
+        programs.push(wide(alloc, value)?)?;
+    }
+    Ok(programs)
 }
 
 const NAPS: u32 = 300;
@@ -276,35 +202,53 @@ impl Gate for Yields {
     }
 }
 
-/// A leader that settles one program after another, and notes the first letter of each entry, with a point behind those of a program.
-#[derive(Drop)]
-pub struct Asks {
-    pub programs: Vec<Arc<Program>>,
-    pub aim: Aim,
+/// How a leader works, and when its job wants memory.
+#[derive(Clone, Copy)]
+pub struct Setting {
+    /// The procedure at which it aims, if not at all.
+    pub aim: Option<u8>,
     /// Whether each program is started before it is settled.
     pub starts: bool,
     /// Whether it asks once more where memory was wanting.
     pub again: bool,
     /// Whether it rests before each program.
     pub rests: bool,
+    pub wants: Wants,
+}
+
+/// A leader that settles one program after another, and notes the first letter of each entry, with a point behind those of a program.
+#[derive(Drop)]
+pub struct Asks {
+    pub programs: Vec<Arc<Program>>,
+    pub aim: Aim,
+    pub setting: Setting,
     pub letters: Vec<u8>,
     pub most: usize,
     pub wants: bool,
 }
 
+fn aim_of(alloc: Global, at: Option<u8>) -> Result<Aim, AllocError> {
+    match at {
+        None => Ok(Aim::All),
+        Some(letter) => Ok(Aim::One(name_of(alloc, letter)?)),
+    }
+}
+
 impl Asks {
-    /// A leader with no program, which starts each.
-    pub fn new(alloc: Global, aim: Aim) -> Self {
-        Asks {
-            programs: Vec::new(alloc),
-            aim,
-            starts: true,
-            again: false,
-            rests: false,
+    /// A leader of these programs.
+    pub fn new(
+        alloc: Global,
+        programs: Vec<Arc<Program>>,
+        setting: Setting,
+    ) -> Result<Self, AllocError> {
+        Ok(Asks {
+            programs,
+            aim: aim_of(alloc, setting.aim)?,
+            setting,
             letters: Vec::new(alloc),
             most: 0,
             wants: false,
-        }
+        })
     }
 }
 
@@ -354,21 +298,19 @@ impl<G: Gate> Leader<Toy, G> for Asks {
         let Asks {
             programs,
             aim,
-            starts,
-            again,
-            rests,
+            setting,
             letters,
             most,
             wants,
         } = self;
         *most = 0;
         for program in programs.as_slice() {
-            if *rests {
+            if setting.rests {
                 rest(rt);
             }
-            let mut answer = ask(rt, alloc, desk, hands, program, aim, *starts);
-            if *again && answer.is_err() {
-                answer = ask(rt, alloc, desk, hands, program, aim, *starts);
+            let mut answer = ask(rt, alloc, desk, hands, program, aim, setting.starts);
+            if setting.again && answer.is_err() {
+                answer = ask(rt, alloc, desk, hands, program, aim, setting.starts);
             }
             let Ok(kept) = answer else {
                 *wants = true;

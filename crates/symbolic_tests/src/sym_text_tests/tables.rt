@@ -13,8 +13,23 @@ pub struct Table<'a> {
     pub posts: &'a str,
 }
 
+/// Texts of the summaries of procedures.
+pub const PRINTED: &[Table] = &[
+    IDENTITY,
+    LISTS,
+    TWO_CELLS,
+    TESTS,
+    STACK_MADE,
+    STACK_READ,
+    STACK_PUSHED,
+    STACK_MEASURED,
+];
+
+/// Texts that leave the grammar.
+pub const REFUSED: &[Table] = &[LIKE_NAMES, WORDS_AS_NAMES, BARE];
+
 /// A procedure that returns its argument.
-pub const IDENTITY: Table<'static> = Table {
+const IDENTITY: Table<'static> = Table {
     params: &["a"],
     structs: &[],
     heaps: "emp
@@ -24,7 +39,7 @@ pub const IDENTITY: Table<'static> = Table {
 };
 
 /// Procedures that read a list, free it, walk it and measure it.
-pub const LISTS: Table<'static> = Table {
+const LISTS: Table<'static> = Table {
     params: &["x"],
     structs: &[&["node", "data", "next"]],
     heaps: "emp
@@ -53,7 +68,7 @@ x|->node(data:?1,next:?2) * ls[node.next](?2,0) ret=0
 };
 
 /// A procedure that writes one cell and reads another.
-pub const TWO_CELLS: Table<'static> = Table {
+const TWO_CELLS: Table<'static> = Table {
     params: &["x", "y"],
     structs: &[&["node", "data", "next"]],
     heaps: "x|->node(data:$1,next:$2) * y|->node(data:$3,next:$4)
@@ -63,7 +78,7 @@ pub const TWO_CELLS: Table<'static> = Table {
 };
 
 /// A procedure that tests its argument fifteen times.
-pub const TESTS: Table<'static> = Table {
+const TESTS: Table<'static> = Table {
     params: &["a"],
     structs: &[],
     heaps: "emp
@@ -88,7 +103,7 @@ a=15 ret=15
 };
 
 /// A stack is made.
-pub const STACK_MADE: Table<'static> = Table {
+const STACK_MADE: Table<'static> = Table {
     params: &[],
     structs: &[&["node", "data", "next"], &["stack", "head", "size"]],
     heaps: "emp
@@ -99,7 +114,7 @@ pub const STACK_MADE: Table<'static> = Table {
 };
 
 /// A stack is read, popped, cleared and destroyed.
-pub const STACK_READ: Table<'static> = Table {
+const STACK_READ: Table<'static> = Table {
     params: &["q"],
     structs: &[&["node", "data", "next"], &["stack", "head", "size"]],
     heaps: "emp
@@ -121,7 +136,7 @@ q|->stack(head:$1,size:$2) * ls[node.next]($1,0) ret=?1
 };
 
 /// A value is pushed.
-pub const STACK_PUSHED: Table<'static> = Table {
+const STACK_PUSHED: Table<'static> = Table {
     params: &["q", "v"],
     structs: &[&["node", "data", "next"], &["stack", "head", "size"]],
     heaps: "q|->stack(head:$1,size:$2)
@@ -132,7 +147,7 @@ q|->stack(head:?1,size:?2) * ?1|->node(data:v,next:$1) ret=1
 };
 
 /// The length of a stack's list.
-pub const STACK_MEASURED: Table<'static> = Table {
+const STACK_MEASURED: Table<'static> = Table {
     params: &["n"],
     structs: &[&["node", "data", "next"], &["stack", "head", "size"]],
     heaps: "n=0
@@ -146,7 +161,7 @@ ls[node.next](n,0) ret=?1
 };
 
 /// Names that begin with one another, a parameter `ls`, and structures with two fields, one and none.
-pub const LIKE_NAMES: Table<'static> = Table {
+const LIKE_NAMES: Table<'static> = Table {
     params: &["x", "xy", "ls"],
     structs: &[&["node", "data", "next"], &["no", "a"], &["leaf"]],
     heaps: "emp
@@ -253,7 +268,7 @@ junk * x@=0 ret=0
 };
 
 /// Parameters that are called as the words of the grammar are.
-pub const WORDS_AS_NAMES: Table<'static> = Table {
+const WORDS_AS_NAMES: Table<'static> = Table {
     params: &["emp", "junk", "ret"],
     structs: &[&["node", "data", "next"], &["leaf"]],
     heaps: "emp
@@ -289,7 +304,7 @@ ret=0 ret=0@ ret=0
 };
 
 /// One parameter, and no structure: few texts go on.
-pub const BARE: Table<'static> = Table {
+const BARE: Table<'static> = Table {
     params: &["x"],
     structs: &[],
     heaps: "x=0 * junk

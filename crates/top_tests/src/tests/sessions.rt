@@ -3,7 +3,7 @@
 use heapan_top::Status;
 
 /// Streams, their replies, and how the call ends.
-pub const SESSIONS: [(&str, &str, Status); 19] = [
+pub const SESSIONS: [(&str, &str, Status); 20] = [
     ("", "", Status::Done),
     ("report", "total 0 0 0\n", Status::Done),
     ("\n\nstart\nreport\n\n", "ok\ntotal 0 0 0\n", Status::Done),
@@ -263,6 +263,12 @@ f6 a.c 7
  post x=0
 total 7 7 0
 ",
+        Status::Done,
+    ),
+    // A name of 64 bytes, of every kind that may stand in it.
+    (
+        "put aZ09._-/aaaaaaaaaaaaaaaaaaaaaaaaaaaaaaaaaaaaaaaaaaaaaaaaaaaaaaaa 5\nhelloreport",
+        "ok\nrefused aZ09._-/aaaaaaaaaaaaaaaaaaaaaaaaaaaaaaaaaaaaaaaaaaaaaaaaaaaaaaaa 1 111\n",
         Status::Done,
     ),
 ];

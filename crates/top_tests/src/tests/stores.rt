@@ -1,15 +1,18 @@
 //! Sessions that have a store: what they save answers the next one, and bytes that are no store are told and answer nothing.
-ghost use Rattle.std.specs.Prelude.{◌<◌, IfOk, length};
+ghost use Rattle.std.specs.Prelude.{◌<◌, length};
 ghost use Rattle.shape_data.specs.Sizes.{HasProgramSizes};
 ghost use Rattle.shape_data.specs.WellFormed.{IsProgram};
 
-use super::stack::STACK;
+use super::calls::{
+    ALONE, Call, EIGHT_WORKERS, NEVER, Nowhere, ONE_WORKER, SESSION, Stream, answers_at, left_at,
+    text,
+};
+use super::count_letter;
 use super::work::{CHANGED_AND_BACK, PEEK_THRICE, PEEKS};
-use super::worked::STACK_REPLY;
-use super::{count_letter, put_as, runs, steady};
+use super::worked::{STACK_REPLY, with_stack};
 use claim_core::Event;
-use heapan_top::{LoadedAnswers, Outcome, Status, agrees, plain};
-use io_ports::{Gate, Keeper, MemoryKeeper, OpenGate, SteadyKeeper, SteadySink};
+use heapan_top::{LoadedAnswers, Status, agrees, plain};
+use io_ports::{Gate, Keeper, MemoryKeeper, OpenGate};
 use project_form::Project;
 use session_generator::generate;
 use shape_data::Name;
@@ -17,24 +20,30 @@ use shape_data::answer::Kept;
 use shape_data::exact::is_same_shared;
 use shape_data::program::Program;
 use solve_job::StoredAnswers;
+use stack_module::STACK;
 use std::alloc::{AllocError, Global};
 use std::process::Abort;
 use std::sync::atomic::{AtomicU64, Ordering};
 use std::sync::{Arc, Wait};
-use std::test::Fail;
 use std::thread::Threads;
 use summary_book::Aim;
 use summary_store::{Loaded, encode, load};
 
 /// Words that name a store.
-const WITH_STORE: [&str; 3] = ["session", "--store", "s"];
+const WITH_STORE: &[&str] = &["session", "--store", "s"];
 
-/// A procedure that reads a cell, and a report on it.
+/// A file with a procedure that reads a cell.
 const GET: &[u8] =
     b"struct node { int data; struct node *next; };\nint get(struct node *x) { return x->data; }";
 
-const GET_REPLY: &[u8] =
-    b"ok\nget a.c 2\n pre x|->node(data:$1,next:$2)\n post x|->node(data:$1,next:$2) ret=$1\ntotal 1 1 0\n";
+/// What a report on it is answered where the store is none.
+const UNREAD_REPLY: &str = "store unread
+ok
+get a.c 2
+ pre x|->node(data:$1,next:$2)
+ post x|->node(data:$1,next:$2) ret=$1
+total 1 1 0
+";
 
 /// The bytes of a store without entries.
 const EMPTY_STORE: &[u8] =
@@ -49,155 +58,150 @@ const UNREAD: [&[u8]; 5] = [
     b"{\"entries\":[],\"format\":9}\nc94dc3324679ec5aec6acf0b83cd9df88ab1f5bbb2910f4ab0f2db35969754dd\n",
 ];
 
-/// Runs a session with a store at this keeper.
-fn stored<R: Threads + Wait + Sync, P: Keeper>(
-    rt: &R,
-    alloc: Global,
-    stream: &[u8],
-    keeper: &mut P,
-    sink: &mut SteadySink,
-) -> Result<Outcome, Fail> {
-    let mut source = steady(alloc, stream)?;
-    Ok(runs(
-        rt,
-        alloc,
-        &WITH_STORE,
-        &mut source,
-        sink,
-        keeper,
-        &OpenGate,
-        Vec::new(alloc),
-    ))
-}
-
-/// A session at this keeper writes these bytes and ends so.
-fn writes<R: Threads + Wait + Sync + Abort, P: Keeper>(
-    rt: &R,
-    alloc: Global,
-    stream: &[u8],
-    keeper: &mut P,
-    want: &[u8],
+/// A session with a store: the bytes of the store before it, the number of the keeper's call that fails, what is read, what is written, how
+/// it ends, and the bytes of the store behind it.
+#[derive(Clone, Copy)]
+struct Keeping<'a> {
+    before: Option<&'a [u8]>,
+    fail_at: u64,
+    stream: Stream<'a>,
+    want: &'a str,
     status: Status,
-) -> Result<(), Fail> {
-    let mut sink = SteadySink::new(alloc)?;
-    let outcome = stored(rt, alloc, stream, keeper, &mut sink)?;
-    assert_eq!(rt; sink.held(), want);
-    assert_eq!(rt; outcome.status, status);
-    Ok(())
+    after: Option<&'a [u8]>,
 }
 
-/// The stream that puts the stack module and saves.
-fn saving(alloc: Global) -> Result<Vec<u8>, AllocError> {
-    let put = format!(in alloc; "put stack.c {}\n", STACK.len())?;
-    let mut stream = Vec::from_slice(alloc, put.as_bytes())?;
-    stream.extend_from_slice(STACK)?;
-    stream.extend_from_slice(b"save\nquit\n")?;
-    Ok(stream)
+/// A keeper whose store has these bytes, where there is one, and whose call of this number fails.
+fn keeper_of<R: Abort>(rt: &R, alloc: Global, store: Option<&[u8]>, fail_at: u64) -> MemoryKeeper {
+    let fail_at = Vec::from_slice(alloc, &[fail_at]).expect(rt, "memory");
+    let mut keeper = MemoryKeeper::new(alloc, fail_at).expect(rt, "memory");
+    if let Some(bytes) = store {
+        keeper.replace(alloc, "s", bytes).expect(rt, "a store");
+    }
+    keeper
+}
+
+/// The session writes this, ends so, and leaves these bytes in the store.
+fn keeps<R: Threads + Wait + Sync + Abort>(rt: &R, alloc: Global, row: Keeping) {
+    let mut keeper = keeper_of(rt, alloc, row.before, row.fail_at);
+    let call = Call {
+        words: WITH_STORE,
+        stream: row.stream,
+        ..SESSION
+    };
+    answers_at(rt, alloc, call, &mut keeper, row.want, row.status);
+    assert_eq!(rt; keeper.get("s"), row.after);
+}
+
+/// A keeper where a session saved the stack module.
+fn saved<R: Threads + Wait + Sync + Abort>(rt: &R, alloc: Global) -> MemoryKeeper {
+    let mut keeper = keeper_of(rt, alloc, None, NEVER);
+    let call = Call {
+        words: WITH_STORE,
+        ..with_stack(b"save\nquit\n")
+    };
+    answers_at(rt, alloc, call, &mut keeper, "ok\nok\n", Status::Done);
+    keeper
 }
 
 /// The stack module is reported on from the store: each of its eight components is claimed, and answered from there.
 fn stack_is_known<R: Threads + Wait + Sync + Abort>(
     rt: &R,
     alloc: Global,
-    keeper: &mut SteadyKeeper,
-) -> Result<(), Fail> {
-    let stream = put_as(alloc, "stack.c", STACK)?;
-    let mut sink = SteadySink::new(alloc)?;
-    let outcome = stored(rt, alloc, stream.as_slice(), keeper, &mut sink)?;
-    assert_eq!(rt; sink.held(), STACK_REPLY.as_bytes());
-    assert_eq!(rt; outcome.solves, 8);
-    assert_eq!(rt; count_letter(outcome.log.as_slice(), b'C'), 8);
-    for event in outcome.log.as_slice() {
+    keeper: &mut MemoryKeeper,
+) {
+    let call = Call {
+        words: WITH_STORE,
+        ..with_stack(b"report\n")
+    };
+    let left = left_at(rt, alloc, call, keeper, &OpenGate);
+    assert_eq!(rt; text(left.written.as_slice()), STACK_REPLY);
+    assert_eq!(rt; left.solves, 8);
+    assert_eq!(rt; count_letter(left.log.as_slice(), b'C'), 8);
+    for event in left.log.as_slice() {
         if let Event::Publish { answer, .. } = event {
             assert!(rt; answer.stored);
         }
     }
-    Ok(())
 }
 
 #[test]
-fn what_is_saved_answers_the_next_session(rt: HostRuntime) -> Result<(), Fail> {
-    let alloc = rt.alloc();
-    let mut keeper = SteadyKeeper::new(alloc)?;
-    writes(
-        &rt,
-        alloc,
-        saving(alloc)?.as_slice(),
-        &mut keeper,
-        b"ok\nok\n",
-        Status::Done,
-    )?;
-    stack_is_known(&rt, alloc, &mut keeper)
+fn what_is_saved_answers_the_next_session(rt: HostRuntime) {
+    let mut keeper = saved(&rt, rt.alloc());
+    stack_is_known(&rt, rt.alloc(), &mut keeper);
 }
 
+/// A session that saves nothing, and one with what that saved.
+const EMPTY: [Keeping; 2] = [
+    Keeping {
+        before: None,
+        fail_at: NEVER,
+        stream: Stream::Of(b"save\n"),
+        want: "ok\n",
+        status: Status::Done,
+        after: Some(EMPTY_STORE),
+    },
+    Keeping {
+        before: Some(EMPTY_STORE),
+        fail_at: NEVER,
+        stream: Stream::Of(b""),
+        want: "",
+        status: Status::Done,
+        after: Some(EMPTY_STORE),
+    },
+];
+
 #[test]
-fn a_store_without_entries_has_91_bytes(rt: HostRuntime) -> Result<(), Fail> {
-    let alloc = rt.alloc();
-    let mut keeper = SteadyKeeper::new(alloc)?;
-    writes(&rt, alloc, b"save\n", &mut keeper, b"ok\n", Status::Done)?;
-    match keeper.get("s") {
-        Some(bytes) => assert_eq!(&rt; bytes, EMPTY_STORE),
-        None => panic!(&rt; "nothing was saved"),
+fn a_store_without_entries_has_91_bytes(rt: HostRuntime) {
+    assert_eq!(rt; EMPTY_STORE.len(), 91);
+    for row in EMPTY {
+        keeps(&rt, rt.alloc(), row);
     }
-    assert_eq!(&rt; EMPTY_STORE.len(), 91);
-    writes(&rt, alloc, b"", &mut keeper, b"", Status::Done)
 }
 
 #[test]
-fn bytes_that_are_no_store_are_told_and_answer_nothing(rt: HostRuntime) -> Result<(), Fail> {
-    let alloc = rt.alloc();
-    let stream = put_as(alloc, "a.c", GET)?;
+fn bytes_that_are_no_store_are_told_and_answer_nothing(rt: HostRuntime) {
     for bytes in UNREAD {
-        let mut keeper = SteadyKeeper::new(alloc)?;
-        let put = keeper.replace(alloc, "s", bytes);
-        assert!(&rt; put.is_ok());
-        let mut want = Vec::from_slice(alloc, b"store unread\n")?;
-        want.extend_from_slice(GET_REPLY)?;
-        writes(
-            &rt,
-            alloc,
-            stream.as_slice(),
-            &mut keeper,
-            want.as_slice(),
-            Status::Done,
-        )?;
-        match keeper.get("s") {
-            Some(there) => assert_eq!(&rt; there, bytes),
-            None => panic!(&rt; "the store is gone"),
-        }
+        let row = Keeping {
+            before: Some(bytes),
+            fail_at: NEVER,
+            stream: Stream::Put("a.c", GET, b"report\n"),
+            want: UNREAD_REPLY,
+            status: Status::Done,
+            after: Some(bytes),
+        };
+        keeps(&rt, rt.alloc(), row);
     }
-    Ok(())
+}
+
+/// A session whose reading of the store fails, and one whose saving does.
+const FAILS: [(u64, &[u8]); 2] = [(0, b""), (1, b"save\n")];
+
+#[test]
+fn a_store_that_fails_ends_the_session(rt: HostRuntime) {
+    for (fail_at, stream) in FAILS {
+        let row = Keeping {
+            before: None,
+            fail_at,
+            stream: Stream::Of(stream),
+            want: "",
+            status: Status::StoreFault,
+            after: None,
+        };
+        keeps(&rt, rt.alloc(), row);
+    }
 }
 
 #[test]
-fn a_store_that_fails_ends_the_session(rt: HostRuntime) -> Result<(), Fail> {
-    let alloc = rt.alloc();
-    for (call, stream) in [(0u64, b"".as_slice()), (1u64, b"save\n".as_slice())] {
-        let mut keeper = MemoryKeeper::new(alloc, Vec::from_slice(alloc, &[call])?)?;
-        writes(&rt, alloc, stream, &mut keeper, b"", Status::StoreFault)?;
-        match keeper.get("s") {
-            Some(bytes) => assert_eq!(&rt; bytes, EMPTY_STORE),
-            None => {}
-        }
-    }
-    Ok(())
-}
-
-#[test]
-fn a_refused_program_is_not_saved(rt: HostRuntime) -> Result<(), Fail> {
-    let alloc = rt.alloc();
-    let mut keeper = SteadyKeeper::new(alloc)?;
-    let stream = b"put a.c 27\nint f(void) { return y; }\n\nsave\n";
-    writes(
-        &rt,
-        alloc,
-        stream,
-        &mut keeper,
-        b"ok\nrefused a.c 1 121\n",
-        Status::Done,
-    )?;
-    assert!(&rt; keeper.get("s").is_none());
-    Ok(())
+fn a_refused_program_is_not_saved(rt: HostRuntime) {
+    let row = Keeping {
+        before: None,
+        fail_at: NEVER,
+        stream: Stream::Of(b"put a.c 27\nint f(void) { return y; }\n\nsave\n"),
+        want: "ok\nrefused a.c 1 121\n",
+        status: Status::Done,
+        after: None,
+    };
+    keeps(&rt, rt.alloc(), row);
 }
 
 /// How many claims a gate notes.
@@ -235,22 +239,18 @@ impl Noting {
 }
 
 /// The program that one file is.
-fn program_of<R: Abort>(
-    rt: &R,
-    alloc: Global,
-    name: &str,
-    file: &[u8],
-) -> Result<Arc<Program>, Fail>
-    ensures formed { IfOk result (λ program. IsProgram program.value) }
-    ensures sizes { IfOk result (λ program. HasProgramSizes program.value) }
+fn program_of<R: Abort>(rt: &R, alloc: Global, name: &str, file: &[u8]) -> Arc<Program>
+    ensures formed { IsProgram result.value }
+    ensures sizes { HasProgramSizes result.value }
 {
     assert!(rt; !name.is_empty() && name.len() <= 64);
     let mut project = Project::new(alloc);
-    let name = Name::of(alloc, name.as_bytes())?;
-    let _put = project.put(alloc, &name, Vec::from_slice(alloc, file)?);
+    let name = Name::of(alloc, name.as_bytes()).expect(rt, "memory");
+    let bytes = Vec::from_slice(alloc, file).expect(rt, "memory");
+    let _put = project.put(alloc, &name, bytes);
     match project.program(alloc) {
-        Ok(program) => Ok(program),
-        Err(_) => Err(AllocError)?,
+        Ok(program) => program,
+        Err(_) => panic!(rt; "no program"),
     }
 }
 
@@ -308,120 +308,150 @@ fn loaded_of(alloc: Global, bytes: &[u8]) -> Result<StoredAnswers, AllocError>
     }
 }
 
-/// The entries of the keeper's store, none where no path names it.
-fn opened<R: Abort>(
-    rt: &R,
-    alloc: Global,
-    keeper: &SteadyKeeper,
-    path: Option<&str>,
-) -> Result<StoredAnswers, Fail> {
-    let Some(path) = path else {
-        return Ok(StoredAnswers::none(alloc));
-    };
-    match keeper.get(path) {
+/// The entries of the keeper's store.
+fn loaded_at<R: Abort>(rt: &R, alloc: Global, keeper: &MemoryKeeper) -> StoredAnswers {
+    match keeper.get("s") {
         Some(bytes) => {
             assert!(rt; bytes.len() < 4_294_967_296);
-            Ok(loaded_of(alloc, bytes)?)
+            loaded_of(alloc, bytes).expect(rt, "memory")
         }
-        None => Ok(StoredAnswers::none(alloc)),
+        None => panic!(rt; "no store"),
     }
 }
 
-/// A session with so many workers answers the stream, with the store of the keeper or none. Of each of these files it reported on, what
-/// plainly answering its program over the entries of the store gives was claimed, each claim behind the gate, and published.
-fn logs<R: Threads + Wait + Sync + Abort>(
+/// What plainly answering the program that a file is over these entries gives was claimed in the log, and published.
+fn has_entries<R: Wait + Abort>(
     rt: &R,
     alloc: Global,
-    workers: &str,
-    stream: &[u8],
-    keeper: &mut SteadyKeeper,
-    path: Option<&str>,
-    files: &[(&str, &[u8])],
-) -> Result<(), Fail> {
-    let stored = opened(rt, alloc, keeper, path)?;
-    let words = ["session", "--workers", workers, "--store", "s"];
-    let named = if path.is_some() { 5 } else { 3 };
-    let gate = Noting::new(alloc)?;
-    let mut source = steady(alloc, stream)?;
-    let mut sink = SteadySink::new(alloc)?;
-    let Outcome { log, .. } = runs(
-        rt,
-        alloc,
-        &words[..named],
-        &mut source,
-        &mut sink,
-        keeper,
-        &gate,
-        Vec::new(alloc),
+    log: &[Event],
+    stored: &StoredAnswers,
+    name: &str,
+    file: &[u8],
+) {
+    let program = program_of(rt, alloc, name, file);
+    let entries = plain(rt, alloc, stored.answers(), &program, &Aim::All, &OpenGate).expect(
+        rt, "memory",
     );
-    assert!(rt; is_noted(&gate, log.as_slice()));
+    for entry in entries.as_slice() {
+        assert!(rt; has_entry(log, entry), "of {name}");
+    }
+}
+
+/// Of each of these files the call, with this keeper, reported on, what plainly answering its program over the entries of the store gives
+/// was claimed, each claim behind the gate, and published.
+fn logs<R: Threads + Wait + Sync + Abort, P: Keeper>(
+    rt: &R,
+    alloc: Global,
+    call: Call,
+    keeper: &mut P,
+    stored: &StoredAnswers,
+    files: &[(&str, &[u8])],
+) {
+    let gate = Noting::new(alloc).expect(rt, "memory");
+    let left = left_at(rt, alloc, call, keeper, &gate);
+    assert!(rt; is_noted(&gate, left.log.as_slice()));
     for (name, file) in files {
-        let program = program_of(rt, alloc, name, file)?;
-        let entries = plain(rt, alloc, stored.answers(), &program, &Aim::All, &OpenGate)?;
-        for entry in entries.as_slice() {
-            assert!(rt; has_entry(log.as_slice(), entry), "of {name}");
-        }
+        has_entries(rt, alloc, left.log.as_slice(), stored, name, file);
     }
-    Ok(())
+}
+
+/// The same of a session without a store.
+fn logs_all<R: Threads + Wait + Sync + Abort>(
+    rt: &R,
+    alloc: Global,
+    call: Call,
+    files: &[(&str, &[u8])],
+) {
+    let none = StoredAnswers::none(alloc);
+    logs(rt, alloc, call, &mut Nowhere, &none, files);
 }
 
 #[test]
-fn what_is_reported_was_claimed_and_published(rt: HostRuntime) -> Result<(), Fail> {
+fn what_is_reported_was_claimed_and_published(rt: HostRuntime) {
     let alloc = rt.alloc();
-    let mut keeper = SteadyKeeper::new(alloc)?;
-    logs(&rt, alloc, "0", PEEK_THRICE.0, &mut keeper, None, &PEEKS)?;
-    let stack = put_as(alloc, "stack.c", STACK)?;
-    let few = generate(alloc, 4)?;
-    let many = generate(alloc, 1000)?;
-    for workers in ["0", "1", "8"] {
-        for (stream, name, file) in [
-            (CHANGED_AND_BACK.0, "a.c", GET),
-            (stack.as_slice(), "stack.c", STACK),
-            (b"gen 4\n".as_slice(), "gen.c", few.as_slice()),
-        ] {
-            logs(
-                &rt,
-                alloc,
-                workers,
-                stream,
-                &mut keeper,
-                None,
-                &[(name, file)],
-            )?;
-        }
+    let peeks = Call {
+        words: ALONE,
+        stream: Stream::Of(PEEK_THRICE),
+        ..SESSION
+    };
+    logs_all(&rt, alloc, peeks, &PEEKS);
+    for words in [ALONE, ONE_WORKER, EIGHT_WORKERS] {
+        let changed = Call {
+            words,
+            stream: Stream::Of(CHANGED_AND_BACK),
+            ..SESSION
+        };
+        logs_all(&rt, alloc, changed, &[("a.c", GET)]);
+        let stack = Call {
+            words,
+            ..with_stack(b"report\n")
+        };
+        logs_all(&rt, alloc, stack, &[("stack.c", STACK)]);
     }
-    let many = [("gen.c", many.as_slice())];
-    logs(&rt, alloc, "8", b"gen 1000\n", &mut keeper, None, &many)?;
-    writes(
-        &rt,
-        alloc,
-        saving(alloc)?.as_slice(),
-        &mut keeper,
-        b"ok\nok\n",
-        Status::Done,
-    )?;
-    logs(
-        &rt,
-        alloc,
-        "0",
-        stack.as_slice(),
-        &mut keeper,
-        Some("s"),
-        &[("stack.c", STACK)],
-    )
+}
+
+/// The generated file of this number is reported on with these words.
+fn logs_generated<R: Threads + Wait + Sync + Abort>(
+    rt: &R,
+    alloc: Global,
+    words: &'static [&'static str],
+    number: u32,
+) {
+    assert!(rt; 1 <= number && number <= 1000);
+    let stream = format!(in alloc; "gen {number}\n").expect(rt, "memory");
+    let file = generate(alloc, number).expect(rt, "memory");
+    let call = Call {
+        words,
+        stream: Stream::Of(stream.as_bytes()),
+        ..SESSION
+    };
+    logs_all(rt, alloc, call, &[("gen.c", file.as_slice())]);
+}
+
+/// Words, and the numbers of generated files.
+const GENERATED: [(&[&str], u32); 4] = [
+    (ALONE, 4),
+    (ONE_WORKER, 4),
+    (EIGHT_WORKERS, 4),
+    (EIGHT_WORKERS, 1000),
+];
+
+#[test]
+fn what_is_generated_was_claimed_and_published(rt: HostRuntime) {
+    for (words, number) in GENERATED {
+        logs_generated(&rt, rt.alloc(), words, number);
+    }
 }
 
 #[test]
-fn the_stack_module_is_answered_plainly(rt: HostRuntime) -> Result<(), Fail> {
+fn what_was_loaded_is_published_too(rt: HostRuntime) {
     let alloc = rt.alloc();
-    let program = program_of(&rt, alloc, "stack.c", STACK)?;
+    let mut keeper = saved(&rt, alloc);
+    let stored = loaded_at(&rt, alloc, &keeper);
+    let call = Call {
+        words: &["session", "--workers", "0", "--store", "s"],
+        ..with_stack(b"report\n")
+    };
+    let files = [("stack.c", STACK)];
+    logs(&rt, alloc, call, &mut keeper, &stored, &files);
+}
+
+/// The bytes of a store that has what plainly answering the stack module gives.
+fn stack_store<R: Wait + Abort>(rt: &R, alloc: Global) -> Vec<u8> {
+    let program = program_of(rt, alloc, "stack.c", STACK);
     let none = LoadedAnswers::none(alloc);
-    let gate = Noting::new(alloc)?;
-    let entries = plain(&rt, alloc, &none, &program, &Aim::All, &gate)?;
-    assert_eq!(&rt; entries.len(), 8);
-    assert!(&rt; agrees(&none, entries.as_slice()));
-    assert_eq!(&rt; gate.count(0), Some(8));
-    let mut keeper = SteadyKeeper::new(alloc)?;
-    let _kept = keeper.replace(alloc, "s", encode(alloc, entries.as_slice())?.as_slice());
-    stack_is_known(&rt, alloc, &mut keeper)
+    let gate = Noting::new(alloc).expect(rt, "memory");
+    let entries = plain(rt, alloc, &none, &program, &Aim::All, &gate).expect(rt, "memory");
+    assert_eq!(rt; entries.len(), 8);
+    assert!(rt; agrees(&none, entries.as_slice()));
+    assert_eq!(rt; gate.count(0), Some(8));
+    encode(alloc, entries.as_slice()).expect(rt, "memory")
+}
+
+#[test]
+fn the_stack_module_is_answered_plainly(rt: HostRuntime) {
+    let alloc = rt.alloc();
+    let bytes = stack_store(&rt, alloc);
+    let mut keeper = keeper_of(&rt, alloc, Some(bytes.as_slice()), NEVER);
+    stack_is_known(&rt, alloc, &mut keeper);
 }

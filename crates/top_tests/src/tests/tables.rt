@@ -197,3 +197,71 @@ pub const REFUSED_BELOW: [(&str, u32, u16); 11] = [
         134,
     ),
 ];
+
+/// A text in pieces, and how often each stands there.
+pub type Pieces<'a> = &'a [(&'a str, usize)];
+
+/// Files that are too long, and the code.
+pub const TOO_LONG: [(Pieces, u16); 5] = [
+    (&[("int ", 1), ("a", 65), ("(void) { return 1; }", 1)], 105),
+    (
+        &[
+            ("int f(void) { return ", 1),
+            ("(", 70),
+            ("1", 1),
+            (")", 70),
+            ("; }", 1),
+        ],
+        112,
+    ),
+    (
+        &[("int f(int a) { ", 1), ("a = 1; ", 520), ("return a; }", 1)],
+        131,
+    ),
+    (&[("void f(int a) { ", 1), ("a = 1; ", 512), ("}", 1)], 131),
+    (
+        &[("int f(int a) { return a", 1), (" + a", 17), ("; }", 1)],
+        132,
+    ),
+];
+
+/// Files as long as they may be, and the report.
+pub const LONGEST: [(Pieces, &str); 2] = [
+    // With the node that closes the body, 512 nodes.
+    (
+        &[("void f(int a) { ", 1), ("a = 1; ", 511), ("}", 1)],
+        "ok\nf a.c 1\n pre emp\n post emp\ntotal 1 1 0\n",
+    ),
+    // Each addition takes a temporary.
+    (
+        &[("int f(int a) { return a", 1), (" + a", 16), ("; }", 1)],
+        "ok\nf a.c 1\n pre emp\n post emp ret=?1\ntotal 1 1 0\n",
+    ),
+];
+
+/// As many variables as a procedure may have.
+const LOCALS: &str =
+    "int b; int c; int d; int e; int f; int g; int h; int i; int j; int k; int l; int m; int n; int o; int p; int q; \
+    int r; int s; int t; int u; int v; int w; int x; int y; int z; int A; int B; int C; int D; int E; int F; int G; ";
+
+/// As many fields as a structure may have.
+const FIELDS: &str =
+    "int a; int b; int c; int d; int e; int f; int g; int h; int i; int j; int k; int l; int m; int n; int o; int p; ";
+
+/// Files with as many variables or fields as there may be, and the report.
+pub const LARGEST: [(Pieces, &str); 2] = [
+    (
+        &[("void f(void) { ", 1), (LOCALS, 1), ("}", 1)],
+        "ok\nf a.c 1\n pre emp\n post emp\ntotal 1 1 0\n",
+    ),
+    (
+        &[("struct s { ", 1), (FIELDS, 1), ("};", 1)],
+        "ok\ntotal 0 0 0\n",
+    ),
+];
+
+/// Files with one more, and the code.
+pub const TOO_LARGE: [(Pieces, u16); 2] = [
+    (&[("void f(void) { int a; ", 1), (LOCALS, 1), ("}", 1)], 132),
+    (&[("struct s { ", 1), (FIELDS, 1), ("int q; };", 1)], 134),
+];

@@ -3,10 +3,8 @@
 //! shown has its own component solved, and those that it calls. Procedures that call each other are one component. What was asked of a program is
 //! solved for that program, though another was met before.
 
-pub const PEEK_THRICE: (&[u8], &[u8]) = (
-    b"put a.c 134\nstruct node { int data; struct node *next; };\nint get(struct node *x) { return x->data; }\nint peek(struct node *x) { return get(x); }\nreport\nput a.c 142\nstruct node { int data; struct node *next; };\nint get(struct node *x) { /* c */ return x->data; }\nint peek(struct node *x) { return get(x); }\nreport\nput a.c 145\nstruct node { int data; struct node *next; };\nint get(struct node *x) { int d = x->data; return d; }\nint peek(struct node *x) { return get(x); }\nreport\n",
-    b"RCPCPRCP",
-);
+pub const PEEK_THRICE: &[u8] =
+    b"put a.c 134\nstruct node { int data; struct node *next; };\nint get(struct node *x) { return x->data; }\nint peek(struct node *x) { return get(x); }\nreport\nput a.c 142\nstruct node { int data; struct node *next; };\nint get(struct node *x) { /* c */ return x->data; }\nint peek(struct node *x) { return get(x); }\nreport\nput a.c 145\nstruct node { int data; struct node *next; };\nint get(struct node *x) { int d = x->data; return d; }\nint peek(struct node *x) { return get(x); }\nreport\n";
 
 /// The three files that are put there.
 pub const PEEKS: [(&str, &[u8]); 3] = [
@@ -24,42 +22,30 @@ pub const PEEKS: [(&str, &[u8]); 3] = [
     ),
 ];
 
-const STARTED: (&[u8], &[u8]) = (
-    b"put a.c 134\nstruct node { int data; struct node *next; };\nint get(struct node *x) { return x->data; }\nint peek(struct node *x) { return get(x); }\nstart\n",
-    b"R",
-);
+const STARTED: &[u8] =
+    b"put a.c 134\nstruct node { int data; struct node *next; };\nint get(struct node *x) { return x->data; }\nint peek(struct node *x) { return get(x); }\nstart\n";
 
-const SHOWN: (&[u8], &[u8]) = (
-    b"put a.c 134\nstruct node { int data; struct node *next; };\nint get(struct node *x) { return x->data; }\nint peek(struct node *x) { return get(x); }\nshow get\n",
-    b"RCP",
-);
+const SHOWN: &[u8] =
+    b"put a.c 134\nstruct node { int data; struct node *next; };\nint get(struct node *x) { return x->data; }\nint peek(struct node *x) { return get(x); }\nshow get\n";
 
-const SHOWN_TWICE: (&[u8], &[u8]) = (
-    b"put a.c 134\nstruct node { int data; struct node *next; };\nint get(struct node *x) { return x->data; }\nint peek(struct node *x) { return get(x); }\nshow get\nshow peek\nshow get\n",
-    b"RCPCP",
-);
+const SHOWN_TWICE: &[u8] =
+    b"put a.c 134\nstruct node { int data; struct node *next; };\nint get(struct node *x) { return x->data; }\nint peek(struct node *x) { return get(x); }\nshow get\nshow peek\nshow get\n";
 
-const NONE_SHOWN: (&[u8], &[u8]) = (
-    b"put a.c 134\nstruct node { int data; struct node *next; };\nint get(struct node *x) { return x->data; }\nint peek(struct node *x) { return get(x); }\nshow gone\n",
-    b"",
-);
+const NONE_SHOWN: &[u8] =
+    b"put a.c 134\nstruct node { int data; struct node *next; };\nint get(struct node *x) { return x->data; }\nint peek(struct node *x) { return get(x); }\nshow gone\n";
 
-const PAIR_TWICE: (&[u8], &[u8]) = (
-    b"put a.c 134\nint g(int k);\nint f(int k) { if (k == 0) { return k; } return g(k - 1); }\nint g(int k) { if (k == 0) { return k; } return f(k - 1); }\nreport\nreport\n",
-    b"RCP",
-);
+const PAIR_TWICE: &[u8] =
+    b"put a.c 134\nint g(int k);\nint f(int k) { if (k == 0) { return k; } return g(k - 1); }\nint g(int k) { if (k == 0) { return k; } return f(k - 1); }\nreport\nreport\n";
 
-pub const CHANGED_AND_BACK: (&[u8], &[u8]) = (
-    b"put a.c 89\nstruct node { int data; struct node *next; };\nint get(struct node *x) { return x->data; }\nstart\nput a.c 102\nstruct node { int data; struct node *next; };\nvoid walk(struct node *x) { while (x) { x = x->next; } }\nstart\nput a.c 89\nstruct node { int data; struct node *next; };\nint get(struct node *x) { return x->data; }\nreport\n",
-    b"RRRCP",
-);
+pub const CHANGED_AND_BACK: &[u8] =
+    b"put a.c 89\nstruct node { int data; struct node *next; };\nint get(struct node *x) { return x->data; }\nstart\nput a.c 102\nstruct node { int data; struct node *next; };\nvoid walk(struct node *x) { while (x) { x = x->next; } }\nstart\nput a.c 89\nstruct node { int data; struct node *next; };\nint get(struct node *x) { return x->data; }\nreport\n";
 
 pub const WORK: [(&[u8], &[u8]); 7] = [
-    PEEK_THRICE,
-    CHANGED_AND_BACK,
-    STARTED,
-    SHOWN,
-    SHOWN_TWICE,
-    NONE_SHOWN,
-    PAIR_TWICE,
+    (PEEK_THRICE, b"RCPCPRCP"),
+    (CHANGED_AND_BACK, b"RRRCP"),
+    (STARTED, b"R"),
+    (SHOWN, b"RCP"),
+    (SHOWN_TWICE, b"RCPCP"),
+    (NONE_SHOWN, b""),
+    (PAIR_TWICE, b"RCP"),
 ];

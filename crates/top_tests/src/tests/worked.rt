@@ -1,6 +1,8 @@
 //! Files whose reports were worked by hand, each with the reply and the status that goes with it.
 
+use super::calls::{Call, SESSION, Stream};
 use heapan_top::Status;
+use stack_module::STACK;
 
 /// Files that are put as `a.c`.
 pub const WORKED: [(&str, &str, Status); 14] = [
@@ -208,7 +210,15 @@ total 1 1 0
     ),
 ];
 
-/// The report on the stack module, put as `stack.c`.
+/// A session that puts the stack module as `stack.c`, with these bytes behind it.
+pub fn with_stack(behind: &'static [u8]) -> Call<'static> {
+    Call {
+        stream: Stream::Put("stack.c", STACK, behind),
+        ..SESSION
+    }
+}
+
+/// What a report on it is answered.
 pub const STACK_REPLY: &str = "ok
 make stack.c 13
  pre emp

@@ -1,10 +1,7 @@
-use Rattle.std.proofs.Common.{rules}
-use Rattle.shape_data.specs.WellFormed.{IsKey, storable}
+use Rattle.shape_data.specs.WellFormed.{storable}
 use Rattle.certificate_laws.specs.Limits.{analysable}
 use Rattle.certificate_laws.proofs.LimitLaws.{key_widens, storable_is_analysable}
 use Rattle.solving_tests.proofs.comp_solve_tests.answer_to.Goals as goal
 
 pub solve-requires : goal.solve-requires
-solve-requires c =
-    let is : IsKey storable c.args.key.now = search rules in
-    key_widens storable analysable c.args.key.now storable_is_analysable.0 is
+solve-requires c = key_widens storable analysable c.args.key.now storable_is_analysable.0 c.requires

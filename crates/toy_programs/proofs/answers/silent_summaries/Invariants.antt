@@ -1,7 +1,7 @@
 use Rattle.std.proofs.Common.{◌≡◌, List, [], All, take}
 use Rattle.shape_data.specs.declared.program.StructDef.{StructDef}
 use Rattle.shape_data.specs.WellFormed.{storable, AreSummaries, HasReason}
-use Rattle.claim_tests.proofs.claim_core_tests.summaries.Given as goal
+use Rattle.toy_programs.proofs.answers.silent_summaries.Given as goal
 
 abbrev pub invariant-loop-flow : goal.invariant-loop-flow
 invariant-loop-flow l = record {

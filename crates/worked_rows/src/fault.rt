@@ -1,13 +1,14 @@
 //! Why a row has no answer.
 use std::alloc::AllocError;
 use std::io;
-use sym_text::BadSpec;
 
 /// Why a row has no answer.
 #[derive(Clone, Copy, Drop, Debug)]
 pub enum Fault {
     /// It is no row.
     Row,
+    /// Its text of C is refused.
+    Refused,
     /// A text in it is no heap or post, from this byte on.
     Text(u32),
     /// What was found could not be printed.
@@ -18,15 +19,6 @@ pub enum Fault {
 impl From<AllocError> for Fault {
     fn from(_: AllocError) -> Fault {
         Fault::OutOfMemory
-    }
-}
-
-impl From<BadSpec> for Fault {
-    fn from(bad: BadSpec) -> Fault {
-        match bad {
-            BadSpec::At { offset } => Fault::Text(offset),
-            BadSpec::OutOfMemory => Fault::OutOfMemory,
-        }
     }
 }
 

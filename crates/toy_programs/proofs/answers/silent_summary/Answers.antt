@@ -1,7 +1,7 @@
 use Rattle.shape_data.specs.declared.answer.Reason.TheVariants.{Endless}
 use Rattle.std.proofs.Common.{Some}
 use Rattle.claim_core.proofs.Summaries.{silent_is}
-use Rattle.claim_tests.proofs.claim_core_tests.summary.Goals as goal
+use Rattle.toy_programs.proofs.answers.silent_summary.Goals as goal
 
 pub returns-clause-is : goal.returns-clause-is
 returns-clause-is c = λ structs.

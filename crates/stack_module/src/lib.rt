@@ -1,6 +1,7 @@
-//! The stack module.
+//! The stack module of the examples: one file of C, of which tests of several crates ask what each layer makes.
+#![tactic(auto)]
 
-/// The stack module.
+/// The file as bytes of C.
 pub const STACK: &[u8] = b"#include <stdlib.h>
 
 typedef struct node {
