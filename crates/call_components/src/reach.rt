@@ -5,10 +5,10 @@ ghost use Rattle.call_components.specs.Reaching.{AreDefined, AreMarked, AreReach
 use std::alloc::{AllocError, Global};
 
 /// Whether a number is marked. What is outside is not.
-pub fn is_marked(marks: &[bool], number: u32) -> bool
+pub fn is_marked(marks: &[bool], number: usize) -> bool
     ensures { result ≡ marked marks.now number }
 {
-    match marks.get(number as usize) {
+    match marks.get(number) {
         Some(mark) => *mark,
         None => false,
     }

@@ -1,13 +1,13 @@
 //! Which classes may be listed, and for whom each of the others waits. A class waits for one at a time of those that it calls outside of
 //! itself, and is looked at again when that one is listed; so each call is looked at once.
-ghost use Rattle.std.specs.Prelude.{◌≡◌, ◌∷◌, ◌++◌, [], List, ℕ, ◌<◌, true, false, map, length, replicate, All, IfNone, IfOk, IfSome, OnOk};
+ghost use Rattle.std.specs.Prelude.{◌≡◌, ◌∷◌, ◌++◌, [], List, ℕ, ◌<◌, true, false, map, length, All, IfNone, IfOk, IfSome, OnOk};
 ghost use Rattle.std.specs.List.{list_any};
 ghost use Rattle.component_keys.specs.Components.{calls_of, holds};
 ghost use Rattle.call_components.specs.Reaching.{AreDefined, marked, rows};
 ghost use Rattle.call_components.specs.Sorting.{below};
 ghost use Rattle.call_components.specs.Waiting.{AreNeeded, AreWaiting, IsBounded, IsFirst, calls_outside, is_listed as is_listed_in, outside_of, places_in};
 
-use crate::calls::callees_of;
+use crate::calls::{callees_of, empty_rows};
 use crate::classes::are_of_kind;
 use crate::places::Places;
 use crate::reach::is_marked;
@@ -75,17 +75,6 @@ fn all_outside(
     Ok(made)
 }
 
-/// So many empty rows.
-fn empty_rows(alloc: Global, count: usize) -> Result<Vec<Vec<usize>>, AllocError>
-    ensures { IfOk result (λ made. rows made.items ≡ replicate count []) }
-{
-    let mut made: Vec<Vec<usize>> = Vec::with_capacity(alloc, count)?;
-    for _number in 0..count {
-        made.push(Vec::new(alloc))?;
-    }
-    Ok(made)
-}
-
 /// The places below.
 fn places_below(alloc: Global, count: usize) -> Result<Vec<usize>, AllocError>
     ensures { IfOk result (λ places. places.items ≡ below count) }
@@ -106,7 +95,7 @@ fn last_missing(listed: &[bool], row: &mut Vec<u32>) -> Option<u32>
 {
     while let Some(number) = row.last() {
         let number = *number;
-        if !is_marked(listed, number) {
+        if !is_marked(listed, number as usize) {
             return Some(number);
         }
         let _listed = row.pop();
@@ -201,7 +190,9 @@ pub fn wake_each(
 fn is_listed(listed: &[bool], class: &[u32]) -> bool
     ensures { result ≡ list_any (marked listed.now) class.now }
 {
-    class.iter().any(|number| is_marked(listed, *number))
+    class
+        .iter()
+        .any(|number| is_marked(listed, *number as usize))
 }
 
 /// Takes the place of the first class among those that are ready and not listed.

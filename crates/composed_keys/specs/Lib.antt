@@ -3,3 +3,4 @@ pub mod Rows
 pub mod Outside
 pub mod Used
 pub mod Calling
+pub mod Callees

@@ -9,7 +9,7 @@ pub mod programs;
 pub mod rows;
 pub mod structures;
 
-pub use callees::calls_of;
+pub use callees::{callee_of, callee_with, calls_of, specs_of, summary_of};
 pub use keys::{are_flows, is_key_of, key_of};
 pub use programs::components_of;
 pub use rows::{Component, Outer, Structures};

@@ -7,19 +7,8 @@ ghost use Rattle.composed_keys.specs.Outside.{AreAhead, AreCallers, AreNoted, Ar
 ghost use Rattle.composed_keys.specs.Rows.{outer_in, outer_row};
 
 use crate::rows::{Component, Outer};
-use call_components::calls::callees_of;
+use call_components::calls::{callees_of, empty_rows};
 use std::alloc::{AllocError, Global};
-
-/// So many empty rows.
-fn empty_rows(alloc: Global, count: usize) -> Result<Vec<Vec<u32>>, AllocError>
-    ensures { IfOk result (λ made. rows made.items ≡ replicate count []) }
-{
-    let mut made: Vec<Vec<u32>> = Vec::with_capacity(alloc, count)?;
-    for _place in 0..count {
-        made.push(Vec::new(alloc))?;
-    }
-    Ok(made)
-}
 
 /// Puts a caller behind those of each of its callees.
 #[tactic(auto, using(crate::proofs::Called::more_noted))]

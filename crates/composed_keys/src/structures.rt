@@ -282,7 +282,7 @@ fn marked_structs(
 {
     let mut used = Row::new(alloc);
     for number in order {
-        if is_marked(marks, *number) {
+        if is_marked(marks, *number as usize) {
             used.push(copy_of(&structs[*number as usize])?)?;
         }
     }

@@ -16,16 +16,6 @@ use shape_data::program::Program;
 use std::alloc::{AllocError, Global};
 use summary_book::Aim;
 
-/// Whether a place is marked. What is outside is not.
-pub fn is_set(marks: &[bool], place: usize) -> bool
-    ensures { result ≡ marked marks.now place }
-{
-    match marks.get(place) {
-        Some(mark) => *mark,
-        None => false,
-    }
-}
-
 /// Whether the procedure at a place of the program has the name.
 fn is_named(program: &Program, number: u32, name: &Name) -> bool
     ensures { result ≡ has_own_name name.now (slice_get program.now.procs number) }

@@ -14,9 +14,10 @@ ghost use Rattle.solve_job.specs.Solves.{IsStoredEntry};
 ghost use Rattle.solve_laws.specs.Solving.{solve as solve_of};
 ghost use Rattle.store_json.specs.Entries.{IsStorable};
 
-use crate::aims::{aimed_in, is_set};
+use crate::aims::aimed_in;
 use crate::keys::key_in;
 use crate::laws::known_is_storable;
+use call_components::reach::is_marked;
 use certificate_laws::limits::limits_widen;
 use comp_solve::solve;
 use composed_keys::{Component, components_of, structures_of};
@@ -95,7 +96,7 @@ fn table_of<R: Wait, G: Gate>(
     let structures = structures_of(alloc, &program.structs)?;
     let mut table = Vec::with_capacity(alloc, components.len())?;
     for (place, row) in components.iter().enumerate() {
-        if !is_set(marks, place) {
+        if !is_marked(marks, place) {
             table.push(None)?;
             continue;
         }

@@ -3,16 +3,16 @@ ghost use Rattle.std.specs.Prelude.{◌≡◌, ◌<◌, map, length, All, IfOk};
 ghost use Rattle.std.specs.List.{filter_map};
 ghost use Rattle.std.specs.Option.{option_copied};
 ghost use Rattle.bottom_up.specs.BottomUp.{specs_known};
-ghost use Rattle.component_keys.specs.Keys.{flows_of, specs_in};
+ghost use Rattle.component_keys.specs.Keys.{flows_of};
 ghost use Rattle.composed_keys.specs.Rows.{component_value, outer_value};
 ghost use Rattle.composed_keys.specs.Used.{AreStructures};
 ghost use Rattle.plain_answers.specs.Table.{answer_at, callee_as, callee_over, entry_answer, key_by};
 
-use composed_keys::{Component, Outer, Structures, key_of};
+use composed_keys::{Component, Outer, Structures, callee_with, key_of, specs_of};
 use shape_data::answer::{Answer, Callee, Kept, Key};
 use shape_data::program::{Flow, Program};
 use shape_data::symbolic::Spec;
-use shape_data::{Name, Row, copy_of};
+use shape_data::{Name, Row};
 use std::alloc::{AllocError, Global};
 
 /// The answer of an entry, where there is one.
@@ -38,35 +38,22 @@ fn answer_of(table: &[Option<Kept>], component: u32) -> Option<&Answer>
     }
 }
 
-/// The specs that an answer has for the procedure of a name.
-fn specs_from(alloc: Global, answer: &Answer, name: &Name) -> Result<Row<Spec>, AllocError>
-    ensures { IfOk result (λ specs. specs ≡ specs_in answer.now name.now) }
-{
-    match answer.procs.iter().find(|summary| summary.name == *name) {
-        Some(summary) => Ok(copy_of(&summary.specs)?),
-        None => Ok(Row::new(alloc)),
-    }
-}
-
 /// The specs that the answer of a component has for the procedure of a name; none where there is no answer.
-fn specs_of(alloc: Global, answer: Option<&Answer>, name: &Name) -> Result<Row<Spec>, AllocError>
+fn specs_by(alloc: Global, answer: Option<&Answer>, name: &Name) -> Result<Row<Spec>, AllocError>
     ensures { IfOk result (λ specs. specs ≡ specs_known (option_copied answer.entry) name.now) }
 {
     match answer {
-        Some(answer) => specs_from(alloc, answer, name),
+        Some(answer) => specs_of(alloc, answer, name),
         None => Ok(Row::new(alloc)),
     }
 }
 
 /// A procedure as a callee, with the specs that its component's answer has for it.
-fn callee_of(alloc: Global, flow: &Flow, answer: Option<&Answer>) -> Result<Callee, AllocError>
+fn callee_by(alloc: Global, flow: &Flow, answer: Option<&Answer>) -> Result<Callee, AllocError>
     ensures { IfOk result (λ callee. callee ≡ callee_as flow.now (option_copied answer.entry)) }
 {
-    Ok(Callee {
-        name: copy_of(&flow.name)?,
-        params: copy_of(&flow.params)?,
-        specs: specs_of(alloc, answer, &flow.name)?,
-    })
+    let specs = specs_by(alloc, answer, &flow.name)?;
+    callee_with(flow, specs)
 }
 
 /// The procedures outside of a component as callees.
@@ -83,7 +70,7 @@ fn callees_of(
     for outer in outers {
         let flow = &program.procs[outer.number as usize].flow;
         let answer = answer_of(table, outer.component);
-        callees.push(callee_of(alloc, flow, answer)?)?;
+        callees.push(callee_by(alloc, flow, answer)?)?;
     }
     Ok(callees)
 }

@@ -15,6 +15,7 @@ use Rattle.component_keys.specs.Keys.{Component, Outer, flows_of, names_of, spec
 use Rattle.component_keys.proofs.Basics.{both_true, not_none, some_same, mapped_some, at_map}
 use Rattle.composed_keys.specs.declared.rows.Component.{Component as ComponentRow}
 use Rattle.composed_keys.specs.declared.rows.Outer.{Outer as OuterRow}
+use Rattle.composed_keys.specs.Callees.{known_as}
 use Rattle.composed_keys.specs.Rows.{component_value, outer_value}
 use Rattle.claim_core.specs.declared.event.Event.{Event as Told}
 use Rattle.claim_laws.specs.World.{World, Slot, Standing, both, given_by, given, settled_in, slot_of, standings, standing_at}
@@ -22,7 +23,7 @@ use Rattle.claim_laws.specs.Logs.{settled_at}
 use Rattle.claim_laws.proofs.Still.{standings_known, part_at}
 use Rattle.claim_laws.proofs.Steps.{settled_slot}
 use Rattle.summary_book.specs.declared.rows.SlotRow.{SlotRow}
-use Rattle.summary_book.specs.Rows.{AreSlots, IsSlot, known_as, known_by, known_row, row_answer}
+use Rattle.summary_book.specs.Rows.{AreSlots, IsSlot, known_by, known_row, row_answer}
 use Rattle.summary_book.proofs.Here.{settled_stands}
 use Rattle.summary_book.proofs.Lists.{there_is}
 

@@ -12,8 +12,9 @@ use Rattle.shape_data.specs.declared.program.StructDef.{StructDef}
 use Rattle.shape_data.specs.WellFormed.{IsProgram}
 use Rattle.call_components.specs.Reaching.{marked, rows}
 use Rattle.component_keys.specs.Components.{same_names}
-use Rattle.component_keys.specs.Keys.{Component, flows_of, names_of, key_over, program_components, specs_in}
+use Rattle.component_keys.specs.Keys.{Component, flows_of, names_of, key_over, program_components}
 use Rattle.component_keys.specs.Tests.{key_test}
+use Rattle.composed_keys.specs.Callees.{known_as}
 use Rattle.composed_keys.specs.Rows.{AreWithin, component_value}
 use Rattle.composed_keys.specs.Used.{AreStructures}
 use Rattle.composed_keys.specs.declared.rows.Outer.{Outer as OuterRow}
@@ -94,10 +95,7 @@ AreOut log program rows out = AllZip (IsOutRow log program) rows out
 
 -- ---- callees
 
--- a procedure as a callee, with the specs that an answer has for it
-abbrev pub known_as : Flow → Answer → Callee
-known_as flow answer = record { name = flow.name; params = flow.params; specs = specs_in answer flow.name }
-
+-- a procedure as a callee, with what an answer has for it
 abbrev pub known_by : Option Flow → Option Answer → Option Callee
 known_by None answer = None
 known_by (Some flow) None = None

@@ -16,7 +16,7 @@ ghost use Rattle.claim_core.specs.Views.{solution_of};
 
 use crate::places::{key_at, slot_at};
 use crate::rows::{OutRow, Parts, SlotRow};
-use crate::settled::is_set;
+use call_components::reach::is_marked;
 use claim_core::{Claim, Event};
 use shape_data::answer::{Answer, Kept, Key};
 use shape_data::exact::share;
@@ -115,7 +115,7 @@ pub fn collected(
 {
     let mut all = Vec::new(alloc);
     for place in 0..parts.components.len() {
-        if !is_set(aim, place) {
+        if !is_marked(aim, place) {
             continue;
         }
         let Some(row) = slot_at(slots, place) else {

@@ -1,30 +1,20 @@
 //! Callees with the specs that the answers of their components have for them.
 ghost use Rattle.std.specs.Prelude.{◌≡◌, ◌<◌, ◌↔◌, IsTrue, Some, None, All, IfOk, IsSome, length, map, slice_index_or};
-ghost use Rattle.std.specs.List.{find};
-ghost use Rattle.std.specs.Prelude.{nat_eq};
-ghost use Rattle.std.specs.Cmp.Lexicographic.{pointwise};
-ghost use Rattle.std.specs.Option.{option_copied};
 ghost use Rattle.component_keys.specs.Keys.{specs_in};
+ghost use Rattle.composed_keys.specs.Callees.{known_as};
 ghost use Rattle.composed_keys.specs.declared.rows.Outer.{Outer as OuterRow};
 ghost use Rattle.shape_data.specs.declared.answer.Callee.{Callee};
-ghost use Rattle.summary_book.specs.Rows.{known_as, known_row, row_answer};
+ghost use Rattle.summary_book.specs.Rows.{known_row, row_answer};
 
 use crate::places::{row_answer, slot_at};
 use crate::rows::SlotRow;
 use claim_core::Event;
-use composed_keys::Outer;
-use shape_data::answer::{Answer, Callee, ProcSummary};
+use composed_keys::{Outer, callee_of, summary_of};
+use shape_data::answer::{Answer, Callee};
 use shape_data::program::{Flow, Program};
 use shape_data::symbolic::Spec;
-use shape_data::{Name, Row, copy_of, is_same};
+use shape_data::{Name, Row, is_same};
 use std::alloc::{AllocError, Global};
-
-/// What an answer says of the procedure of a name.
-fn summary_of<'a>(answer: &'a Answer, name: &Name) -> Option<&'a ProcSummary>
-    ensures { option_copied result ≡ find (λ summary. pointwise nat_eq summary.name name.now) answer.now.procs }
-{
-    answer.procs.iter().find(|summary| summary.name == *name)
-}
 
 /// Whether an answer has these specs for the procedure of a name.
 fn has_specs(answer: &Answer, name: &Name, specs: &Row<Spec>) -> bool
@@ -82,27 +72,6 @@ pub fn are_known(
         }
     }
     true
-}
-
-/// The specs that an answer has for the procedure of a name.
-fn specs_of(alloc: Global, answer: &Answer, name: &Name) -> Result<Row<Spec>, AllocError>
-    ensures { IfOk result (λ specs. specs ≡ specs_in answer.now name.now) }
-{
-    match summary_of(answer, name) {
-        Some(summary) => copy_of(&summary.specs),
-        None => Ok(Row::new(alloc)),
-    }
-}
-
-/// A procedure as a callee, with the specs that an answer has for it.
-fn callee_of(alloc: Global, flow: &Flow, answer: &Answer) -> Result<Callee, AllocError>
-    ensures { IfOk result (λ callee. callee ≡ known_as flow.now answer.now) }
-{
-    Ok(Callee {
-        name: copy_of(&flow.name)?,
-        params: copy_of(&flow.params)?,
-        specs: specs_of(alloc, answer, &flow.name)?,
-    })
 }
 
 /// What is known of a procedure outside.

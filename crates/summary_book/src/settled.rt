@@ -14,18 +14,9 @@ ghost use Rattle.summary_book.specs.Settled.{AreExact, HasKnown, IsExactAt, Stay
 use crate::known::are_known;
 use crate::places::{key_at, slot_at};
 use crate::rows::{Parts, SlotRow};
+use call_components::reach::is_marked;
 use claim_core::Event;
 use composed_keys::Outer;
-
-/// Whether a place is marked. What is outside is not.
-pub fn is_set(marks: &[bool], place: usize) -> bool
-    ensures { result ≡ marked marks.now place }
-{
-    match marks.get(place) {
-        Some(mark) => *mark,
-        None => false,
-    }
-}
 
 /// How many places are marked.
 pub fn count_set(marks: &[bool]) -> usize
@@ -40,7 +31,7 @@ pub fn are_marked(marks: &[bool], outer: &[Outer]) -> bool
 {
     outer
         .iter()
-        .all(|one| is_set(marks, one.component as usize))
+        .all(|one| is_marked(marks, one.component as usize))
 }
 
 /// Whether the key of a claim has the callees that a component has now, with their specs.
@@ -107,7 +98,7 @@ pub fn look_at(
     ensures found { IsExactAt (replay (events_of log.now)) marks.old.items place → is_some (settled_at (replay (events_of log.now)) place) ≡ true → marked marks.new.items place ≡ true }
     ensures exact { AreExact (replay (events_of log.now)) marks.old.items place → AreExact (replay (events_of log.now)) marks.new.items (place + 1) }
 {
-    if is_set(marks, place) {
+    if is_marked(marks, place) {
         return;
     }
     if settling(parts, log, slots, marks, place).is_some() {

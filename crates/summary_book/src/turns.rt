@@ -16,7 +16,8 @@ ghost use Rattle.summary_book.specs.Settled.{IsExactAt, IsTurn, StayMarked};
 ghost use Rattle.summary_book.specs.Found.{IsAllFound, IsFound, lesser};
 
 use crate::rows::{OutRow, Parts, SlotRow};
-use crate::settled::{are_marked, has_known, is_set, settling};
+use crate::settled::{are_marked, has_known, settling};
+use call_components::reach::is_marked;
 use claim_core::Event;
 use shape_data::is_same;
 
@@ -145,10 +146,10 @@ pub fn first_free(
 {
     let mut least: Option<u64> = None;
     for place in 0..parts.components.len() {
-        if !is_set(aim, place) {
+        if !is_marked(aim, place) {
             continue;
         }
-        if is_set(marks, place) {
+        if is_marked(marks, place) {
             continue;
         }
         match turn_of(parts, log, slots, marks, out, place) {

@@ -37,15 +37,15 @@ entry_for-requires g c =
     (sym
     (c.in_ok-key.ensures ∙ ap (λ (l : List (Option Kept)). key_by program.structs (answer_at l) part) c.deref-in-loop-place.ensures.value ∙
     key_is (lookup loaded) program (marked c.args.marks.now) c.requires.closed place part c.loop-place.table.items at c.loop-place.invariant
-    (sym c.is_set.ensures ∙ c.if-not-is_set.false)))
+    (sym c.is_marked.ensures ∙ c.if-not-is_marked.false)))
     (key_fits loaded program (c.known_is_storable.ensures loaded c.requires.loaded program c.requires.formed c.requires.sizes) place part at)
 
-pub loop-place-preserved-then-not-is_set : goal.loop-place-preserved-then-not-is_set
-loop-place-preserved-then-not-is_set g c =
+pub loop-place-preserved-then-not-is_marked : goal.loop-place-preserved-then-not-is_marked
+loop-place-preserved-then-not-is_marked g c =
     let known = known_by (lookup c.args.loaded.now) c.args.program.now in
     subst (IsTable (marked c.args.marks.now) known (c.loop-place.place + 1)) (sym c.in_ok-push.ensures.items)
     (none_more (lookup c.args.loaded.now) c.args.program.now (marked c.args.marks.now) c.loop-place.place c.loop-place.table.items c.loop-place.invariant
-    (sym c.is_set.ensures ∙ c.if-not-is_set.true))
+    (sym c.is_marked.ensures ∙ c.if-not-is_marked.true))
 
 pub loop-place-preserved : goal.loop-place-preserved
 loop-place-preserved g c =
@@ -59,6 +59,6 @@ loop-place-preserved g c =
     (row_at c.args.components.now c.args.components.now place c.index-components-place.result refl c.loop-place-test.true c.index-components-place.is) in
     subst (IsTable (marked c.args.marks.now) known (place + 1)) (sym c.in_ok-push-2.ensures.items)
     (one_more (lookup loaded) program (marked c.args.marks.now) c.requires.closed place part c.loop-place.table.items c.in_ok-entry.entry at c.loop-place.invariant
-    (sym c.is_set.ensures ∙ c.if-not-is_set.false)
+    (sym c.is_marked.ensures ∙ c.if-not-is_marked.false)
     (c.in_ok-entry.ensures ∙
     ap (answered (lookup loaded)) (c.in_ok-key.ensures ∙ ap (λ (l : List (Option Kept)). key_by program.structs (answer_at l) part) c.deref-in-loop-place.ensures.value)))

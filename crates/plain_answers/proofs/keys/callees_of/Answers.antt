@@ -22,9 +22,9 @@ loop-outer-preserved c =
     let flow : slice_get (flows_of c.args.program.now) one.number ≡ Some c.index-deref-outer.result.flow =
     slice_get-map (λ (p : Proc). p.flow) procs one.number ∙ ap (option_map (λ (p : Proc). p.flow)) proc in
     c.in_ok-push.ensures.ok ∙
-    (ap (λ l. l ++ c.in_ok-callee_of.field-0 ∷ []) c.loop-outer.invariant ∙
+    (ap (λ l. l ++ c.in_ok-callee_by.field-0 ∷ []) c.loop-outer.invariant ∙
     (ap (λ x. map (callee_over (answer_at c.args.table.now)) (filter_map (outer_value (flows_of c.args.program.now)) (take c.loop-outer.outer-index c.args.outers.now)) ++ x ∷ [])
-    (c.in_ok-callee_of.ensures ∙ ap (λ (p : Proc). callee_as p.flow (option_copied c.answer_of-answer.result)) (sym c.index-deref-outer.is) ∙
+    (c.in_ok-callee_by.ensures ∙ ap (λ (p : Proc). callee_as p.flow (option_copied c.answer_of-answer.result)) (sym c.index-deref-outer.is) ∙
     ap (callee_as c.index-deref-outer.result.flow) c.answer_of-answer.ensures) ∙
     sym (callees_more c.args.program.now (answer_at c.args.table.now) c.args.outers.now c.loop-outer.outer-index one c.index-deref-outer.result.flow c.loop-outer-test.true
     (get_or_default c.args.outers.now c.loop-outer.outer-index one none c.loop-outer-test.true) flow)))

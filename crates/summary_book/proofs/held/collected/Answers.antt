@@ -15,7 +15,7 @@ pub unreachable-requires : goal.unreachable-requires
 unreachable-requires c =
     let lt : c.loop-place.place < length c.args.parts.now.components.items = (let t = c.loop-place-test.true in let e = c.len-place-end.ensures in let f = c.args.parts.now.components.ok.0 in omega (arith, t, e, f)) in
     let row = there_row c.args.parts.now.components.items c.loop-place.place lt in
-    no_slot c.args.log.now c.args.parts.now c.args.slots.now c.requires.sight c.loop-place.place row.0 row.1 c.args.aim.now c.requires.settled (sym c.is_set.ensures ∙ c.if-not-is_set.false) (sym c.slot_at.ensures ∙ c.in_default.is)
+    no_slot c.args.log.now c.args.parts.now c.args.slots.now c.requires.sight c.loop-place.place row.0 row.1 c.args.aim.now c.requires.settled (sym c.is_marked.ensures ∙ c.if-not-is_marked.false) (sym c.slot_at.ensures ∙ c.in_default.is)
 
 pub kept_in-requires-clause-key : goal.kept_in-requires-clause-key
 kept_in-requires-clause-key c =
@@ -29,16 +29,16 @@ kept_in-requires-clause-answer c =
     let row = there_row c.args.parts.now.components.items c.loop-place.place lt in
     has_answer c.args.log.now c.args.parts.now c.args.slots.now c.requires.sight c.loop-place.place row.0 row.1 c.in-Some.row (sym c.slot_at.ensures ∙ c.in-Some.is)
 
-pub loop-place-preserved-then-not-is_set : goal.loop-place-preserved-then-not-is_set
-loop-place-preserved-then-not-is_set c =
+pub loop-place-preserved-then-not-is_marked : goal.loop-place-preserved-then-not-is_marked
+loop-place-preserved-then-not-is_marked c =
     c.loop-place.invariant ∙
-    ap (λ l. map slot_solution (filter_map (settled_at (replay (events_of c.args.log.now))) l)) (sym (filter_range_out (marked c.args.aim.now) c.loop-place.place (sym c.is_set.ensures ∙ c.if-not-is_set.true)))
+    ap (λ l. map slot_solution (filter_map (settled_at (replay (events_of c.args.log.now))) l)) (sym (filter_range_out (marked c.args.aim.now) c.loop-place.place (sym c.is_marked.ensures ∙ c.if-not-is_marked.true)))
 
 pub loop-place-preserved : goal.loop-place-preserved
 loop-place-preserved c =
     let lt : c.loop-place.place < length c.args.parts.now.components.items = (let t = c.loop-place-test.true in let e = c.len-place-end.ensures in let f = c.args.parts.now.components.ok.0 in omega (arith, t, e, f)) in
     let row = there_row c.args.parts.now.components.items c.loop-place.place lt in
-    let reached = sym c.is_set.ensures ∙ c.if-not-is_set.false in
+    let reached = sym c.is_marked.ensures ∙ c.if-not-is_marked.false in
     let kept = c.in_ok-kept_in.field-0 in
     let own = kept_at c.args.log.now c.args.parts.now c.args.slots.now c.requires.sight c.loop-place.place row.0 row.1 c.args.aim.now c.requires.settled reached c.in-Some.row (sym c.slot_at.ensures ∙ c.in-Some.is) kept
     c.in_ok-kept_in.ensures.key c.in_ok-kept_in.ensures.answer in

@@ -10,30 +10,30 @@ use Rattle.summary_book.proofs.Search.{all_marked, exact_at, free_first, marked_
 use Rattle.summary_book.proofs.turns.first_free.Goals.{in-Settled, in-Blocked, in-Out}
 use Rattle.summary_book.proofs.turns.first_free.Goals as goal
 
-pub loop-place-preserved-then-not-is_set : goal.loop-place-preserved-then-not-is_set
-loop-place-preserved-then-not-is_set c = record {
-  seen = seen_outside (replay (events_of c.args.log.now)) (marked c.args.aim.now) c.loop-place.marks.items c.loop-place.least c.loop-place.place c.loop-place.invariant.seen (sym c.is_set.ensures ∙ c.if-not-is_set.true);
+pub loop-place-preserved-then-not-is_marked : goal.loop-place-preserved-then-not-is_marked
+loop-place-preserved-then-not-is_marked c = record {
+  seen = seen_outside (replay (events_of c.args.log.now)) (marked c.args.aim.now) c.loop-place.marks.items c.loop-place.least c.loop-place.place c.loop-place.invariant.seen (sym c.is_marked.ensures ∙ c.if-not-is_marked.true);
   stay = c.loop-place.invariant.stay;
 }
 
-pub loop-place-preserved-then-is_set : goal.loop-place-preserved-then-is_set
-loop-place-preserved-then-is_set c = record {
+pub loop-place-preserved-then-is_marked : goal.loop-place-preserved-then-is_marked
+loop-place-preserved-then-is_marked c = record {
   seen =
       seen_marked (replay (events_of c.args.log.now)) (marked c.args.aim.now) c.loop-place.marks.items c.loop-place.least c.loop-place.place c.loop-place.invariant.seen
-      (ap (λ m. marked m c.loop-place.place) (sym c.deref.ensures.value) ∙ sym c.is_set-in-loop-place.ensures ∙ c.if-is_set.true);
+      (ap (λ m. marked m c.loop-place.place) (sym c.deref.ensures.value) ∙ sym c.is_marked-in-loop-place.ensures ∙ c.if-is_marked.true);
   stay = c.loop-place.invariant.stay;
 }
 
 pub turn_of-requires-clause-exact : goal.turn_of-requires-clause-exact
 turn_of-requires-clause-exact c =
     subst (λ m. IsExactAt (replay (events_of c.args.log.now)) m c.loop-place.place) (sym c.deref-in-loop-place.ensures.value)
-    (exact_at (replay (events_of c.args.log.now)) (marked c.args.aim.now) c.loop-place.marks.items c.loop-place.least c.loop-place.place c.requires.aim c.loop-place.invariant.seen (sym c.is_set.ensures ∙ c.if-not-is_set.false))
+    (exact_at (replay (events_of c.args.log.now)) (marked c.args.aim.now) c.loop-place.marks.items c.loop-place.least c.loop-place.place c.requires.aim c.loop-place.invariant.seen (sym c.is_marked.ensures ∙ c.if-not-is_marked.false))
 
 pub returns-in-Free-clause-found : goal.returns-in-Free-clause-found
 returns-in-Free-clause-found c =
     let e = c.in-Free.ensures in
     let first = free_first (replay (events_of c.args.log.now)) (marked c.args.aim.now) c.loop-place.marks.items c.loop-place.least c.loop-place.place in
-    (e.0, first e.0 c.loop-place.invariant.seen (sym c.is_set.ensures ∙ c.if-not-is_set.false) e.1)
+    (e.0, first e.0 c.loop-place.invariant.seen (sym c.is_marked.ensures ∙ c.if-not-is_marked.false) e.1)
 
 pub loop-place-preserved : goal.loop-place-preserved
 loop-place-preserved c =
@@ -44,7 +44,7 @@ loop-place-preserved c =
     let place = c.loop-place.place in
     let end : place < length c.args.parts.now.components.items = (let lt = c.loop-place-test.true in let e = c.len-place-end.ensures in let f = c.args.parts.now.components.ok.0 in omega (arith, lt, e, f)) in
     let within = within_marks log c.args.parts.now c.args.slots.now c.requires.sight marks place c.loop-place.invariant.seen.marks_are end in
-    let reached = sym c.is_set.ensures ∙ c.if-not-is_set.false in
+    let reached = sym c.is_marked.ensures ∙ c.if-not-is_marked.false in
     elim c.match-turn_of.branch [
       | in-Settled w ↦ record {
         seen =

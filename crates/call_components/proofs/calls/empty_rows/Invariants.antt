@@ -1,6 +1,6 @@
 use Rattle.std.proofs.Common.{◌≡◌, [], replicate}
 use Rattle.call_components.specs.Reaching.{rows}
-use Rattle.call_components.proofs.waiting.empty_rows.Given as goal
+use Rattle.call_components.proofs.calls.empty_rows.Given as goal
 
 abbrev pub invariant-loop-number : goal.invariant-loop-number
-invariant-loop-number l = rows l.made.items ≡ replicate l._number []
+invariant-loop-number g l = rows l.made.items ≡ replicate l._number []
