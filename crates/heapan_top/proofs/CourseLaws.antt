@@ -3,6 +3,7 @@ use Rattle.std.proofs.Common.{◌≡◌, ◌≢◌, ℕ, zero, suc, ◌+◌, ◌
 use Rattle.std.specs.Prelude.{IfNone, IfOk, IfSome, ◌==◌}
 use Rattle.std.proofs.lemmas.List.{append-nil}
 use Rattle.io_ports.specs.Bytes.{after_held, before_left}
+use Rattle.io_ports.proofs.ToldBytes.{after_held-append}
 use Rattle.session_lines.specs.declared.command.Command.{Command}
 use Rattle.session_lines.specs.declared.command.Command.TheVariants as command
 use Rattle.session_lines.specs.Lines.{IsFirst}
@@ -23,10 +24,6 @@ use Rattle.heapan_top.specs.Replies.{Course, Replies, beginning, malformed_line,
 pub held-nil : (held : Option (List ℕ)) → after_held held [] ≡ held
 held-nil None = refl
 held-nil (Some bytes) = ap Some (append-nil bytes)
-
-pub held-append : (held : Option (List ℕ)) (xs ys : List ℕ) → after_held (after_held held xs) ys ≡ after_held held (xs ++ ys)
-held-append None xs ys = refl
-held-append (Some bytes) xs ys = ap Some (append_assoc bytes xs ys)
 
 -- a front of the first bytes is one of all
 front-more : (count : ℕ) (xs ys : List ℕ) → (more : ℕ) × (take more (xs ++ ys) ≡ take count xs)
@@ -52,7 +49,7 @@ module _ (old new : Option (List ℕ)) where
   pub some_behind : (mid : Option (List ℕ)) (text others : List ℕ) → Appends old mid text → AppendsSome mid new others → AppendsSome old new (text ++ others)
   some_behind mid text others is (count, also) =
       let (more, same) = front-behind text others count in
-      (more, also ∙ ap (λ held. after_held held (take count others)) is ∙ held-append old text (take count others) ∙ ap (after_held old) (sym same))
+      (more, also ∙ ap (λ held. after_held held (take count others)) is ∙ after_held-append old text (take count others) ∙ ap (after_held old) (sym same))
 
 -- ---- statuses
 
@@ -123,7 +120,7 @@ module _ (one_reply : OneReply) where
     module _ (course after : Course) (stream rest text : List ℕ) (old mid new : Option (List ℕ)) (leads : Leads course stream text after rest) (written : Appends old mid text) where
       full_behind : (ended : Status) → AnswersInFull (Replies after rest) mid new ended → AnswersInFull (Replies course stream) old new ended
       full_behind ended (others, replies, all) =
-          (text ++ others, leads.leads others ended replies, all ∙ ap (λ held. after_held held others) written ∙ held-append old text others)
+          (text ++ others, leads.leads others ended replies, all ∙ ap (λ held. after_held held others) written ∙ after_held-append old text others)
 
       begins_behind : BeginsReplies (Replies after rest) mid new → BeginsReplies (Replies course stream) old new
       begins_behind some =
@@ -153,7 +150,7 @@ module _ (one_reply : OneReply) where
           leads = record {
             leads = λ others ended replies. subst (λ (whole : List ℕ). Replies course stream whole ended) (sym (append_assoc one.text then_goes.text others)) (one.leads.leads (then_goes.text ++ others) ended (then_goes.leads.leads others ended replies));
           };
-          appends = then_goes.appends ∙ ap (λ held. after_held held then_goes.text) one.appends ∙ held-append old one.text then_goes.text;
+          appends = then_goes.appends ∙ ap (λ held. after_held held then_goes.text) one.appends ∙ after_held-append old one.text then_goes.text;
         }
 
     pub under_way : (setting : Setting) (told left left' old between new : Option (List ℕ)) (mid after : Course) (result : Option Status) → result ≡ None → IsUnderWay setting told old mid left between →

@@ -7,6 +7,7 @@ use Rattle.std.specs.Option.{option_map}
 use Rattle.std.proofs.lemmas.List.{append-nil}
 use Rattle.io_ports.specs.Bytes.{after_held}
 use Rattle.io_ports.specs.Places.{now_has}
+use Rattle.io_ports.proofs.ToldBytes.{after_held-append}
 use Rattle.reporters.specs.declared.reporter.Entry.{Entry}
 use Rattle.reporters.specs.Feeding.{AreFed, steady_count}
 use Rattle.reporters.specs.Known.{Known}
@@ -29,7 +30,7 @@ use Rattle.heapan_top.specs.Laws.{FedIsFront, OneFeeding, SomeFed, SomeReply}
 use Rattle.heapan_top.specs.Parts.{EndsCounted, FeedsOn, IsAt, IsCutAnswer, IsCutShort, IsFedOn, IsReply, IsReplyFed, IsReplySaved, IsTurnFed, course_of, ended_of}
 use Rattle.heapan_top.specs.Replies.{Course, Replies, beginning, one_behind}
 use Rattle.heapan_top.specs.Stores.{given_last, last_of}
-use Rattle.heapan_top.proofs.CourseLaws.{held-append, held-nil}
+use Rattle.heapan_top.proofs.CourseLaws.{held-nil}
 
 -- ---- reporters
 
@@ -175,7 +176,7 @@ module _ (one two both : Type 0) (same : one → two → both) (olds mids news :
         left = is.left;
         leads = feeds_through course mid is.later stream on.rest is.left on.text is.text on.fed is.fed on.saved is.saved on.leads is.leads;
         appends =
-            is.appends ∙ ap (λ held. after_held held (is.text ++ is.more)) on.appends ∙ held-append old on.text (is.text ++ is.more)
+            is.appends ∙ ap (λ held. after_held held (is.text ++ is.more)) on.appends ∙ after_held-append old on.text (is.text ++ is.more)
             ∙ ap (after_held old) (sym (append_assoc on.text is.text is.more));
         next = is.next;
         were = fed_through one two both same on.fed is.fed olds mids news on.were is.were;
@@ -194,7 +195,7 @@ module _ (one two both : Type 0) (same : one → two → both) (olds mids news :
         rest = is.rest;
         is_left = is.is_left;
         leads = feeds_through course mid after stream on.rest is.rest on.text is.text on.fed is.fed on.saved is.saved on.leads is.leads;
-        appends = is.appends ∙ ap (λ held. after_held held is.text) on.appends ∙ held-append old on.text is.text;
+        appends = is.appends ∙ ap (λ held. after_held held is.text) on.appends ∙ after_held-append old on.text is.text;
         were = fed_through one two both same on.fed is.fed olds mids news on.were is.were;
         kept = is.kept ∙ ap (given_last is.saved) on.kept ∙ sym (given_through on.saved is.saved was);
       }

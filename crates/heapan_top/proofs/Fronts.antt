@@ -9,6 +9,7 @@ use Rattle.io_ports.specs.declared.keeper.Held.{Held}
 use Rattle.io_ports.specs.Places.{IsHeld, MOST_HELD}
 use Rattle.std.proofs.lemmas.List.Elements.{All-map, All-nil, All-weaker}
 use Rattle.io_ports.specs.Bytes.{after_held}
+use Rattle.io_ports.proofs.ToldBytes.{after_held-append}
 use Rattle.shape_data.specs.WellFormed.{storable}
 use Rattle.shape_data.specs.declared.answer.Kept.{Kept}
 use Rattle.claim_core.specs.Views.{Solution, solution_of}
@@ -28,7 +29,7 @@ use Rattle.heapan_top.specs.Headline.{Answers, AnswersInFull, AnswersSession, Ap
 use Rattle.heapan_top.specs.Laws.{OneOpening, SomeOpening}
 use Rattle.heapan_top.specs.Parts.{IsCutShort}
 use Rattle.heapan_top.specs.Replies.{Replies, beginning}
-use Rattle.heapan_top.proofs.CourseLaws.{held-append, nothing_written, some_behind, some_of_more}
+use Rattle.heapan_top.proofs.CourseLaws.{nothing_written, some_behind, some_of_more}
 use Rattle.heapan_top.proofs.FedLaws.{cut_is_not_whole, unfed}
 use Rattle.heapan_top.proofs.WorkLaws.{not_empty}
 use Rattle.heapan_top.specs.Stores.{Opens, RepliesWith, Store, front_of, nothing_loaded, path_told, unread_line}
@@ -163,7 +164,7 @@ module _ (one_opening : OneOpening) (store : Store) (setting : Setting) (front :
     full_with ended (text, replies, all) = (
       front ++ text,
       record { setting = setting; front = front; others = text; opens = opens; replies = replies; text_is = refl },
-      all ∙ ap (λ held. after_held held text) written ∙ held-append old front text,
+      all ∙ ap (λ held. after_held held text) written ∙ after_held-append old front text,
     )
 
     begins_with : BeginsReplies (Replies (beginning setting) stream) mid new → BeginsReplies (RepliesWith store stream) old new
@@ -188,7 +189,7 @@ module _ (one_opening : OneOpening) (store : Store) (setting : Setting) (front :
       front = front;
       written = front ++ own;
       opens = opens;
-      appends = all ∙ ap (λ held. after_held held own) written ∙ held-append old front own;
+      appends = all ∙ ap (λ held. after_held held own) written ∙ after_held-append old front own;
       counted = λ text count prints (more, is). counted text count prints (more, append_cancel_left front own (text ++ more) (is ∙ append_assoc front text more));
     }
 

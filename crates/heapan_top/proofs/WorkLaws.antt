@@ -3,6 +3,7 @@ use Rattle.std.proofs.Common.{◌≡◌, ◌≢◌, ℕ, ◌+◌, ◌-◌, ◌�
 use Rattle.std.specs.Prelude.{IfSome}
 use Rattle.std.proofs.lemmas.List.{append_cancel_left, length-take}
 use Rattle.io_ports.specs.Bytes.{after_held}
+use Rattle.io_ports.proofs.ToldBytes.{after_held-append}
 use Rattle.summary_book.specs.declared.aims.Aim.{Aim}
 use Rattle.shape_data.specs.declared.program.Program.{Program}
 use Rattle.session_lines.specs.declared.command.Command.{Command}
@@ -17,7 +18,7 @@ use Rattle.heapan_top.specs.Headline.{Appends}
 use Rattle.heapan_top.specs.Parts.{Ends, EndsCounted, GoesOn, IsAt, IsDone, IsReplyWork, IsWork, course_of}
 use Rattle.heapan_top.specs.Replies.{Course, beginning, one_behind}
 use Rattle.heapan_top.specs.Work.{AppendsCounted, AreCounted, Prints}
-use Rattle.heapan_top.proofs.CourseLaws.{held-append, held-nil}
+use Rattle.heapan_top.proofs.CourseLaws.{held-nil}
 
 -- ---- nothing was written
 
@@ -202,7 +203,7 @@ module _ (before seen : ℕ) (more : before ≤ seen) where
         text = one.text ++ other.text;
         rest = other.rest;
         is_left = other.is_left;
-        appends = other.appends ∙ ap (λ held. after_held held other.text) one.appends ∙ held-append old one.text other.text;
+        appends = other.appends ∙ ap (λ held. after_held held other.text) one.appends ∙ after_held-append old one.text other.text;
         carries = λ written solves enough counted.
             subst (λ whole. AreCounted course stream whole solves) (sym (append_assoc one.text other.text written))
             (one.carries (other.text ++ written) solves (fewer solves enough) (other.carries written solves enough counted));
@@ -221,7 +222,7 @@ module _ (before seen : ℕ) (more : before ≤ seen) where
       let ends : IfSome left (λ rest. EndsCounted mid rest between new seen) = subst (λ (r : Option Status). IfSome left (λ rest. IsWork mid rest between after left' new seen r)) is work in
       let own : EndsCounted mid done.rest between new seen = subst (λ (o : Option (List ℕ)). IfSome o (λ rest. EndsCounted mid rest between new seen)) done.is_left ends in (
         done.text ++ own.0,
-        own.1 ∙ ap (λ held. after_held held own.0) done.appends ∙ held-append old done.text own.0,
+        own.1 ∙ ap (λ held. after_held held own.0) done.appends ∙ after_held-append old done.text own.0,
         done.carries own.0 seen more (own.2 seen (omega arith)),
       )
 

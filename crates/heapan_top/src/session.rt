@@ -19,10 +19,10 @@ use crate::leading::Answering;
 use crate::opening::{Opened, open};
 use crate::outcome::Outcome;
 use crate::status::Status;
-use crate::turns::written;
+use crate::turns::{write_end, written};
 use claim_laws::claims_hold;
 use command_words::{Asked, asked_by};
-use io_ports::{Gate, Keeper, Sink, SinkFault, Source, write_all};
+use io_ports::{Gate, Keeper, Sink, Source, write_all};
 use reporters::Reporter;
 use shape_data::exact::share;
 use solve_job::{SolveJob, StoredAnswers};
@@ -154,8 +154,7 @@ fn write_front<K: Sink>(alloc: Global, sink: &mut K, unread: bool) -> Result<(),
     }
     match write_all(alloc, sink, b"store unread\n") {
         Ok(()) => Ok(()),
-        Err(SinkFault::Failed) => Err(Status::WriteFault),
-        Err(SinkFault::OutOfMemory) => Err(Status::NoMemory),
+        Err(fault) => Err(write_end(fault)),
     }
 }
 

@@ -1,5 +1,5 @@
 //! One command after another: each is taken from the stream and answered, or ends the session.
-ghost use Rattle.std.specs.Prelude.{◌≡◌, ◌≢◌, ◌-◌, ◌≤◌, ℕ, List, Some, Err, IfErr, IfOk, IfSome, IfNone, IsSome, OnErr, OnOk, is_some, length, map};
+ghost use Rattle.std.specs.Prelude.{◌≡◌, ◌≢◌, ◌-◌, ◌≤◌, ◌↔◌, ℕ, List, Some, Err, IfErr, IfOk, IfSome, IfNone, IsSome, OnErr, OnOk, is_some, length, map};
 ghost use Rattle.io_ports.specs.Counts.{Rose};
 ghost use Rattle.reporters.specs.Feeding.{steady_count};
 ghost use Rattle.session_lines.specs.Lines.{IsCommand, IsFirst};
@@ -8,7 +8,7 @@ ghost use Rattle.session_replies.specs.Answers.{IsAnswered};
 ghost use Rattle.heapan_top.specs.Headline.{ReadsFront};
 ghost use Rattle.session_replies.specs.Entries.{Feeds};
 ghost use Rattle.session_replies.specs.Parts.{bytes_saved};
-ghost use Rattle.heapan_top.specs.Parts.{Ends, IsAt, IsCutShort, IsOneMore, IsReply, IsReplyFed, IsReplySaved, IsReplyWork, IsStoreCut, IsTurn, IsTurnFed, IsWork, course_of, ended_of, path_bytes};
+ghost use Rattle.heapan_top.specs.Parts.{Ends, IsAt, IsCutShort, IsOneMore, IsReply, IsReplyFed, IsReplySaved, IsReplyWork, IsStoreCut, IsTurn, IsTurnFed, IsWork, IsWriteEnd, course_of, ended_of, path_bytes};
 ghost use Rattle.heapan_top.specs.Stores.{KeepsOthers, given_last, path_told};
 ghost use Rattle.heapan_top.specs.Replies.{Course, malformed_line, one_behind, status_with};
 
@@ -41,6 +41,17 @@ fn status_with(missing: usize) -> Status
     }
 }
 
+/// How a call ends in which a write failed.
+pub fn write_end(fault: SinkFault) -> Status
+    ensures ends { IsWriteEnd result }
+    ensures write_fault { (result ≡ Status.WriteFault) ↔ (fault ≡ SinkFault.Failed) }
+{
+    match fault {
+        SinkFault::Failed => Status::WriteFault,
+        SinkFault::OutOfMemory => Status::NoMemory,
+    }
+}
+
 /// Writes bytes, and says how the call ends: as it was to end where all were written.
 pub fn written<K: Sink>(alloc: Global, sink: &mut K, bytes: &[u8], planned: Status) -> Status
     ensures ends { Ends (K.held sink.old) (K.held sink.new) bytes.now planned result }
@@ -49,8 +60,7 @@ pub fn written<K: Sink>(alloc: Global, sink: &mut K, bytes: &[u8], planned: Stat
 {
     match write_all(alloc, sink, bytes) {
         Ok(()) => planned,
-        Err(SinkFault::Failed) => Status::WriteFault,
-        Err(SinkFault::OutOfMemory) => Status::NoMemory,
+        Err(fault) => write_end(fault),
     }
 }
 
@@ -150,8 +160,7 @@ fn write_reply<R: Wait, K: Sink, P: Keeper, G: Gate, A: Ledger, B: Ledger>(
     stored(alloc, keeper, path, saved)?;
     match write_all(alloc, sink, text.as_slice()) {
         Ok(()) => Ok(entries),
-        Err(SinkFault::Failed) => Err(Status::WriteFault),
-        Err(SinkFault::OutOfMemory) => Err(Status::NoMemory),
+        Err(fault) => Err(write_end(fault)),
     }
 }
 

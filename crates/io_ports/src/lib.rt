@@ -3,6 +3,7 @@
 //! so each fault has a cause; what a real file or terminal holds is told by none of them and so never proved.
 #![tactic(auto)]
 
+pub mod failing;
 pub mod gate;
 pub mod keeper;
 pub mod memory;
@@ -12,6 +13,7 @@ pub mod sink;
 pub mod source;
 pub mod steady;
 
+pub use failing::FailingCalls;
 pub use gate::{Gate, OpenGate};
 pub use keeper::{Held, KeepFault, Keeper, MOST_HELD};
 pub use memory::{MemoryKeeper, MemorySink, MemorySource};

@@ -6,6 +6,7 @@ ghost use Rattle.std.specs.Option.{option_map};
 ghost use Rattle.io_ports.specs.Counts.{next_count};
 ghost use Rattle.io_ports.specs.Places.{found, IsHeld, IsWithin};
 
+use crate::failing::FailingCalls;
 use crate::keeper::{Held, KeepFault, Keeper};
 use crate::sink::{Sink, SinkFault};
 use crate::source::{ReadFailed, Source};
@@ -17,9 +18,7 @@ use std::marker::Model;
 #[derive(Drop, Debug)]
 pub struct MemorySource {
     bytes: SteadySource,
-    fail_at: Vec<u64>,
-    calls: u64,
-    faults: u64,
+    calls: FailingCalls,
 }
 
 impl Model for MemorySource {
@@ -27,7 +26,7 @@ impl Model for MemorySource {
 
     ghost Value = { SourceScript };
 
-    ghost view = { λ s. record { left = s.bytes; fail_at = s.fail_at.items; calls = s.calls; faults = s.faults } };
+    ghost view = { λ s. record { left = s.bytes; fail_at = s.calls.fail_at; calls = s.calls.calls; faults = s.calls.faults } };
 }
 
 impl MemorySource {
@@ -38,9 +37,7 @@ impl MemorySource {
     {
         Ok(MemorySource {
             bytes: SteadySource::new(alloc, bytes)?,
-            fail_at,
-            calls: 0,
-            faults: 0,
+            calls: FailingCalls::new(fail_at),
         })
     }
 }
@@ -68,10 +65,7 @@ impl Source for MemorySource {
             (if is_err result then next_count self.old.faults else self.old.faults) }
         ensures never_falls { self.old.faults ≤ self.new.faults }
     {
-        let fails = self.fail_at.contains(&self.calls);
-        self.calls = self.calls.saturating_add(1);
-        if fails {
-            self.faults = self.faults.saturating_add(1);
+        if self.calls.next_fails() {
             return Err(ReadFailed);
         }
         self.bytes.read(buf)
@@ -82,9 +76,7 @@ impl Source for MemorySource {
 #[derive(Drop, Debug)]
 pub struct MemorySink {
     bytes: SteadySink,
-    fail_at: Vec<u64>,
-    calls: u64,
-    faults: u64,
+    calls: FailingCalls,
 }
 
 impl Model for MemorySink {
@@ -92,7 +84,7 @@ impl Model for MemorySink {
 
     ghost Value = { SinkScript };
 
-    ghost view = { λ s. record { held = s.bytes; fail_at = s.fail_at.items; calls = s.calls; faults = s.faults } };
+    ghost view = { λ s. record { held = s.bytes; fail_at = s.calls.fail_at; calls = s.calls.calls; faults = s.calls.faults } };
 }
 
 impl MemorySink {
@@ -103,9 +95,7 @@ impl MemorySink {
     {
         Ok(MemorySink {
             bytes: SteadySink::new(alloc)?,
-            fail_at,
-            calls: 0,
-            faults: 0,
+            calls: FailingCalls::new(fail_at),
         })
     }
 
@@ -139,10 +129,7 @@ impl Sink for MemorySink {
         ensures not_counted { result ≢ Err SinkFault.Failed → self.new.faults ≡ self.old.faults }
         ensures never_falls { self.old.faults ≤ self.new.faults }
     {
-        let fails = self.fail_at.contains(&self.calls);
-        self.calls = self.calls.saturating_add(1);
-        if fails {
-            self.faults = self.faults.saturating_add(1);
+        if self.calls.next_fails() {
             return Err(SinkFault::Failed);
         }
         self.bytes.write(alloc, bytes)
@@ -154,9 +141,7 @@ impl Sink for MemorySink {
 #[derive(Drop, Debug)]
 pub struct MemoryKeeper {
     files: SteadyKeeper,
-    fail_at: Vec<u64>,
-    calls: u64,
-    faults: u64,
+    calls: FailingCalls,
 }
 
 impl Model for MemoryKeeper {
@@ -164,7 +149,7 @@ impl Model for MemoryKeeper {
 
     ghost Value = { KeeperScript };
 
-    ghost view = { λ s. record { files = s.files; fail_at = s.fail_at.items; calls = s.calls; faults = s.faults } };
+    ghost view = { λ s. record { files = s.files; fail_at = s.calls.fail_at; calls = s.calls.calls; faults = s.calls.faults } };
 }
 
 impl MemoryKeeper {
@@ -175,9 +160,7 @@ impl MemoryKeeper {
     {
         Ok(MemoryKeeper {
             files: SteadyKeeper::new(alloc)?,
-            fail_at,
-            calls: 0,
-            faults: 0,
+            calls: FailingCalls::new(fail_at),
         })
     }
 
@@ -207,10 +190,7 @@ impl Keeper for MemoryKeeper {
         ensures not_counted { result ≢ Err KeepFault.Failed → self.new.faults ≡ self.old.faults }
         ensures never_falls { self.old.faults ≤ self.new.faults }
     {
-        let fails = self.fail_at.contains(&self.calls);
-        self.calls = self.calls.saturating_add(1);
-        if fails {
-            self.faults = self.faults.saturating_add(1);
+        if self.calls.next_fails() {
             return Err(KeepFault::Failed);
         }
         self.files.read_all(alloc, path)
@@ -230,10 +210,7 @@ impl Keeper for MemoryKeeper {
         ensures not_counted { result ≢ Err KeepFault.Failed → self.new.faults ≡ self.old.faults }
         ensures never_falls { self.old.faults ≤ self.new.faults }
     {
-        let fails = self.fail_at.contains(&self.calls);
-        self.calls = self.calls.saturating_add(1);
-        if fails {
-            self.faults = self.faults.saturating_add(1);
+        if self.calls.next_fails() {
             return Err(KeepFault::Failed);
         }
         self.files.replace(alloc, path, bytes)

@@ -5,6 +5,7 @@ ghost use Rattle.io_ports.specs.Counts.{next_count};
 ghost use Rattle.reporters.specs.Known.{go_at};
 
 use crate::reporter::{Entry, Go, Reporter, TakeFault};
+use io_ports::FailingCalls;
 use shape_data::copy_of;
 use std::alloc::{AllocError, Global};
 use std::marker::Model;
@@ -14,9 +15,7 @@ use std::marker::Model;
 pub struct MemoryReporter {
     entries: Vec<Entry>,
     stop_at: Option<u32>,
-    fail_at: Vec<u64>,
-    calls: u64,
-    faults: u64,
+    calls: FailingCalls,
 }
 
 impl Model for MemoryReporter {
@@ -24,7 +23,7 @@ impl Model for MemoryReporter {
 
     ghost Value = { ReporterScript };
 
-    ghost view = { λ r. record { entries = r.entries.items; stop_at = r.stop_at; fail_at = r.fail_at.items; calls = r.calls; faults = r.faults } };
+    ghost view = { λ r. record { entries = r.entries.items; stop_at = r.stop_at; fail_at = r.calls.fail_at; calls = r.calls.calls; faults = r.calls.faults } };
 }
 
 /// The same entry again, whose summary is shared.
@@ -57,9 +56,7 @@ impl MemoryReporter {
         Ok(MemoryReporter {
             entries: Vec::new(alloc),
             stop_at,
-            fail_at,
-            calls: 0,
-            faults: 0,
+            calls: FailingCalls::new(fail_at),
         })
     }
 
@@ -96,10 +93,7 @@ impl Reporter for MemoryReporter {
         ensures not_counted { result ≢ Err TakeFault.Failed → self.new.faults ≡ self.old.faults }
         ensures never_falls { self.old.faults ≤ self.new.faults }
     {
-        let fails = self.fail_at.contains(&self.calls);
-        self.calls = self.calls.saturating_add(1);
-        if fails {
-            self.faults = self.faults.saturating_add(1);
+        if self.calls.next_fails() {
             return Err(TakeFault::Failed);
         }
         match append(&mut self.entries, entry) {

@@ -8,6 +8,7 @@ use Rattle.shape_data.specs.declared.program.Proc.{Proc}
 use Rattle.shape_data.specs.declared.program.Program.{Program}
 use Rattle.shape_data.specs.declared.program.StructDef.{StructDef}
 use Rattle.report_text.specs.Report.{block_text, line_of, none_count, report_of, total_text}
+use Rattle.io_ports.specs.Places.{MOST_HELD}
 use Rattle.claim_core.specs.Views.{Solution}
 use Rattle.bottom_up.specs.BottomUp.{bottom_up, program_summaries}
 use Rattle.store_json.specs.Texts.{store_text}
@@ -75,13 +76,9 @@ program_missing loaded program = none_count (program_summaries loaded program)
 abbrev pub program_store : List Solution → Program → List ℕ
 program_store loaded program = store_text (bottom_up loaded program)
 
--- the most bytes of a store
-abbrev pub MOST_STORED : ℕ
-MOST_STORED = 67108864
-
--- bytes that a store may have
+-- bytes that a store may have: no more than a keeper reads again
 abbrev pub unless_too_long : List ℕ → Option (List ℕ)
-unless_too_long bytes = if nat_le (length bytes) MOST_STORED then Some bytes else None
+unless_too_long bytes = if nat_le (length bytes) MOST_HELD then Some bytes else None
 
 -- `ok` where a store may have the bytes, else the error that they are too many
 abbrev pub stored_line : Option (List ℕ) → List ℕ

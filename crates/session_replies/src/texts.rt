@@ -12,7 +12,7 @@ ghost use Rattle.summary_book.specs.declared.aims.Aim.TheVariants as aim;
 
 use crate::known::{entries, store_of, summary};
 use crate::reply::Reply;
-use io_ports::Gate;
+use io_ports::{Gate, MOST_HELD};
 use loaded_answers::LoadedAnswers;
 use project_form::Refused;
 use report_text::reasons::push_decimal;
@@ -33,11 +33,8 @@ const NO_FILE: u16 = 145;
 /// The code of a name that no procedure has.
 const NO_PROC: u16 = 146;
 
-/// The code of a store that would have more than 67,108,864 bytes.
+/// The code of a store that would have more than [`MOST_HELD`] bytes, which a keeper would not read again.
 const STORE_TOO_LONG: u16 = 148;
-
-/// The most bytes of a store.
-const MOST_STORED: usize = 67_108_864;
 
 /// The line that all is well.
 pub fn ok_text(alloc: Global) -> Result<Vec<u8>, AllocError>
@@ -207,7 +204,7 @@ pub fn make_store<R: Wait, G: Gate, A: Ledger, B: Ledger>(
     ensures rises { hands.old.seen ≤ hands.new.seen }
 {
     let bytes = store_of(rt, alloc, desk, hands, loaded, program)?;
-    if bytes.len() > MOST_STORED {
+    if bytes.len() > MOST_HELD {
         return Ok(Reply::of(error_text(alloc, STORE_TOO_LONG)?));
     }
     Ok(Reply {

@@ -65,11 +65,9 @@ fn found_alone(alloc: Global, key: &Key) -> Result<Found, Fail>
 }
 
 /// The heaps of texts over the parameters of a key's first procedure.
-fn wanted(alloc: Global, key: &Key, texts: &[&str]) -> Result<Row<SymHeap>, Fail>
-    requires { IsStorableKey key.now }
-{
+fn wanted(alloc: Global, key: &Key, texts: &[&str]) -> Result<Row<SymHeap>, Fail> {
     match key.procs.as_slice() {
-        [flow, ..] => heaps_of(alloc, key, flow.params.as_slice(), texts),
+        [flow, ..] => heaps_of(alloc, key, &flow.params, texts),
         [] => Err(Fail::from("no procedure")),
     }
 }

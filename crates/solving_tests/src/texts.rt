@@ -1,16 +1,16 @@
 //! Keys and answers, read of texts of their JSON forms, and heaps, read of their texts; and texts that more than one test reads.
-ghost use Rattle.std.specs.Prelude.{◌↔◌, IfOk, IsTrue};
-ghost use Rattle.shape_data.specs.WellFormed.{AreParams, IsStorableAnswer, IsStorableKey};
+ghost use Rattle.std.specs.Prelude.{IfOk};
+ghost use Rattle.shape_data.specs.WellFormed.{IsStorableAnswer, IsStorableKey};
 
 use serde_json::Value;
 use shape_data::answer::{Answer, Key};
-use shape_data::names::{have_different_names, is_c_name};
+use shape_data::program::Program;
 use shape_data::symbolic::SymHeap;
-use shape_data::{Name, Row};
-use std::alloc::Global;
+use shape_data::{Name, Row, copy_of};
+use std::alloc::{AllocError, Global};
 use std::test::Fail;
 use summary_json::{read_answer, read_key};
-use sym_text::read_heap;
+use worked_scopes::Scope;
 
 /// `struct node { int data; struct node *next; };`
 pub const NODE: &str = r#"["node", [["data", "int"], ["next", ["ptr", "node"]]]]"#;
@@ -85,38 +85,28 @@ pub fn answer_of(alloc: Global, key: &Key, text: &str) -> Result<Answer, Fail>
     }
 }
 
-/// Whether the names are those of parameters.
-fn are_params(params: &[Name]) -> bool
-    ensures { IsTrue result ↔ AreParams params.now }
-{
-    params.len() <= 32_768
-        && params.iter().all(|name| is_c_name(name.as_bytes()))
-        && have_different_names(params)
-}
-
-/// The heap of a text over these parameters and a key's structures.
-fn heap_of(alloc: Global, key: &Key, params: &[Name], text: &str) -> Result<SymHeap, Fail>
-    requires { IsStorableKey key.now }
-{
-    if text.len() >= 4_294_967_296 || !are_params(params) {
-        return Err(Fail::from("no heap"));
-    }
-    let structs = key.structs.as_slice();
-    Ok(read_heap(alloc, text.as_bytes(), params, structs)?)
+/// What texts are over that speak of these parameters and a key's structures.
+fn scope_of(alloc: Global, key: &Key, params: &Row<Name>) -> Result<Scope, AllocError> {
+    Ok(Scope {
+        params: copy_of(params)?,
+        program: Program {
+            structs: copy_of(&key.structs)?,
+            procs: Row::new(alloc),
+        },
+    })
 }
 
 /// The heaps of texts over these parameters and a key's structures.
 pub fn heaps_of(
     alloc: Global,
     key: &Key,
-    params: &[Name],
+    params: &Row<Name>,
     texts: &[&str],
-) -> Result<Row<SymHeap>, Fail>
-    requires { IsStorableKey key.now }
-{
+) -> Result<Row<SymHeap>, Fail> {
+    let scope = scope_of(alloc, key, params)?;
     let mut heaps = Row::new(alloc);
     for text in texts {
-        heaps.push(heap_of(alloc, key, params, text)?)?;
+        heaps.push(scope.heap(alloc, text)?)?;
     }
     Ok(heaps)
 }
