@@ -90,7 +90,7 @@ fn refuses_what_is_not_of_the_form(rt: HostRuntime) -> Result<(), Fail> {
 }
 
 #[test]
-fn writes_sums(rt: HostRuntime) -> Result<(), Fail> {
+fn writes_sums(rt: HostRuntime) {
     let arith = Cmd::Arith {
         to: 0,
         op: ArithOp::Sub,
@@ -98,13 +98,13 @@ fn writes_sums(rt: HostRuntime) -> Result<(), Fail> {
         right: Operand::Num(-7),
         next: 2,
     };
-    let text = arith.to_value(rt.alloc())?.to_string(rt.alloc())?;
+    let value = arith.to_value(rt.alloc()).expect(&rt, "memory");
+    let text = value.to_string(rt.alloc()).expect(&rt, "memory");
     assert_eq!(rt; text.as_str(), "[\"arith\",0,\"-\",[\"s\",1],[\"n\",-7],2]");
-    Ok(())
 }
 
 #[test]
-fn writes_branches(rt: HostRuntime) -> Result<(), Fail> {
+fn writes_branches(rt: HostRuntime) {
     let branch = Cmd::Branch {
         op: TestOp::Ge,
         pointers: false,
@@ -113,10 +113,10 @@ fn writes_branches(rt: HostRuntime) -> Result<(), Fail> {
         yes: 8,
         no: 9,
     };
-    let text = branch.to_value(rt.alloc())?.to_string(rt.alloc())?;
+    let value = branch.to_value(rt.alloc()).expect(&rt, "memory");
+    let text = value.to_string(rt.alloc()).expect(&rt, "memory");
     assert_eq!(rt;
         text.as_str(),
         "[\"branch\",\">=\",false,[\"s\",0],[\"n\",3],8,9]"
     );
-    Ok(())
 }

@@ -1,6 +1,6 @@
 //! Each keeper through its bound, with faults at given calls, and the trusted edge over real files.
 use io_ports::{FileKeeper, Held, KeepFault, Keeper, MemoryKeeper, SteadyKeeper};
-use std::alloc::Global;
+use std::alloc::{AllocError, Global};
 use std::fs::File;
 use std::path::PathBuf;
 use std::process::Abort;
@@ -52,33 +52,36 @@ fn keeps_paths_apart<K: Keeper>(
     reads(rt, alloc, keeper, other, Want::Bytes(b""));
 }
 
+/// A keeper whose calls of these numbers fail.
+fn keeper_of(alloc: Global, fail_at: &[u64]) -> Result<MemoryKeeper, AllocError> {
+    MemoryKeeper::new(alloc, Vec::from_slice(alloc, fail_at)?)
+}
+
 #[test]
-fn keepers_in_memory_keep_paths_apart(rt: HostRuntime) -> Result<(), Fail> {
+fn keepers_in_memory_keep_paths_apart(rt: HostRuntime) {
     let alloc = rt.alloc();
-    let mut steady = SteadyKeeper::new(alloc)?;
+    let mut steady = SteadyKeeper::new(alloc).expect(&rt, "memory");
     keeps_paths_apart(&rt, alloc, &mut steady, "s", "t");
     assert_eq!(rt;
         steady.get("s").unwrap_or(b"none"),
         b"the second".as_slice()
     );
     assert!(rt; steady.get("u").is_none());
-    let mut memory = MemoryKeeper::new(alloc, Vec::new(alloc))?;
+    let mut memory = keeper_of(alloc, &[]).expect(&rt, "memory");
     keeps_paths_apart(&rt, alloc, &mut memory, "s", "");
     assert!(rt; memory.get("").unwrap_or(b"none").is_empty());
-    Ok(())
 }
 
 #[test]
-fn the_calls_that_are_listed_fail(rt: HostRuntime) -> Result<(), Fail> {
+fn the_calls_that_are_listed_fail(rt: HostRuntime) {
     let alloc = rt.alloc();
-    let mut keeper = MemoryKeeper::new(alloc, Vec::from_slice(alloc, &[0, 2, 4])?)?;
+    let mut keeper = keeper_of(alloc, &[0, 2, 4]).expect(&rt, "memory");
     reads(&rt, alloc, &mut keeper, "s", Want::Failed);
     assert_eq!(rt; keeper.replace(alloc, "s", b"old"), Ok(()));
     assert_eq!(rt; keeper.replace(alloc, "s", b"new"), Err(KeepFault::Failed));
     reads(&rt, alloc, &mut keeper, "s", Want::Bytes(b"old"));
     reads(&rt, alloc, &mut keeper, "s", Want::Failed);
     reads(&rt, alloc, &mut keeper, "s", Want::Bytes(b"old"));
-    Ok(())
 }
 
 /// An empty folder.

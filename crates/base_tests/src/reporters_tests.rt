@@ -10,7 +10,6 @@ use shape_data::{Name, Row};
 use std::alloc::{AllocError, Global};
 use std::process::Abort;
 use std::sync::Arc;
-use std::test::Fail;
 
 /// The spec of a procedure that touches no memory and never returns.
 fn empty_spec(alloc: Global) -> Spec {
@@ -80,29 +79,11 @@ fn tells(rt: &impl Abort, reporter: &Box<dyn Reporter + Send>, count: usize) {
 }
 
 /// Offers the entries of lines 0 to 7 to all reporters.
-fn feed_eight(alloc: Global, reporters: &mut Vec<Box<dyn Reporter + Send>>) -> Result<(), Fail> {
+fn feed_eight(rt: &impl Abort, alloc: Global, reporters: &mut Vec<Box<dyn Reporter + Send>>) {
     for line in 0..8 {
-        feed_all(alloc, reporters, &entry(alloc, line, line > 4)?);
+        let entry = entry(alloc, line, line > 4).expect(rt, "memory");
+        feed_all(alloc, reporters, &entry);
     }
-    Ok(())
-}
-
-#[test]
-fn one_that_stops_at_its_second_entry_is_dropped(rt: HostRuntime) -> Result<(), Fail> {
-    let alloc = rt.alloc();
-    let mut reporters: Vec<Box<dyn Reporter + Send>> = Vec::new(alloc);
-    let first = MemoryReporter::new(alloc, Some(2), Vec::new(alloc))?;
-    reporters.push(Box::new(alloc, first)?)?;
-    let second = MemoryReporter::new(alloc, None, Vec::new(alloc))?;
-    reporters.push(Box::new(alloc, second)?)?;
-    for count in [8, 16] {
-        feed_eight(alloc, &mut reporters)?;
-        assert_eq!(rt; reporters.len(), 1);
-        for reporter in &reporters {
-            tells(&rt, reporter, count);
-        }
-    }
-    Ok(())
 }
 
 /// A reporter whose call of this number fails.
@@ -110,23 +91,51 @@ fn reporter(
     alloc: Global,
     stop_at: Option<u32>,
     fail_at: u64,
-) -> Result<MemoryReporter, AllocError> {
+) -> Result<Box<MemoryReporter>, AllocError> {
     let fail_at = Vec::from_slice(alloc, &[fail_at])?;
-    MemoryReporter::new(alloc, stop_at, fail_at)
+    Ok(Box::new(alloc, MemoryReporter::new(alloc, stop_at, fail_at)?)?)
+}
+
+/// Puts such a reporter behind others.
+fn add(
+    rt: &impl Abort,
+    alloc: Global,
+    reporters: &mut Vec<Box<dyn Reporter + Send>>,
+    stop_at: Option<u32>,
+    fail_at: u64,
+) {
+    let reporter = reporter(alloc, stop_at, fail_at).expect(rt, "memory");
+    reporters.push(reporter).expect(rt, "memory");
 }
 
 #[test]
-fn one_that_fails_is_dropped_and_the_others_stay_in_order(rt: HostRuntime) -> Result<(), Fail> {
+fn one_that_stops_at_its_second_entry_is_dropped(rt: HostRuntime) {
+    let alloc = rt.alloc();
+    let mut reporters: Vec<Box<dyn Reporter + Send>> = Vec::new(alloc);
+    add(&rt, alloc, &mut reporters, Some(2), 99);
+    add(&rt, alloc, &mut reporters, None, 99);
+    for count in [8, 16] {
+        feed_eight(&rt, alloc, &mut reporters);
+        assert_eq!(rt; reporters.len(), 1);
+        for reporter in &reporters {
+            tells(&rt, reporter, count);
+        }
+    }
+}
+
+#[test]
+fn one_that_fails_is_dropped_and_the_others_stay_in_order(rt: HostRuntime) {
     let alloc = rt.alloc();
     let mut reporters: Vec<Box<dyn Reporter + Send>> = Vec::new(alloc);
     for (stop_at, fail_at) in [(None, 9), (None, 1), (Some(9), 8), (Some(1), 9)] {
-        let reporter = reporter(alloc, stop_at, fail_at)?;
-        reporters.push(Box::new(alloc, reporter)?)?;
+        add(&rt, alloc, &mut reporters, stop_at, fail_at);
     }
-    reporters.push(Box::new(alloc, CountReporter::new())?)?;
+    let counts = Box::new(alloc, CountReporter::new()).expect(&rt, "memory");
+    reporters.push(counts).expect(&rt, "memory");
     let lefts = [4, 3, 3, 3, 3, 3, 3, 3, 2];
     for (line, left) in lefts.iter().enumerate() {
-        feed_all(alloc, &mut reporters, &entry(alloc, line as u32, true)?);
+        let entry = entry(alloc, line as u32, true).expect(&rt, "memory");
+        feed_all(alloc, &mut reporters, &entry);
         assert_eq!(rt; reporters.len(), *left);
     }
     for reporter in &reporters {
@@ -134,13 +143,17 @@ fn one_that_fails_is_dropped_and_the_others_stay_in_order(rt: HostRuntime) -> Re
             assert_eq!(rt; entries.len(), 9);
         }
     }
-    Ok(())
+}
+
+/// A reporter that stops at its second entry, and whose second and third call fail.
+fn failing(alloc: Global) -> Result<MemoryReporter, AllocError> {
+    MemoryReporter::new(alloc, Some(2), Vec::from_slice(alloc, &[1, 2])?)
 }
 
 #[test]
-fn a_reporter_in_memory_fails_where_it_is_told_to(rt: HostRuntime) -> Result<(), Fail> {
+fn a_reporter_in_memory_fails_where_it_is_told_to(rt: HostRuntime) {
     let alloc = rt.alloc();
-    let mut reporter = MemoryReporter::new(alloc, Some(2), Vec::from_slice(alloc, &[1, 2])?)?;
+    let mut reporter = failing(alloc).expect(&rt, "memory");
     let answers = [
         Ok(Go::More),
         Err(TakeFault::Failed),
@@ -149,20 +162,20 @@ fn a_reporter_in_memory_fails_where_it_is_told_to(rt: HostRuntime) -> Result<(),
         Ok(Go::More),
     ];
     for answer in answers {
-        assert_eq!(rt; reporter.take(alloc, &entry(alloc, 0, false)?), answer);
+        let entry = entry(alloc, 0, false).expect(&rt, "memory");
+        assert_eq!(rt; reporter.take(alloc, &entry), answer);
     }
-    Ok(())
 }
 
 #[test]
-fn entries_are_counted(rt: HostRuntime) -> Result<(), Fail> {
+fn entries_are_counted(rt: HostRuntime) {
     let alloc = rt.alloc();
     let mut reporter = CountReporter::new();
     for line in 0..8 {
-        reporter.take(alloc, &entry(alloc, line, line > 4)?)?;
+        let entry = entry(alloc, line, line > 4).expect(&rt, "memory");
+        assert_eq!(rt; reporter.take(alloc, &entry), Ok(Go::More));
     }
     assert_eq!(rt; reporter.count, 8);
     assert_eq!(rt; reporter.without_spec, 5);
     assert!(rt; reporter.entries().is_none());
-    Ok(())
 }

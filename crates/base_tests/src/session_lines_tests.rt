@@ -4,7 +4,6 @@ use io_ports::{InPieces, MemorySource, ReadEnd, Source, SteadySource, read_up_to
 use session_lines::{Command, Commands, Taken, next_command};
 use std::alloc::{AllocError, Global};
 use std::process::Abort;
-use std::test::Fail;
 
 /// A word, and what stands behind it.
 fn push(text: &mut Vec<u8>, word: &str, behind: &[u8]) -> Result<(), AllocError> {
@@ -83,19 +82,17 @@ fn session_of<S: Source>(alloc: Global, source: &mut S) -> Result<Vec<u8>, Alloc
     Ok(text)
 }
 
+/// A source of these bytes.
+fn steady_of(alloc: Global, bytes: &[u8]) -> Result<SteadySource, AllocError> {
+    SteadySource::new(alloc, Vec::from_slice(alloc, bytes)?)
+}
+
 /// From these bytes, in pieces of this size, this is taken.
-fn takes(
-    rt: &impl Abort,
-    alloc: Global,
-    bytes: &[u8],
-    size: usize,
-    want: &[u8],
-) -> Result<(), Fail> {
-    let steady = SteadySource::new(alloc, Vec::from_slice(alloc, bytes)?)?;
+fn takes(rt: &impl Abort, alloc: Global, bytes: &[u8], size: usize, want: &[u8]) {
+    let steady = steady_of(alloc, bytes).expect(rt, "memory");
     let mut source = InPieces::new(steady, size.max(1));
-    let text = session_of(alloc, &mut source)?;
+    let text = session_of(alloc, &mut source).expect(rt, "memory");
     assert_eq!(rt; text.as_slice(), want, "of {bytes:?} in pieces of {size}");
-    Ok(())
 }
 
 /// Streams, and what is taken from each.
@@ -186,30 +183,27 @@ const NO_LINES: [&str; 42] = [
 ];
 
 #[test]
-fn streams_are_taken_apart_whatever_the_pieces(rt: HostRuntime) -> Result<(), Fail> {
-    let alloc = rt.alloc();
+fn streams_are_taken_apart_whatever_the_pieces(rt: HostRuntime) {
     for (stream, want) in STREAMS {
         for size in [1, 2, 3, 5, 8, 5000] {
-            takes(&rt, alloc, stream.as_bytes(), size, want.as_bytes())?;
+            takes(&rt, rt.alloc(), stream.as_bytes(), size, want.as_bytes());
         }
     }
-    Ok(())
 }
 
 /// Behind an empty line and a report, whatever stands behind it, the line is malformed.
-fn is_malformed(rt: &impl Abort, alloc: Global, line: &str, behind: &str) -> Result<(), Fail> {
-    let stream = format!(in alloc; "\nreport\n{line}{behind}")?;
+fn is_malformed(rt: &impl Abort, alloc: Global, line: &str, behind: &str) {
+    let stream = format!(in alloc; "\nreport\n{line}{behind}").expect(rt, "memory");
     let want = b"blank\nreport\nmalformed 3 8\n";
-    takes(rt, alloc, stream.as_bytes(), 4096, want)
+    takes(rt, alloc, stream.as_bytes(), 4096, want);
 }
 
 #[test]
-fn other_lines_are_malformed(rt: HostRuntime) -> Result<(), Fail> {
+fn other_lines_are_malformed(rt: HostRuntime) {
     for line in NO_LINES {
-        is_malformed(&rt, rt.alloc(), line, "")?;
-        is_malformed(&rt, rt.alloc(), line, "\nreport\n")?;
+        is_malformed(&rt, rt.alloc(), line, "");
+        is_malformed(&rt, rt.alloc(), line, "\nreport\n");
     }
-    Ok(())
 }
 
 /// A line that is a word and so many of a byte.
@@ -223,45 +217,37 @@ fn line_with(alloc: Global, word: &[u8], byte: u8, count: usize) -> Result<Vec<u
 }
 
 /// The word with a name of 64 bytes is taken.
-fn takes_longest_name(rt: &impl Abort, alloc: Global, word: &str) -> Result<(), Fail> {
-    let named = line_with(alloc, word.as_bytes(), b'a', 64)?;
-    let mut want = named.clone()?;
-    want.extend_from_slice(b"end\n")?;
-    takes(rt, alloc, named.as_slice(), 4096, want.as_slice())
+fn takes_longest_name(rt: &impl Abort, alloc: Global, word: &str) {
+    let named = line_with(alloc, word.as_bytes(), b'a', 64).expect(rt, "memory");
+    let mut want = named.clone().expect(rt, "memory");
+    want.extend_from_slice(b"end\n").expect(rt, "memory");
+    takes(rt, alloc, named.as_slice(), 4096, want.as_slice());
 }
 
 /// The word with so many of a byte is malformed.
-fn takes_no_name(
-    rt: &impl Abort,
-    alloc: Global,
-    word: &str,
-    byte: u8,
-    count: usize,
-) -> Result<(), Fail> {
-    let line = line_with(alloc, word.as_bytes(), byte, count)?;
-    takes(rt, alloc, line.as_slice(), 4096, b"malformed 1 0\n")
+fn takes_no_name(rt: &impl Abort, alloc: Global, word: &str, byte: u8, count: usize) {
+    let line = line_with(alloc, word.as_bytes(), byte, count).expect(rt, "memory");
+    takes(rt, alloc, line.as_slice(), 4096, b"malformed 1 0\n");
 }
 
 #[test]
-fn names_have_64_bytes(rt: HostRuntime) -> Result<(), Fail> {
+fn names_have_64_bytes(rt: HostRuntime) {
     for word in ["drop ", "show "] {
-        takes_longest_name(&rt, rt.alloc(), word)?;
-        takes_no_name(&rt, rt.alloc(), word, b'a', 65)?;
+        takes_longest_name(&rt, rt.alloc(), word);
+        takes_no_name(&rt, rt.alloc(), word, b'a', 65);
     }
-    Ok(())
 }
 
 #[test]
-fn names_have_bytes_of_their_kind(rt: HostRuntime) -> Result<(), Fail> {
+fn names_have_bytes_of_their_kind(rt: HostRuntime) {
     for byte in b"\0\t\r!\"#$%&'()*+,:;<=>?@[\\]^`{|}~\x7f\x80\xff" {
         for word in ["drop ", "show ", "put "] {
-            takes_no_name(&rt, rt.alloc(), word, *byte, 1)?;
+            takes_no_name(&rt, rt.alloc(), word, *byte, 1);
         }
     }
     for byte in b"./-" {
-        takes_no_name(&rt, rt.alloc(), "show ", *byte, 1)?;
+        takes_no_name(&rt, rt.alloc(), "show ", *byte, 1);
     }
-    Ok(())
 }
 
 /// Takes the first command.
@@ -272,14 +258,13 @@ fn take_one<S: Source>(alloc: Global, source: &mut S) -> Result<(), AllocError> 
 }
 
 /// So many bytes are left behind the first command, where each read gives one byte.
-fn leaves(rt: &impl Abort, alloc: Global, bytes: &[u8], left: usize) -> Result<(), Fail> {
-    let steady = SteadySource::new(alloc, Vec::from_slice(alloc, bytes)?)?;
+fn leaves(rt: &impl Abort, alloc: Global, bytes: &[u8], left: usize) {
+    let steady = steady_of(alloc, bytes).expect(rt, "memory");
     let mut source = InPieces::new(steady, 1);
-    take_one(alloc, &mut source)?;
+    take_one(alloc, &mut source).expect(rt, "memory");
     let rest = read_up_to(alloc, &mut source, 20_000_000);
     assert_eq!(rt; rest.end, ReadEnd::End);
     assert_eq!(rt; rest.bytes.as_slice().len(), left, "behind {bytes:?}");
-    Ok(())
 }
 
 /// Streams, and how many bytes are left behind their first command.
@@ -293,20 +278,18 @@ const LEFT: [(&str, usize); 6] = [
 ];
 
 #[test]
-fn nothing_is_read_that_is_not_needed(rt: HostRuntime) -> Result<(), Fail> {
+fn nothing_is_read_that_is_not_needed(rt: HostRuntime) {
     for (stream, left) in LEFT {
-        leaves(&rt, rt.alloc(), stream.as_bytes(), left)?;
+        leaves(&rt, rt.alloc(), stream.as_bytes(), left);
     }
-    Ok(())
 }
 
 #[test]
-fn a_line_is_read_up_to_its_257th_byte(rt: HostRuntime) -> Result<(), Fail> {
+fn a_line_is_read_up_to_its_257th_byte(rt: HostRuntime) {
     for (count, left) in [(256, 0), (257, 1), (300, 44)] {
-        let line = line_with(rt.alloc(), b"", b'a', count)?;
-        leaves(&rt, rt.alloc(), line.as_slice(), left)?;
+        let line = line_with(rt.alloc(), b"", b'a', count).expect(&rt, "memory");
+        leaves(&rt, rt.alloc(), line.as_slice(), left);
     }
-    Ok(())
 }
 
 /// A line that puts a file of this size, and so many bytes.
@@ -326,12 +309,11 @@ const SIZES: [(usize, usize, &str); 4] = [
 ];
 
 #[test]
-fn a_file_that_is_too_long_is_passed_over(rt: HostRuntime) -> Result<(), Fail> {
+fn a_file_that_is_too_long_is_passed_over(rt: HostRuntime) {
     for (size, bytes, want) in SIZES {
-        let stream = put_of(rt.alloc(), size, bytes)?;
-        takes(&rt, rt.alloc(), stream.as_slice(), 4096, want.as_bytes())?;
+        let stream = put_of(rt.alloc(), size, bytes).expect(&rt, "memory");
+        takes(&rt, rt.alloc(), stream.as_slice(), 4096, want.as_bytes());
     }
-    Ok(())
 }
 
 /// The longest file as it is taken.
@@ -343,10 +325,10 @@ fn longest_taken(alloc: Global) -> Result<Vec<u8>, AllocError> {
 }
 
 #[test]
-fn the_longest_file_is_put(rt: HostRuntime) -> Result<(), Fail> {
-    let stream = put_of(rt.alloc(), 1_048_576, 1_048_576)?;
-    let want = longest_taken(rt.alloc())?;
-    takes(&rt, rt.alloc(), stream.as_slice(), 4096, want.as_slice())
+fn the_longest_file_is_put(rt: HostRuntime) {
+    let stream = put_of(rt.alloc(), 1_048_576, 1_048_576).expect(&rt, "memory");
+    let want = longest_taken(rt.alloc()).expect(&rt, "memory");
+    takes(&rt, rt.alloc(), stream.as_slice(), 4096, want.as_slice());
 }
 
 /// What is taken of 65,536 empty lines and what stands behind them.
@@ -367,14 +349,13 @@ const BEHIND: [(&str, &str); 5] = [
 ];
 
 #[test]
-fn a_session_has_so_many_commands(rt: HostRuntime) -> Result<(), Fail> {
+fn a_session_has_so_many_commands(rt: HostRuntime) {
     for (behind, end) in BEHIND {
-        let text = many_taken(rt.alloc(), behind)?;
+        let text = many_taken(rt.alloc(), behind).expect(&rt, "memory");
         let (blanks, last) = text.as_slice().split_at(text.len().min(6 * 65_536));
         assert_eq!(&rt; blanks.len(), 6 * 65_536);
         assert_eq!(&rt; last, end.as_bytes());
     }
-    Ok(())
 }
 
 /// What is taken where this call of the source fails, and each read gives one byte.
@@ -396,10 +377,9 @@ const FAULTS: [(u64, &str); 6] = [
 ];
 
 #[test]
-fn a_failed_read_is_a_read_fault(rt: HostRuntime) -> Result<(), Fail> {
+fn a_failed_read_is_a_read_fault(rt: HostRuntime) {
     for (call, want) in FAULTS {
-        let text = taken_to_fault(rt.alloc(), call)?;
+        let text = taken_to_fault(rt.alloc(), call).expect(&rt, "memory");
         assert_eq!(&rt; text.as_slice(), want.as_bytes(), "at {call}");
     }
-    Ok(())
 }

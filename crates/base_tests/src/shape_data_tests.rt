@@ -416,12 +416,16 @@ fn answer(alloc: Global, draft: Draft) -> Result<Answer, Fail> {
     })
 }
 
+/// Whether it is a program, with this change of its code.
+fn is_program(alloc: Global, edit: Edit) -> Result<bool, Fail> {
+    Ok(well_formed_program(&program(alloc, edit)?))
+}
+
 #[test]
 fn a_program_is_well_formed_unless_a_rule_is_broken(rt: HostRuntime) -> Result<(), Fail> {
-    let alloc = rt.alloc();
-    assert!(rt; well_formed_program(&program(alloc, NO_EDIT)?));
+    assert!(rt; is_program(rt.alloc(), NO_EDIT)?);
     for (rule, edit) in NO_PROGRAMS {
-        assert!(rt; !well_formed_program(&program(alloc, edit)?), "{rule}");
+        assert!(rt; !is_program(rt.alloc(), edit)?, "{rule}");
     }
     Ok(())
 }
@@ -449,17 +453,21 @@ fn a_key_is_well_formed_unless_a_rule_is_broken(rt: HostRuntime) -> Result<(), F
     Ok(())
 }
 
+/// Whether it is an answer for the key.
+fn is_answer(alloc: Global, draft: Draft) -> Result<bool, Fail> {
+    let key = key(alloc, NO_EDIT, callee(alloc, b"other", HEAP)?)?;
+    Ok(well_formed_answer(&key, &answer(alloc, draft)?))
+}
+
 #[test]
 fn an_answer_is_well_formed_unless_a_rule_is_broken(rt: HostRuntime) -> Result<(), Fail> {
-    let alloc = rt.alloc();
-    let key = key(alloc, NO_EDIT, callee(alloc, b"other", HEAP)?)?;
-    assert!(rt; well_formed_answer(&key, &answer(alloc, ANSWER)?));
+    assert!(rt; is_answer(rt.alloc(), ANSWER)?);
     for (rule, draft) in NO_ANSWERS {
-        assert!(rt; !well_formed_answer(&key, &answer(alloc, draft)?), "{rule}");
+        assert!(rt; !is_answer(rt.alloc(), draft)?, "{rule}");
     }
     for (rule, heap) in NO_HEAPS {
         let draft = Draft { heap, ..ANSWER };
-        assert!(rt; !well_formed_answer(&key, &answer(alloc, draft)?), "{rule}");
+        assert!(rt; !is_answer(rt.alloc(), draft)?, "{rule}");
     }
     Ok(())
 }

@@ -11,6 +11,7 @@ use shape_types::row::Row;
 use shape_types::symbolic::{Atom, Exp, Spec, SymHeap};
 use std::alloc::{AllocError, Global};
 use std::cmp::Ordering;
+use std::process::Abort;
 use std::sync::Arc;
 use std::test::Fail;
 
@@ -115,54 +116,69 @@ fn key(alloc: Global, number: i32) -> Result<Key, AllocError> {
     })
 }
 
-// Whether a value is the same as its clone, and is not the same as the other.
-fn is_told_apart<T: Exact + Drop>(value: &T, other: &T) -> Result<bool, AllocError> {
-    let copied = copy_of(value)?;
-    Ok(is_same(value, &copied) && !is_same(&copied, other))
+// A value is the same as its clone, and is not the same as the other.
+fn is_told_apart<T: Exact + Drop>(rt: &impl Abort, value: &T, other: &T) {
+    let copied = copy_of(value).expect(rt, "memory");
+    assert!(rt; is_same(value, &copied));
+    assert!(rt; !is_same(&copied, other));
 }
 
 #[test]
-fn deep_values_are_told_apart(rt: HostRuntime) -> Result<(), Fail> {
-    let alloc = rt.alloc();
-    assert!(rt; is_told_apart(&program(alloc, FIVE)?, &program(alloc, SIX)?)?);
-    assert!(rt; is_told_apart(&key(alloc, 5)?, &key(alloc, 6)?)?);
-    assert!(rt; is_told_apart(&Some(3u32), &None)?);
+fn programs_are_told_apart(rt: HostRuntime) -> Result<(), Fail> {
+    let five = program(rt.alloc(), FIVE)?;
+    let six = program(rt.alloc(), SIX)?;
+    is_told_apart(&rt, &five, &six);
     Ok(())
 }
 
 #[test]
-fn shared_values_are_compared_by_what_they_hold(rt: HostRuntime) -> Result<(), Fail> {
-    let alloc = rt.alloc();
-    let first = Arc::new(alloc, one(alloc, 5u32)?)?;
-    let alike = Arc::new(alloc, one(alloc, 5u32)?)?;
-    let other = Arc::new(alloc, one(alloc, 6u32)?)?;
+fn keys_are_told_apart(rt: HostRuntime) {
+    let five = key(rt.alloc(), 5).expect(&rt, "memory");
+    let six = key(rt.alloc(), 6).expect(&rt, "memory");
+    is_told_apart(&rt, &five, &six);
+}
+
+#[test]
+fn options_are_told_apart(rt: HostRuntime) {
+    is_told_apart(&rt, &Some(3u32), &None);
+}
+
+// A shared row of one value.
+fn shared(alloc: Global, value: u32) -> Result<Arc<Row<u32>>, AllocError> {
+    Ok(Arc::new(alloc, one(alloc, value)?)?)
+}
+
+#[test]
+fn shared_values_are_compared_by_what_they_hold(rt: HostRuntime) {
+    let first = shared(rt.alloc(), 5).expect(&rt, "memory");
+    let alike = shared(rt.alloc(), 5).expect(&rt, "memory");
+    let other = shared(rt.alloc(), 6).expect(&rt, "memory");
     assert!(rt; is_same_shared(&first, &alike));
-    assert!(rt; !is_same_shared(&share(&first)?, &other));
-    Ok(())
+    assert!(rt; !is_same_shared(&first, &other));
+    let again = share(&first).expect(&rt, "memory");
+    assert!(rt; is_same_shared(&again, &alike));
 }
 
 #[test]
-fn names_are_bytes_in_order(rt: HostRuntime) -> Result<(), Fail> {
-    let alloc = rt.alloc();
-    let short = name(alloc, b"ab")?;
-    let long = name(alloc, b"ab\xff")?;
+fn names_are_bytes_in_order(rt: HostRuntime) {
+    let short = name(rt.alloc(), b"ab").expect(&rt, "memory");
+    let long = name(rt.alloc(), b"ab\xff").expect(&rt, "memory");
+    let again = short.clone().expect(&rt, "memory");
     assert!(rt; Name::is_name(&[7; 64]) && !Name::is_name(&[7; 65]) && !Name::is_name(b""));
     assert_eq!(rt; long.as_bytes().len(), 3);
-    assert!(rt; short < long && short == short.clone()?);
-    Ok(())
+    assert!(rt; short < long && short == again);
 }
 
 #[test]
-fn rows_are_edited(rt: HostRuntime) -> Result<(), Fail> {
+fn rows_are_edited(rt: HostRuntime) {
     let mut row = Row::new(rt.alloc());
     assert!(rt; row.is_empty());
-    row.push(5)?;
-    with_one_more(&mut row, 7)?;
-    row.insert(1, 6)?;
+    row.push(5).expect(&rt, "memory");
+    with_one_more(&mut row, 7).expect(&rt, "memory");
+    row.insert(1, 6).expect(&rt, "memory");
     row.set(0, 4);
     assert_eq!(rt; row.remove(1), 6);
     assert_eq!(rt; row.into_vec().as_slice(), [4, 7].as_slice());
-    Ok(())
 }
 
 // A row of two numbers.
@@ -173,29 +189,28 @@ fn two(alloc: Global, first: u32, second: u32) -> Result<Row<u32>, AllocError>
 }
 
 #[test]
-fn rows_are_read(rt: HostRuntime) -> Result<(), Fail> {
-    let row = two(rt.alloc(), 4, 7)?;
+fn rows_are_read(rt: HostRuntime) {
+    let row = two(rt.alloc(), 4, 7).expect(&rt, "memory");
     assert!(rt; row.first() == row.get(0) && row.last() == row.get(1) && are_small(&row));
     assert!(rt; row.len() == 2 && at(&row, 1) == 7);
-    assert_eq!(rt; format!(in rt.alloc(); "{row:?}")?.as_str(), "[4, 7]");
-    Ok(())
+    let text = format!(in rt.alloc(); "{row:?}").expect(&rt, "memory");
+    assert_eq!(rt; text.as_str(), "[4, 7]");
 }
 
 #[test]
-fn rows_are_walked(rt: HostRuntime) -> Result<(), Fail> {
-    let row = two(rt.alloc(), 4, 7)?;
+fn rows_are_walked(rt: HostRuntime) {
+    let row = two(rt.alloc(), 4, 7).expect(&rt, "memory");
     let mut count = 0u32;
     for value in &row {
         count = count.wrapping_add(*value);
     }
     assert_eq!(rt; count, 11);
-    Ok(())
 }
 
 #[test]
-fn rows_are_compared(rt: HostRuntime) -> Result<(), Fail> {
-    let row = two(rt.alloc(), 4, 7)?;
-    let other = Row::from_vec(vec![in rt.alloc(); 4, 8]?);
-    assert!(rt; row < other && row.cmp(&other) == Ordering::Less && is_told_apart(&row, &other)?);
-    Ok(())
+fn rows_are_compared(rt: HostRuntime) {
+    let row = two(rt.alloc(), 4, 7).expect(&rt, "memory");
+    let other = two(rt.alloc(), 4, 8).expect(&rt, "memory");
+    assert!(rt; row < other && row.cmp(&other) == Ordering::Less);
+    is_told_apart(&rt, &row, &other);
 }

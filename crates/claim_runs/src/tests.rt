@@ -129,6 +129,22 @@ fn is_collected(
     Ok(())
 }
 
+/// What came of a turn, with a claim's number.
+#[derive(Clone, Copy)]
+enum Came {
+    Nothing,
+    /// A claim was made.
+    Claimed(u64),
+    /// All that an aim lacks is claimed.
+    Waits,
+    /// A claim ended with an answer that is kept.
+    Kept(u64),
+    /// A claim ended with an answer that is not kept.
+    Stale(u64),
+    /// A claim ended without an answer.
+    Back(u64),
+}
+
 /// A component is handed out, if one can be.
 fn next(
     rt: &impl Abort,
@@ -136,21 +152,25 @@ fn next(
     aim: &Aim,
     book: &mut Book<Any>,
     present: &Present,
-) -> Result<(), Fail> {
+) -> Result<Came, Fail> {
     match book.next(alloc, 0, aim)? {
         Next::Yours(claim) => {
             let number = claim.number();
             claim.forget();
             assert!(rt; number > present.world.made);
+            Ok(Came::Claimed(number))
         }
-        Next::Waits { claim } => assert!(rt; has_claim(&present.world, claim)),
+        Next::Waits { claim } => {
+            assert!(rt; has_claim(&present.world, claim));
+            Ok(Came::Waits)
+        }
         Next::All => {
             if let Aim::All = aim {
                 is_collected(rt, alloc, book, present)?;
             }
+            Ok(Came::Nothing)
         }
     }
-    Ok(())
 }
 
 /// An answer comes to an outstanding claim, and says whether it is kept.
@@ -179,19 +199,6 @@ fn give_back(rt: &impl Abort, book: &mut Book<Any>, out: &Out) -> Result<(), Fai
     Ok(())
 }
 
-/// What a turn came to, with a claim's number.
-#[derive(Clone, Copy)]
-enum Ended {
-    /// No claim ended.
-    Nothing,
-    /// A claim ended with an answer that is kept.
-    Kept(u64),
-    /// A claim ended with an answer that is not kept.
-    Stale(u64),
-    /// A claim ended without an answer.
-    Back(u64),
-}
-
 /// A claim ends, if one is outstanding: one time in five without an answer.
 fn end(
     rt: &impl Abort,
@@ -199,20 +206,20 @@ fn end(
     draws: &mut Draws,
     book: &mut Book<Any>,
     present: &Present,
-) -> Result<Ended, Fail> {
+) -> Result<Came, Fail> {
     let outstanding = present.world.out.as_slice();
     if outstanding.is_empty() {
-        return Ok(Ended::Nothing);
+        return Ok(Came::Nothing);
     }
     let out = &outstanding[draws.word() as usize % outstanding.len()];
     if draws.below(5) == 0 {
         give_back(rt, book, out)?;
-        return Ok(Ended::Back(out.number));
+        return Ok(Came::Back(out.number));
     }
     if publish(rt, alloc, draws, book, out)? {
-        Ok(Ended::Kept(out.number))
+        Ok(Came::Kept(out.number))
     } else {
-        Ok(Ended::Stale(out.number))
+        Ok(Came::Stale(out.number))
     }
 }
 
@@ -223,38 +230,78 @@ fn turn(
     draws: &mut Draws,
     book: &mut Book<Any>,
     present: &Present,
-) -> Result<Ended, Fail> {
+) -> Result<Came, Fail> {
     let choice = draws.below(16);
     if choice == 0 {
         meet(rt, alloc, draws, book)?;
-        return Ok(Ended::Nothing);
+        return Ok(Came::Nothing);
     }
     if choice < 7 {
-        next(rt, alloc, &Aim::All, book, present)?;
-        return Ok(Ended::Nothing);
+        return next(rt, alloc, &Aim::All, book, present);
     }
     if choice < 10 {
         let aim = Aim::One(Name::of(alloc, b"a")?);
-        next(rt, alloc, &aim, book, present)?;
-        return Ok(Ended::Nothing);
+        return next(rt, alloc, &aim, book, present);
     }
     end(rt, alloc, draws, book, present)
 }
 
 /// The world holds what the book has answered.
-fn is_as_said(rt: &impl Abort, world: &World, ended: Ended) {
-    match ended {
-        Ended::Nothing => {}
-        Ended::Kept(number) => {
+fn is_as_said(rt: &impl Abort, world: &World, came: Came) {
+    match came {
+        Came::Nothing | Came::Waits => {}
+        Came::Claimed(number) => {
+            assert!(rt; has_claim(world, number));
+            assert!(rt; world.made == number);
+        }
+        Came::Kept(number) => {
             assert!(rt; has_slot(world, number));
             assert!(rt; !has_claim(world, number));
         }
-        Ended::Stale(number) => {
+        Came::Stale(number) => {
             assert!(rt; !has_slot(world, number));
             assert!(rt; !has_claim(world, number));
         }
-        Ended::Back(number) => assert!(rt; !has_claim(world, number)),
+        Came::Back(number) => assert!(rt; !has_claim(world, number)),
     }
+}
+
+/// How often something came of a turn.
+#[derive(Debug, Drop)]
+struct Counts {
+    claimed: u32,
+    waited: u32,
+    kept: u32,
+    stale: u32,
+    back: u32,
+}
+
+const NO_COUNTS: Counts = Counts {
+    claimed: 0,
+    waited: 0,
+    kept: 0,
+    stale: 0,
+    back: 0,
+};
+
+fn count(counts: &mut Counts, came: Came) {
+    match came {
+        Came::Nothing => {}
+        Came::Claimed(_) => counts.claimed = counts.claimed.wrapping_add(1),
+        Came::Waits => counts.waited = counts.waited.wrapping_add(1),
+        Came::Kept(_) => counts.kept = counts.kept.wrapping_add(1),
+        Came::Stale(_) => counts.stale = counts.stale.wrapping_add(1),
+        Came::Back(_) => counts.back = counts.back.wrapping_add(1),
+    }
+}
+
+/// Whether each came up often.
+fn is_varied(counts: &Counts) -> bool {
+    counts.claimed >= 50
+        && counts.waited >= 50
+        && counts.kept >= 50
+        && counts.stale >= 50
+        && counts.back >= 50
 }
 
 #[test]
@@ -263,17 +310,20 @@ fn two_thousand_events_keep_to_the_world(rt: HostRuntime) -> Result<(), Fail> {
     let mut draws = Draws::new(28);
     let mut book: Book<Any> = Book::new(alloc)?;
     let mut present = first(alloc)?;
+    let mut counts = NO_COUNTS;
     let mut seen = 0;
     for _ in 0..20_000 {
         if seen >= 2000 {
             break;
         }
-        let ended = turn(&rt, alloc, &mut draws, &mut book, &present)?;
+        let came = turn(&rt, alloc, &mut draws, &mut book, &present)?;
         present = after(&rt, alloc, present, book.log(), seen)?;
         seen = book.log().len();
-        is_as_said(&rt, &present.world, ended);
+        is_as_said(&rt, &present.world, came);
+        count(&mut counts, came);
         assert!(rt; book.marked() as usize <= present.world.slots.len());
     }
     assert!(rt; seen >= 2000);
+    assert!(rt; is_varied(&counts), "{counts:?}");
     Ok(())
 }

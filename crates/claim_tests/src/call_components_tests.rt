@@ -159,6 +159,10 @@ fn a_chain_of_all_procedures(rt: HostRuntime) -> Result<(), Fail> {
 fn a_cycle_of_all_procedures(rt: HostRuntime) -> Result<(), Fail> {
     let all = chained(&rt, rt.alloc(), 0)?;
     assert_eq!(rt; all.len(), 1);
-    assert_eq!(rt; all[0].len(), 1024);
+    let members = all[0].as_slice();
+    assert_eq!(rt; members.len(), 1024);
+    for (place, member) in members.iter().enumerate() {
+        assert_eq!(rt; *member as usize, place);
+    }
     Ok(())
 }

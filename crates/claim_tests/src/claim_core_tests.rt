@@ -33,7 +33,7 @@ impl Job for Silent {
 }
 
 #[test]
-fn a_claim_is_solved_and_booked(rt: HostRuntime) -> Result<(), Fail> {
+fn a_claim_is_solved_and_counted(rt: HostRuntime) -> Result<(), Fail> {
     let alloc = rt.alloc();
     let key = key(alloc, LEAF, &[])?;
     assert!(rt; well_formed_key(&key));

@@ -19,8 +19,8 @@ enum Step<'a> {
     Revise(u64, &'a [Sketch<'a>]),
     /// The claim's number, its component, the procedure of its key, and how many specs each procedure that this one calls has.
     Claim(u64, u32, Sketch<'a>, &'a [(u8, u32)]),
-    /// The claim's number, how many specs `g` has in the answer, and whether it is kept.
-    Publish(u64, u32, bool),
+    /// The claim's number, the procedure of its key, how many specs this has in the answer, and whether it is kept.
+    Publish(u64, Sketch<'a>, u32, bool),
     /// The claim's number.
     GiveBack(u64),
 }
@@ -55,9 +55,9 @@ const EACH_KIND: &Log = &Log {
     steps: &[
         Step::Revise(1, BOTH),
         Step::Claim(1, 0, LEAF, &[]),
-        Step::Publish(1, 0, true),
+        Step::Publish(1, LEAF, 0, true),
         Step::Claim(2, 1, CALLER, NO_SPEC),
-        Step::Publish(2, 0, true),
+        Step::Publish(2, CALLER, 0, true),
         Step::Revise(2, ALONE),
         Step::Claim(3, 0, CALLER, &[]),
         Step::GiveBack(3),
@@ -84,12 +84,12 @@ const MAY_NOT_HAPPEN: &Log = &Log {
         Step::Claim(1, 1, CALLER, NO_SPEC),
         Step::Claim(1, 0, OTHER_LEAF, &[]),
         Step::Claim(1, 7, LEAF, &[]),
-        Step::Publish(1, 0, true),
+        Step::Publish(1, LEAF, 0, true),
         Step::GiveBack(1),
         Step::Claim(1, 0, LEAF, &[]),
         Step::Claim(2, 0, LEAF, &[]),
-        Step::Publish(1, 0, false),
-        Step::Publish(1, 0, true),
+        Step::Publish(1, LEAF, 0, false),
+        Step::Publish(1, LEAF, 0, true),
         Step::Claim(2, 0, LEAF, &[]),
     ],
     leads: &[
@@ -105,8 +105,8 @@ const GONE: &Log = &Log {
         Step::Revise(1, BOTH),
         Step::Claim(1, 0, LEAF, &[]),
         Step::Revise(2, ALONE),
-        Step::Publish(1, 0, true),
-        Step::Publish(1, 0, false),
+        Step::Publish(1, LEAF, 0, true),
+        Step::Publish(1, LEAF, 0, false),
     ],
     leads: &[Led(4, 2, &[], &[1], 1), Led(5, 2, &[], &[], 1)],
 };
@@ -117,8 +117,8 @@ const ANOTHER: &Log = &Log {
         Step::Revise(1, BOTH),
         Step::Claim(1, 0, LEAF, &[]),
         Step::Revise(2, CHANGED),
-        Step::Publish(1, 0, true),
-        Step::Publish(1, 0, false),
+        Step::Publish(1, LEAF, 0, true),
+        Step::Publish(1, LEAF, 0, false),
     ],
     leads: &[Led(4, 2, &[], &[1], 1), Led(5, 2, &[], &[], 1)],
 };
@@ -130,9 +130,9 @@ const SETTLED: &Log = &Log {
         Step::Claim(1, 0, LEAF, &[]),
         Step::Revise(2, CHANGED),
         Step::Claim(2, 0, OTHER_LEAF, &[]),
-        Step::Publish(2, 0, true),
-        Step::Publish(1, 1, true),
-        Step::Publish(1, 1, false),
+        Step::Publish(2, OTHER_LEAF, 0, true),
+        Step::Publish(1, LEAF, 1, true),
+        Step::Publish(1, LEAF, 1, false),
     ],
     leads: &[Led(6, 2, &[2], &[1], 2), Led(7, 2, &[2], &[], 2)],
 };
@@ -144,7 +144,7 @@ const BACK: &Log = &Log {
         Step::Claim(1, 0, LEAF, &[]),
         Step::Revise(2, CHANGED),
         Step::Revise(3, BOTH),
-        Step::Publish(1, 0, true),
+        Step::Publish(1, LEAF, 0, true),
     ],
     leads: &[Led(5, 3, &[1], &[], 1)],
 };
@@ -154,16 +154,16 @@ const LATER: &Log = &Log {
     steps: &[
         Step::Revise(1, BOTH),
         Step::Claim(1, 0, LEAF, &[]),
-        Step::Publish(1, 0, true),
+        Step::Publish(1, LEAF, 0, true),
         Step::Claim(2, 1, CALLER, NO_SPEC),
         Step::Revise(2, CHANGED),
         Step::Claim(3, 0, OTHER_LEAF, &[]),
-        Step::Publish(3, 1, true),
+        Step::Publish(3, OTHER_LEAF, 1, true),
         Step::Claim(4, 1, CALLER, ONE_SPEC),
-        Step::Publish(4, 0, true),
+        Step::Publish(4, CALLER, 0, true),
         Step::Revise(3, CHANGED_AGAIN),
-        Step::Publish(2, 0, true),
-        Step::Publish(2, 0, false),
+        Step::Publish(2, CALLER, 0, true),
+        Step::Publish(2, CALLER, 0, false),
     ],
     leads: &[
         Led(9, 2, &[3, 4], &[2], 4),
@@ -177,10 +177,10 @@ const OLDER: &Log = &Log {
     steps: &[
         Step::Revise(1, BOTH),
         Step::Claim(1, 0, LEAF, &[]),
-        Step::Publish(1, 0, true),
+        Step::Publish(1, LEAF, 0, true),
         Step::Claim(2, 1, CALLER, NO_SPEC),
         Step::Revise(2, CHANGED),
-        Step::Publish(2, 0, true),
+        Step::Publish(2, CALLER, 0, true),
     ],
     leads: &[Led(6, 2, &[1, 2], &[], 2)],
 };
@@ -211,10 +211,16 @@ fn claim(
     })
 }
 
-fn publish(alloc: Global, number: u64, count: u32, kept: bool) -> Result<Event, Fail>
+fn publish(
+    alloc: Global,
+    number: u64,
+    sketch: Sketch,
+    count: u32,
+    kept: bool,
+) -> Result<Event, Fail>
     ensures { IfOk result IsFormed }
 {
-    let key = key(alloc, LEAF, &[])?;
+    let key = key(alloc, sketch, &[])?;
     let answer = answer(alloc, &key, count)?;
     Ok(Event::Publish {
         number,
@@ -231,7 +237,9 @@ fn event(rt: &impl Abort, alloc: Global, step: &Step) -> Result<Event, Fail>
         Step::Claim(number, component, sketch, known) => {
             claim(alloc, *number, *component, *sketch, *known)
         }
-        Step::Publish(number, count, kept) => publish(alloc, *number, *count, *kept),
+        Step::Publish(number, sketch, count, kept) => {
+            publish(alloc, *number, *sketch, *count, *kept)
+        }
         Step::GiveBack(number) => Ok(Event::GiveBack { number: *number }),
     }
 }

@@ -100,7 +100,7 @@ fn all_procedures_are_reported_in_order(rt: HostRuntime) {
 }
 
 #[test]
-fn a_few_commands_are_executed(rt: HostRuntime) {
+fn small_bodies_are_reported(rt: HostRuntime) {
     all_answer(&rt, rt.alloc(), &ANALYSED);
 }
 
@@ -178,7 +178,7 @@ fn limits_are_reached(rt: HostRuntime) {
 }
 
 #[test]
-fn what_has_too_many_parts_is_refused(rt: HostRuntime) {
+fn the_largest_fit_and_larger_ones_are_refused(rt: HostRuntime) {
     all_fit(&rt, rt.alloc(), &LARGEST);
     none_fits(&rt, rt.alloc(), &TOO_LARGE);
 }
@@ -367,6 +367,7 @@ fn a_failed_write_is_a_write_fault_and_leaves_a_front(rt: HostRuntime) {
     }
 }
 
+/// In the gate no allocation fails, and the reply is compared alone; `rt try --test --fail-alloc N` lets the Nth fail.
 #[test]
 fn want_of_memory_is_told_and_leaves_a_front(rt: HostRuntime) {
     let call = Call {
@@ -375,7 +376,6 @@ fn want_of_memory_is_told_and_leaves_a_front(rt: HostRuntime) {
     };
     let left = left_by(&rt, rt.alloc(), call);
     let written = left.written.as_slice();
-    // `rt try --test --fail-alloc N` lets the Nth allocation fail.
     if left.status == Status::NoMemory {
         assert!(rt; IDENTITY_REPLY.as_bytes().starts_with(written));
     } else {
@@ -433,10 +433,10 @@ fn letters(alloc: Global, log: &[Event]) -> Result<Vec<u8>, AllocError> {
 }
 
 /// These events are what is done for the replies to a stream.
-fn works<R: Threads + Wait + Sync + Abort>(rt: &R, alloc: Global, stream: &[u8], want: &[u8]) {
+fn works<R: Threads + Wait + Sync + Abort>(rt: &R, alloc: Global, stream: Stream, want: &[u8]) {
     let call = Call {
         words: ALONE,
-        stream: Stream::Of(stream),
+        stream,
         ..SESSION
     };
     let left = left_by(rt, alloc, call);

@@ -1,4 +1,5 @@
-//! Answers to keys: so many specs of the empty heap for each procedure, which no run meets, or none at all.
+//! Answers to keys: so many specs for each procedure, each of which says that no run from the empty heap returns (few of these programs
+//! are such), or none at all.
 ghost use Rattle.std.specs.Prelude.{◌≡◌, [], false, All, IfOk};
 ghost use Rattle.shape_data.specs.WellFormed.{storable as within, AreSummaries, HasReason, IsStorableAnswer, IsSummary};
 

@@ -127,7 +127,7 @@ pub fn procs(alloc: Global, sketches: &[Sketch]) -> Result<Row<Proc>, AllocError
     Ok(procs)
 }
 
-/// The program of these procedures, with no structures.
+/// The program of procedures that are made already, with no structures.
 pub fn program_of(alloc: Global, procs: Row<Proc>) -> Result<Arc<Program>, AllocError> {
     let program = Program {
         structs: Row::new(alloc),
@@ -136,7 +136,7 @@ pub fn program_of(alloc: Global, procs: Row<Proc>) -> Result<Arc<Program>, Alloc
     Ok(Arc::new(alloc, program)?)
 }
 
-/// The program of these procedures, with no structures.
+/// The program of the procedures of these sketches, with no structures.
 pub fn program(alloc: Global, sketches: &[Sketch]) -> Result<Arc<Program>, AllocError> {
     program_of(alloc, procs(alloc, sketches)?)
 }

@@ -108,7 +108,8 @@ pub fn wide_programs(alloc: Global, count: i32) -> Result<Vec<Arc<Program>>, All
 
 const NAPS: u32 = 300;
 
-const TURNS: u32 = 100_000_000;
+/// For how many milliseconds a claim waits for another that has to come.
+const PATIENCE: u32 = 60_000;
 
 /// Sleeps for a millisecond, or less.
 fn nap<R: Wait>(rt: &R) {
@@ -122,7 +123,7 @@ fn rest<R: Wait>(rt: &R) {
     }
 }
 
-/// Lets the first claims rest. Each later one before the last waits until the last has entered, for at most `TURNS` turns.
+/// Lets the first claims rest. Each later one before the last waits until the last has entered, for at most `PATIENCE` milliseconds.
 #[derive(Drop)]
 pub struct Meeting {
     pauses: u64,
@@ -155,11 +156,11 @@ impl Gate for Meeting {
             rest(rt);
             return;
         }
-        for _ in 0..TURNS {
+        for _ in 0..PATIENCE {
             if self.met.load(Ordering::SeqCst) == 1 {
                 return;
             }
-            thread::yield_now();
+            nap(rt);
         }
         self.late.fetch_add(1, Ordering::SeqCst);
     }
@@ -187,7 +188,7 @@ impl Gate for Crowd {
     }
 }
 
-/// Lets the claims of some numbers wait for others, a different way in every run.
+/// Lets each claim yield, up to six times, by the order in which they enter.
 #[derive(Drop)]
 pub struct Yields {
     pub turns: AtomicU64,
@@ -205,7 +206,7 @@ impl Gate for Yields {
 /// How a leader works, and when its job wants memory.
 #[derive(Clone, Copy)]
 pub struct Setting {
-    /// The procedure at which it aims, if not at all.
+    /// The procedure at which it aims; none where it aims at all components.
     pub aim: Option<u8>,
     /// Whether each program is started before it is settled.
     pub starts: bool,

@@ -18,6 +18,8 @@ pub enum Stream<'a> {
     Of(&'a [u8]),
     /// A file that is put under its name, and the bytes behind it.
     Put(&'static str, &'a [u8], &'static [u8]),
+    /// Files, each of which is put under its name and reported on.
+    Reports(&'static [(&'static str, &'static [u8])]),
 }
 
 /// How bytes are moved: how many a read or a write moves at most, and the number of the one that fails, from 0.
@@ -41,7 +43,7 @@ pub const WHOLE: Moves = Moves {
 pub enum Kind {
     /// Keeps what it takes; the number of entries at which it stops, and that of the call at which it fails.
     Keeps(Option<u32>, u64),
-    /// Tells nothing, and refuses its second entry; how many it was offered before.
+    /// Tells nothing, and refuses the entry of this number, from 1 on.
     Shy(u64),
     /// Counts.
     Counts,
@@ -113,10 +115,13 @@ impl Keeper for Nowhere {
     }
 }
 
-/// Tells nothing, and refuses its second entry.
+/// Tells nothing, and refuses one entry.
 #[derive(Drop)]
 struct Shy {
+    /// How many entries it was offered.
     calls: u64,
+    /// The number of the entry that it refuses.
+    refused: u64,
 }
 
 impl Reporter for Shy {
@@ -128,11 +133,13 @@ impl Reporter for Shy {
     ghost untold = { λ _ _. refl };
 
     fn take(&mut self, _alloc: Global, _entry: &Entry) -> Result<Go, TakeFault> {
-        if self.calls == 1 {
-            self.calls = 2;
+        let Some(calls) = self.calls.checked_add(1) else {
+            return Ok(Go::More);
+        };
+        self.calls = calls;
+        if calls == self.refused {
             return Err(TakeFault::Failed);
         }
-        self.calls = self.calls.saturating_add(1);
         Ok(Go::More)
     }
 
@@ -147,11 +154,12 @@ pub fn text(bytes: &[u8]) -> &str {
 }
 
 impl<'a> Stream<'a> {
-    /// Its first bytes, or those of the file that it puts, to tell it from others.
+    /// Its first bytes, those of the file that it puts, or a word, to tell it from others.
     fn front(self) -> &'a str {
         let bytes = match self {
             Stream::Of(bytes) => bytes,
             Stream::Put(_, file, _) => file,
+            Stream::Reports(_) => b"reports",
         };
         text(&bytes[..bytes.len().min(80)])
     }
@@ -169,6 +177,19 @@ pub fn push_put(
     bytes.extend_from_slice(file)
 }
 
+/// Appends what puts each file and has it reported on.
+fn push_reports(
+    alloc: Global,
+    bytes: &mut Vec<u8>,
+    files: &[(&str, &[u8])],
+) -> Result<(), AllocError> {
+    for (name, file) in files {
+        push_put(alloc, bytes, name, file)?;
+        bytes.extend_from_slice(b"report\n")?;
+    }
+    Ok(())
+}
+
 /// The bytes of a stream.
 fn bytes_of(alloc: Global, stream: Stream) -> Result<Vec<u8>, AllocError> {
     let mut bytes = Vec::new(alloc);
@@ -178,6 +199,7 @@ fn bytes_of(alloc: Global, stream: Stream) -> Result<Vec<u8>, AllocError> {
             push_put(alloc, &mut bytes, name, file)?;
             bytes.extend_from_slice(behind)?;
         }
+        Stream::Reports(files) => push_reports(alloc, &mut bytes, files)?,
     }
     Ok(bytes)
 }
@@ -210,8 +232,8 @@ fn keeping<R: Abort>(
     Box::new(alloc, reporter).expect(rt, "memory")
 }
 
-fn refusing<R: Abort>(rt: &R, alloc: Global, calls: u64) -> Box<Shy> {
-    Box::new(alloc, Shy { calls }).expect(rt, "memory")
+fn refusing<R: Abort>(rt: &R, alloc: Global, refused: u64) -> Box<Shy> {
+    Box::new(alloc, Shy { calls: 0, refused }).expect(rt, "memory")
 }
 
 fn counting<R: Abort>(rt: &R, alloc: Global) -> Box<CountReporter> {
@@ -223,7 +245,7 @@ fn reporters_of<R: Abort>(rt: &R, alloc: Global, kinds: &[Kind]) -> Vec<Box<dyn 
     for kind in kinds {
         let pushed = match *kind {
             Kind::Keeps(stop_at, fail_at) => reporters.push(keeping(rt, alloc, stop_at, fail_at)),
-            Kind::Shy(calls) => reporters.push(refusing(rt, alloc, calls)),
+            Kind::Shy(refused) => reporters.push(refusing(rt, alloc, refused)),
             Kind::Counts => reporters.push(counting(rt, alloc)),
         };
         pushed.expect(rt, "memory");

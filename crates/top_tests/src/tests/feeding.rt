@@ -88,14 +88,15 @@ fn one_that_stops_is_dropped_and_the_other_has_all(rt: HostRuntime) {
     );
 }
 
-/// One that refuses an entry of the report, and one that refused an earlier one.
+/// One that refuses the last of a report's eight entries, and one that refuses the first behind them.
 const UNTOLD: &[Row] = &[
-    (&[Kind::Shy(0)], ONE, ""),
-    (&[Kind::Shy(2)], ONE, "tells nothing\n"),
+    (&[Kind::Shy(8)], ONE, ""),
+    (&[Kind::Shy(9)], ONE, "tells nothing\n"),
+    (&[Kind::Shy(9)], TWO, ""),
 ];
 
 #[test]
-fn one_that_tells_nothing_is_offered_each_entry_too(rt: HostRuntime) {
+fn one_that_tells_nothing_is_offered_each_entry_once(rt: HostRuntime) {
     all_tell(&rt, rt.alloc(), UNTOLD);
 }
 
@@ -153,7 +154,7 @@ fn only_reports_on_programs_are_fed(rt: HostRuntime) {
 }
 
 #[test]
-fn a_counting_reporter_stays(rt: HostRuntime) {
+fn one_that_counts_stays_and_tells_nothing(rt: HostRuntime) {
     all_tell(
         &rt,
         rt.alloc(),

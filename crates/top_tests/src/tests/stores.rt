@@ -8,7 +8,7 @@ use super::calls::{
     text,
 };
 use super::count_letter;
-use super::work::{CHANGED_AND_BACK, PEEK_THRICE, PEEKS};
+use super::work::{CHANGED_AND_BACK, PEEKS};
 use super::worked::{STACK_REPLY, with_stack};
 use claim_core::Event;
 use heapan_top::{LoadedAnswers, Status, agrees, plain};
@@ -49,7 +49,7 @@ total 1 1 0
 const EMPTY_STORE: &[u8] =
     b"{\"entries\":[],\"format\":1}\n56177ba82b132c561284403f08857796de5af224c36f16e9f410781f41504ae8\n";
 
-/// Bytes that are no store: none, one too few, no JSON under a right seal, and another format under a right seal.
+/// Bytes that are no store: none, a word, one too few, no JSON under a right seal, and another format under a right seal.
 const UNREAD: [&[u8]; 5] = [
     b"",
     b"hello",
@@ -151,8 +151,7 @@ const EMPTY: [Keeping; 2] = [
 ];
 
 #[test]
-fn a_store_without_entries_has_91_bytes(rt: HostRuntime) {
-    assert_eq!(rt; EMPTY_STORE.len(), 91);
+fn a_store_without_entries_is_saved_and_read(rt: HostRuntime) {
     for row in EMPTY {
         keeps(&rt, rt.alloc(), row);
     }
@@ -337,8 +336,8 @@ fn has_entries<R: Wait + Abort>(
     }
 }
 
-/// Of each of these files the call, with this keeper, reported on, what plainly answering its program over the entries of the store gives
-/// was claimed, each claim behind the gate, and published.
+/// The call, with this keeper, claims and publishes what plainly answering the program of each of these files over the store's entries
+/// gives; each claim enters the gate once.
 fn logs<R: Threads + Wait + Sync + Abort, P: Keeper>(
     rt: &R,
     alloc: Global,
@@ -371,10 +370,10 @@ fn what_is_reported_was_claimed_and_published(rt: HostRuntime) {
     let alloc = rt.alloc();
     let peeks = Call {
         words: ALONE,
-        stream: Stream::Of(PEEK_THRICE),
+        stream: Stream::Reports(PEEKS),
         ..SESSION
     };
-    logs_all(&rt, alloc, peeks, &PEEKS);
+    logs_all(&rt, alloc, peeks, PEEKS);
     for words in [ALONE, ONE_WORKER, EIGHT_WORKERS] {
         let changed = Call {
             words,

@@ -2,16 +2,15 @@
 //! answered. A comment within a line changes no component, and where a callee is changed but its specs stay, its caller is not solved again. What is
 //! shown has its own component solved, and those that it calls. Procedures that call each other are one component. What was asked of a program is
 //! solved for that program, though another was met before.
+use super::calls::Stream;
 
-pub const PEEK_THRICE: &[u8] =
-    b"put a.c 134\nstruct node { int data; struct node *next; };\nint get(struct node *x) { return x->data; }\nint peek(struct node *x) { return get(x); }\nreport\nput a.c 142\nstruct node { int data; struct node *next; };\nint get(struct node *x) { /* c */ return x->data; }\nint peek(struct node *x) { return get(x); }\nreport\nput a.c 145\nstruct node { int data; struct node *next; };\nint get(struct node *x) { int d = x->data; return d; }\nint peek(struct node *x) { return get(x); }\nreport\n";
+/// A procedure that reads a cell, and one that calls it.
+const PEEK: &[u8] =
+    b"struct node { int data; struct node *next; };\nint get(struct node *x) { return x->data; }\nint peek(struct node *x) { return get(x); }\n";
 
-/// The three files that are put there.
-pub const PEEKS: [(&str, &[u8]); 3] = [
-    (
-        "a.c",
-        b"struct node { int data; struct node *next; };\nint get(struct node *x) { return x->data; }\nint peek(struct node *x) { return get(x); }\n",
-    ),
+/// The same, with a comment, and with a local.
+pub const PEEKS: &[(&str, &[u8])] = &[
+    ("a.c", PEEK),
     (
         "a.c",
         b"struct node { int data; struct node *next; };\nint get(struct node *x) { /* c */ return x->data; }\nint peek(struct node *x) { return get(x); }\n",
@@ -22,30 +21,22 @@ pub const PEEKS: [(&str, &[u8]); 3] = [
     ),
 ];
 
-const STARTED: &[u8] =
-    b"put a.c 134\nstruct node { int data; struct node *next; };\nint get(struct node *x) { return x->data; }\nint peek(struct node *x) { return get(x); }\nstart\n";
-
-const SHOWN: &[u8] =
-    b"put a.c 134\nstruct node { int data; struct node *next; };\nint get(struct node *x) { return x->data; }\nint peek(struct node *x) { return get(x); }\nshow get\n";
-
-const SHOWN_TWICE: &[u8] =
-    b"put a.c 134\nstruct node { int data; struct node *next; };\nint get(struct node *x) { return x->data; }\nint peek(struct node *x) { return get(x); }\nshow get\nshow peek\nshow get\n";
-
-const NONE_SHOWN: &[u8] =
-    b"put a.c 134\nstruct node { int data; struct node *next; };\nint get(struct node *x) { return x->data; }\nint peek(struct node *x) { return get(x); }\nshow gone\n";
-
-const PAIR_TWICE: &[u8] =
-    b"put a.c 134\nint g(int k);\nint f(int k) { if (k == 0) { return k; } return g(k - 1); }\nint g(int k) { if (k == 0) { return k; } return f(k - 1); }\nreport\nreport\n";
+/// Two procedures that call each other.
+const PAIR: &[u8] =
+    b"int g(int k);\nint f(int k) { if (k == 0) { return k; } return g(k - 1); }\nint g(int k) { if (k == 0) { return k; } return f(k - 1); }\n";
 
 pub const CHANGED_AND_BACK: &[u8] =
     b"put a.c 89\nstruct node { int data; struct node *next; };\nint get(struct node *x) { return x->data; }\nstart\nput a.c 102\nstruct node { int data; struct node *next; };\nvoid walk(struct node *x) { while (x) { x = x->next; } }\nstart\nput a.c 89\nstruct node { int data; struct node *next; };\nint get(struct node *x) { return x->data; }\nreport\n";
 
-pub const WORK: [(&[u8], &[u8]); 7] = [
-    (PEEK_THRICE, b"RCPCPRCP"),
-    (CHANGED_AND_BACK, b"RRRCP"),
-    (STARTED, b"R"),
-    (SHOWN, b"RCP"),
-    (SHOWN_TWICE, b"RCPCP"),
-    (NONE_SHOWN, b""),
-    (PAIR_TWICE, b"RCP"),
+pub const WORK: [(Stream, &[u8]); 7] = [
+    (Stream::Reports(PEEKS), b"RCPCPRCP"),
+    (Stream::Of(CHANGED_AND_BACK), b"RRRCP"),
+    (Stream::Put("a.c", PEEK, b"start\n"), b"R"),
+    (Stream::Put("a.c", PEEK, b"show get\n"), b"RCP"),
+    (
+        Stream::Put("a.c", PEEK, b"show get\nshow peek\nshow get\n"),
+        b"RCPCP",
+    ),
+    (Stream::Put("a.c", PEEK, b"show gone\n"), b""),
+    (Stream::Put("a.c", PAIR, b"report\nreport\n"), b"RCP"),
 ];

@@ -4,7 +4,7 @@ use super::calls::{
     text,
 };
 use super::count_letter;
-use super::work::PEEK_THRICE;
+use super::work::PEEKS;
 use super::worked::{STACK_REPLY, with_stack};
 use heapan_top::Status;
 use io_ports::Gate;
@@ -12,6 +12,7 @@ use std::alloc::{AllocError, Global};
 use std::sync::Wait;
 use std::sync::atomic::{AtomicU64, Ordering};
 use std::thread;
+use std::time::Duration;
 
 /// As many workers as there may be.
 const MOST_WORKERS: &[&str] = &["session", "--workers", "64"];
@@ -36,7 +37,7 @@ fn the_stack_module_is_reported_whatever_the_workers(rt: HostRuntime) {
 /// Three files that differ in little, one after another, by the leader alone.
 const PEEKS_ALONE: Call = Call {
     words: ALONE,
-    stream: Stream::Of(PEEK_THRICE),
+    stream: Stream::Reports(PEEKS),
     ..SESSION
 };
 
@@ -55,7 +56,7 @@ fn only_what_changed_is_solved_whatever_the_workers(rt: HostRuntime) {
     }
 }
 
-/// Makes each claim wait until so many have entered, for at most so many turns, and notes where they never did.
+/// Makes each claim wait until so many have entered, for at most `NAPS` milliseconds, and notes where they never did.
 #[derive(Drop)]
 struct Meeting {
     together: u64,
@@ -63,16 +64,16 @@ struct Meeting {
     late: AtomicU64,
 }
 
-const TURNS: u32 = 100_000_000;
+const NAPS: u32 = 60_000;
 
 impl Gate for Meeting {
-    fn enter<R: Wait>(&self, _rt: &R, _claim: u64) {
+    fn enter<R: Wait>(&self, rt: &R, _claim: u64) {
         self.entered.fetch_add(1, Ordering::SeqCst);
-        for _ in 0..TURNS {
+        for _ in 0..NAPS {
             if self.entered.load(Ordering::SeqCst) >= self.together {
                 return;
             }
-            thread::yield_now();
+            AtomicU64::new(0).park_timeout(rt, 0, Duration::from_millis(1));
         }
         self.late.store(1, Ordering::SeqCst);
     }
@@ -105,7 +106,7 @@ fn the_leader_and_each_worker_solve_at_once(rt: HostRuntime) {
     }
 }
 
-/// Lets each claim wait for others, in another way each time.
+/// Lets each claim yield, up to six times, by the order in which they enter.
 #[derive(Drop)]
 struct Yields {
     turns: AtomicU64,
