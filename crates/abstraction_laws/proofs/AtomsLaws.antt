@@ -1,36 +1,24 @@
 -- No step on a pair makes its atoms more, nor does its normal form.
-use Rattle.std.specs.Prelude.{◌≡◌, ℕ, zero, suc, ◌+◌, ◌≤◌, Bool, true, false, ◌==◌, if◌then◌else◌, List, [], ◌∷◌, length, map, option_map, slice_get, MatchOption}
-use Rattle.std.specs.List.{remove}
+use Rattle.std.specs.Prelude.{◌≡◌, ℕ, zero, suc, ◌+◌, ◌≤◌, Bool, true, ◌==◌, List, [], length, map, option_map}
 use Rattle.std.specs.declared.option.Option.{Option}
 use Rattle.std.specs.declared.option.Option.TheVariants.{None, Some}
 use Rattle.std.proofs.Common.{refl, sym, subst, ◌∙◌, arith}
 use Rattle.std.proofs.lemmas.List.{length-map}
 use Rattle.shape_data.specs.declared.program.HeadMark.{HeadMark}
 use Rattle.shape_data.specs.declared.program.StructDef.{StructDef}
-use Rattle.shape_data.specs.declared.symbolic.Atom.{Atom}
-use Rattle.shape_data.specs.declared.symbolic.Atom.TheVariants.{Points, Seg, Junk}
 use Rattle.shape_data.specs.declared.symbolic.Exp.{Exp}
 use Rattle.shape_data.specs.declared.symbolic.Exp.TheVariants.{Var, Const}
-use Rattle.shape_data.specs.declared.symbolic.Fact.{Fact}
 use Rattle.shape_data.specs.declared.symbolic.SymHeap.{SymHeap}
 use Rattle.shape_data.specs.declared.symbolic.SymState.{SymState}
-use Rattle.sym_laws.specs.Junks.{is_other}
 use Rattle.sym_laws.specs.Mapped.{on_atom, on_state}
-use Rattle.sym_pure.specs.declared.parts.Normal.{Normal}
-use Rattle.sym_pure.specs.declared.parts.Normal.TheVariants.{Is, Contradiction}
-use Rattle.sym_pure.specs.declared.parts.Settled.{Settled}
-use Rattle.sym_pure.specs.declared.parts.Solved.{Solved}
-use Rattle.sym_pure.specs.Contradictions.{has_clash}
-use Rattle.sym_pure.specs.Emptying.{place_of_empty, settle, settle_at, with_equal_ends}
-use Rattle.sym_pure.specs.Normal.{disequalities, form_of, normal, normal_settled, normal_solved}
-use Rattle.sym_pure.specs.Redundancy.{one_junk}
-use Rattle.sym_pure.specs.Solving.{read, solve, unless_clash}
+use Rattle.sym_pure.specs.Equations.{read_through}
+use Rattle.sym_pure.proofs.PartsLaws.{form_has_no_more_atoms}
 use Rattle.sym_canon.specs.declared.parts.Pair.{Pair}
 use Rattle.sym_canon.specs.declared.parts.Variables.TheVariants.{Existential}
 use Rattle.sym_canon.specs.Canonical.{arranged, sight_pair, sight_state, with_atoms_placed, without_locals}
 use Rattle.sym_canon.specs.Numbering.{with_number}
 use Rattle.sym_canon.specs.Placing.{placed}
-use Rattle.sym_forms.specs.PairForms.{pair_form, read_through}
+use Rattle.sym_forms.specs.PairForms.{pair_form}
 use Rattle.sym_forms.proofs.PairFormLaws.{IsForm, form-is}
 use Rattle.sym_forms.proofs.WellFormedLaws.{placed-length}
 use Rattle.abstraction_laws.specs.Forgetting.{first_new, forget}
@@ -39,69 +27,7 @@ use Rattle.abstraction_laws.specs.Joining.{Join, find_join, with_join}
 use Rattle.abstraction_laws.specs.Pairs.{canon_of, five_steps, join_pair, join_pair_once, join_pair_times, made_existential, may_join, pair_in_forms, pair_with_join, reduce_state, state_joined_at}
 use Rattle.abstraction_laws.specs.Reaching.{keep_reached}
 use Rattle.abstraction_laws.specs.Repeating.{join_inner, reduce_once, reduce_times, size_of}
-use Rattle.abstraction_laws.proofs.NormalResults.{filter-short, forgotten-atoms, inner-short, joined-short, kept-short}
-
--- ---- the normal form of a state
-
-remove-short : {A : Type 0} (xs : List A) (place : ℕ) → length (remove xs place) ≤ length xs
-remove-short [] zero = omega arith
-remove-short [] (suc place) = omega arith
-remove-short (x ∷ xs) zero = omega arith
-remove-short (x ∷ xs) (suc place) = let short = remove-short xs place in omega (arith, short)
-
-abbrev HasNoMore : List Atom → Settled → Type 0
-HasNoMore atoms settled = length settled.atoms ≤ length atoms
-
-settle-short : (turns : ℕ) (solved : List Solved) (atoms : List Atom) → MatchOption (settle turns solved atoms) (Unit {0}) (HasNoMore atoms)
-settle-short zero solved atoms = omega arith
-settle-short (suc turns) solved atoms = by_place (place_of_empty solved atoms) (λ more others. settle-short turns more others)
-  where
-    weaker : (place : ℕ) (o : Option Settled) → MatchOption o (Unit {0}) (HasNoMore (remove atoms place)) → MatchOption o (Unit {0}) (HasNoMore atoms)
-    weaker place None short = tt
-    weaker place (Some settled) short = let less = remove-short atoms place in omega (arith, short, less)
-
-    by_ends : (place : ℕ) → ((more : List Solved) (others : List Atom) → MatchOption (settle turns more others) (Unit {0}) (HasNoMore others)) → (o : Option (List Solved)) →
-        MatchOption (unless_clash (λ more. settle turns more (remove atoms place)) o) (Unit {0}) (HasNoMore atoms)
-    by_ends place later None = tt
-    by_ends place later (Some more) = weaker place (settle turns more (remove atoms place)) (later more (remove atoms place))
-
-    by_place : (o : Option ℕ) → ((more : List Solved) (others : List Atom) → MatchOption (settle turns more others) (Unit {0}) (HasNoMore others)) →
-        MatchOption (settle_at (λ more others. settle turns more others) solved atoms o) (Unit {0}) (HasNoMore atoms)
-    by_place None later = omega arith
-    by_place (Some place) later = by_ends place later (with_equal_ends solved (slice_get atoms place))
-
-junk-short : (atoms : List Atom) → length (one_junk atoms) ≤ length atoms
-junk-short [] = omega arith
-junk-short (Points at kind fields ∷ atoms) = let short = junk-short atoms in omega (arith, short)
-junk-short (Seg kind link from to ∷ atoms) = let short = junk-short atoms in omega (arith, short)
-junk-short (Junk ∷ atoms) = let short = filter-short is_other atoms in omega (arith, short)
-
-abbrev FormHasNoMore : SymState → Normal → Type 0
-FormHasNoMore state (Is form) = length form.heap.spatial ≤ length state.heap.spatial
-FormHasNoMore state Contradiction = Unit {0}
-
-any-form-short : (state : SymState) → FormHasNoMore state (normal state)
-any-form-short state = by_solved (solve state.heap.pure [])
-  where
-    by_clash : (settled : Settled) → HasNoMore state.heap.spatial settled → (b : Bool) (facts : List Fact) →
-        FormHasNoMore state (if b then Contradiction else Is (form_of state settled.solved facts (map (on_atom (read settled.solved)) settled.atoms)))
-    by_clash settled short true facts = tt
-    by_clash settled short false facts =
-        let alike : length (map (on_atom (read settled.solved)) settled.atoms) ≡ length settled.atoms = length-map settled.atoms (on_atom (read settled.solved)) in
-        let junk = junk-short (map (on_atom (read settled.solved)) settled.atoms) in
-        omega (arith, short, alike, junk)
-
-    by_settled : (o : Option Settled) → MatchOption o (Unit {0}) (HasNoMore state.heap.spatial) → FormHasNoMore state (normal_settled state o)
-    by_settled None short = tt
-    by_settled (Some settled) short =
-        by_clash settled short (has_clash (disequalities settled.solved state.heap.pure) (map (on_atom (read settled.solved)) settled.atoms)) (disequalities settled.solved state.heap.pure)
-
-    by_solved : (o : Option (List Solved)) → FormHasNoMore state (normal_solved state o)
-    by_solved None = tt
-    by_solved (Some solved) = by_settled (settle (length state.heap.spatial) solved state.heap.spatial) (settle-short (length state.heap.spatial) solved state.heap.spatial)
-
-pub form-short : (state form : SymState) → normal state ≡ Is form → length form.heap.spatial ≤ length state.heap.spatial
-form-short state form is = subst (FormHasNoMore state) is (any-form-short state)
+use Rattle.abstraction_laws.proofs.NormalResults.{forgotten-atoms, inner-short, joined-short, kept-short}
 
 -- ---- the steps on a pair
 
@@ -165,9 +91,9 @@ steps-short params kinds mark pair =
 
 pub pair_form-short : (params : ℕ) (pair form : Pair) → IsForm params pair form → HasNoMoreAtoms pair form
 pair_form-short params pair form is =
-    let missing : length is.missing.heap.spatial ≤ length pair.missing.spatial = form-short (without_locals pair.missing) is.missing is.missing_is in
+    let missing : length is.missing.heap.spatial ≤ length pair.missing.spatial = form_has_no_more_atoms (without_locals pair.missing) is.missing is.missing_is in
     let through : SymState = on_state (read_through is.missing.heap.pure) pair.state in
-    let state : length form.state.heap.spatial ≤ length through.heap.spatial = form-short through form.state is.state_is in
+    let state : length form.state.heap.spatial ≤ length through.heap.spatial = form_has_no_more_atoms through form.state is.state_is in
     let alike : length through.heap.spatial ≡ length pair.state.heap.spatial = length-map pair.state.heap.spatial (on_atom (read_through is.missing.heap.pure)) in
     record {
       missing = subst (λ heap. length heap.spatial ≤ length pair.missing.spatial) (sym is.form_is) missing;

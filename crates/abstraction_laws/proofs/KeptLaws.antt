@@ -1,17 +1,18 @@
 -- What holds of each atom holds of each that the second and the third rule leave, if it holds of Junk and of the segments that
 -- joins make.
-use Rattle.std.specs.Prelude.{◌≡◌, ℕ, zero, suc, Bool, true, false, ◌==◌, List, [], ◌∷◌, filter, length, slice_get, slice_set, All}
-use Rattle.std.specs.List.{list_all, remove}
+use Rattle.std.specs.Prelude.{◌≡◌, ℕ, zero, suc, Bool, true, false, ◌==◌, List, [], ◌∷◌, filter, length, slice_set, All}
+use Rattle.std.specs.List.{list_all}
 use Rattle.std.specs.declared.option.Option.{Option}
 use Rattle.std.specs.declared.option.Option.TheVariants.{None, Some}
-use Rattle.std.proofs.Common.{refl, subst}
-use Rattle.std.proofs.lemmas.List.Elements.{All-append, All-cons, All-head, All-nil, All-tail}
+use Rattle.std.proofs.Common.{refl}
+use Rattle.std.proofs.lemmas.List.Elements.{All-append, All-cons, All-filter, All-nil, All-set}
 use Rattle.shape_data.specs.declared.symbolic.Atom.{Atom}
 use Rattle.shape_data.specs.declared.symbolic.Atom.TheVariants.{Junk}
 use Rattle.shape_data.specs.declared.symbolic.Exp.{Exp}
 use Rattle.shape_data.specs.declared.symbolic.Exp.TheVariants.{Var, Const}
 use Rattle.shape_data.specs.declared.symbolic.SymHeap.{SymHeap}
 use Rattle.shape_data.specs.declared.symbolic.SymState.{SymState}
+use Rattle.sym_pure.proofs.EachLaws.{All-get, All-remove}
 use Rattle.sym_canon.specs.declared.parts.Pair.{Pair}
 use Rattle.abstraction_laws.specs.Joining.{IsJoin, Join, find_join, segment_of, start_of, with_join}
 use Rattle.abstraction_laws.specs.Pairs.{join_pair, join_pair_once, join_pair_times, may_join, pair_with_join, state_joined_at}
@@ -19,37 +20,13 @@ use Rattle.abstraction_laws.specs.Reaching.{is_kept, keep_reached, keep_seen, se
 use Rattle.abstraction_laws.specs.Repeating.{is_inner, join_inner, reduce, reduce_once, reduce_times, size_of}
 use Rattle.abstraction_laws.proofs.JoinLaws.{found-is}
 
-pub all-filter : {A : Type 0} (P : A → Type 0) (test : A → Bool) (xs : List A) → All P xs → All P (filter test xs)
-all-filter P test [] h = All-nil P
-all-filter P test (x ∷ xs) h = by_test (test x) refl (all-filter P test xs (All-tail P x xs h))
-  where
-    by_test : (b : Bool) → test x ≡ b → All P (filter test xs) → All P (filter test (x ∷ xs))
-    by_test true e k = rw e (All-cons P x (filter test xs) (All-head P x xs h) k)
-    by_test false e k = rw e k
-
-all-put : {A : Type 0} (P : A → Type 0) (xs : List A) (place : ℕ) (new : A) → P new → All P xs → All P (slice_set xs place new)
-all-put P [] place new one h = All-nil P
-all-put P (x ∷ xs) zero new one h = All-cons P new xs one (All-tail P x xs h)
-all-put P (x ∷ xs) (suc place) new one h = All-cons P x (slice_set xs place new) (All-head P x xs h) (all-put P xs place new one (All-tail P x xs h))
-
-all-remove : {A : Type 0} (P : A → Type 0) (xs : List A) (place : ℕ) → All P xs → All P (remove xs place)
-all-remove P [] zero h = All-nil P
-all-remove P [] (suc place) h = All-nil P
-all-remove P (x ∷ xs) zero h = All-tail P x xs h
-all-remove P (x ∷ xs) (suc place) h = All-cons P x (remove xs place) (All-head P x xs h) (all-remove P xs place (All-tail P x xs h))
-
-pub all-got : {A : Type 0} (P : A → Type 0) (xs : List A) (place : ℕ) (x : A) → slice_get xs place ≡ Some x → All P xs → P x
-all-got P [] place x is h = cc
-all-got P (y ∷ xs) zero x is h = let same : y ≡ x = cc in subst P same (All-head P y xs h)
-all-got P (y ∷ xs) (suc place) x is h = all-got P xs place x is (All-tail P y xs h)
-
 module _ (P : Atom → Type 0) (junk : P Junk) (joined : (v : Exp) (one other segment : Atom) → start_of other ≡ Some v → segment_of v one other ≡ Some segment → P one → P other → P segment) where
   pub kept-each : (locals : List Exp) (atoms : List Atom) → All P atoms → All P (keep_reached locals atoms)
   kept-each locals atoms h = by_test (list_all (is_kept (seen_from locals atoms)) atoms) refl
     where
       by_test : (b : Bool) → list_all (is_kept (seen_from locals atoms)) atoms ≡ b → All P (keep_seen (seen_from locals atoms) atoms)
       by_test true e = rw e h
-      by_test false e = rw e (All-append P (filter (is_kept (seen_from locals atoms)) atoms) (Junk ∷ []) (all-filter P (is_kept (seen_from locals atoms)) atoms h) (All-cons P Junk [] junk (All-nil P)))
+      by_test false e = rw e (All-append P (filter (is_kept (seen_from locals atoms)) atoms) (Junk ∷ []) (All-filter (is_kept (seen_from locals atoms)) P atoms h) (All-cons P Junk [] junk (All-nil P)))
 
   pub found-each : (may : ℕ → Bool) (atoms : List Atom) → All P atoms → All P (with_join atoms (find_join may atoms))
   found-each may atoms h = by_found (find_join may atoms) refl
@@ -58,9 +35,9 @@ module _ (P : Atom → Type 0) (junk : P Junk) (joined : (v : Exp) (one other se
       by_found None e = h
       by_found (Some join) e =
           let is : IsJoin atoms join = found-is may atoms join e in
-          all-remove P (slice_set atoms join.first join.segment) join.second
-          (all-put P atoms join.first join.segment
-          (joined join.middle is.one is.other join.segment is.starts is.makes (all-got P atoms join.first is.one is.one_there h) (all-got P atoms join.second is.other is.other_there h)) h)
+          All-remove P (slice_set atoms join.first join.segment) join.second
+          (All-set P atoms join.first join.segment
+          (joined join.middle is.one is.other join.segment is.starts is.makes (All-get P atoms join.first is.one is.one_there h) (All-get P atoms join.second is.other is.other_there h)) h)
 
   inner-each : (joins : Bool) (locals : List Exp) (atoms : List Atom) → All P atoms → All P (join_inner joins locals atoms)
   inner-each true locals atoms h = found-each (is_inner locals) atoms h

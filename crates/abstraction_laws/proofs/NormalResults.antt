@@ -20,7 +20,7 @@ use Rattle.sym_pure.specs.IsNormal.{is_normal}
 use Rattle.sym_pure.specs.Laws.{HasNoMoreParts}
 use Rattle.sym_pure.specs.Normal.{normal}
 use Rattle.sym_pure.proofs.FormLaws.{form_is_normal}
-use Rattle.sym_pure.proofs.PartsLaws.{form_has_no_more_parts}
+use Rattle.sym_pure.proofs.PartsLaws.{filter-fewer, form_has_no_more_parts}
 use Rattle.sym_canon.specs.declared.parts.Pair.{Pair}
 use Rattle.sym_canon.specs.declared.parts.Variables.TheVariants.{Existential}
 use Rattle.sym_canon.specs.Canonical.{as_state, canon_post, canon_state, sight_state, with_atoms_placed, without_locals}
@@ -108,17 +108,9 @@ abstract_pre_is_normal missing answer params few h = by_pair (pair_in_forms para
 abbrev pub parts_of : SymHeap → ℕ
 parts_of heap = length heap.pure + length heap.spatial
 
-pub filter-short : {A : Type 0} (test : A → Bool) (xs : List A) → length (filter test xs) ≤ length xs
-filter-short test [] = omega arith
-filter-short test (x ∷ xs) = by_test (test x) refl (filter-short test xs)
-  where
-    by_test : (b : Bool) → test x ≡ b → length (filter test xs) ≤ length xs → length (filter test (x ∷ xs)) ≤ length (x ∷ xs)
-    by_test true e k = rw e (omega (arith, k))
-    by_test false e k = rw e (omega (arith, k))
-
 filter-shorter : {A : Type 0} (test : A → Bool) (xs : List A) → list_all test xs ≡ false → length (filter test xs) < length xs
 filter-shorter test [] h = cc
-filter-shorter test (x ∷ xs) h = by_test (test x) refl h (filter-short test xs) (filter-shorter test xs)
+filter-shorter test (x ∷ xs) h = by_test (test x) refl h (filter-fewer test xs) (filter-shorter test xs)
   where
     by_test : (b : Bool) → test x ≡ b → list_all test (x ∷ xs) ≡ false → length (filter test xs) ≤ length xs → (list_all test xs ≡ false → length (filter test xs) < length xs) → length (filter test (x ∷ xs)) < length (x ∷ xs)
     by_test true e k few go_on = let rest : list_all test xs ≡ false = rw e at k in let less : length (filter test xs) < length xs = go_on rest in rw e (omega (arith, less))
@@ -148,7 +140,7 @@ once-small : (joins : Bool) (locals : List Exp) (heap : SymHeap) → parts_of (r
 once-small joins locals heap =
     let kept : length (keep_reached locals heap.spatial) ≤ length heap.spatial = kept-short locals heap.spatial in
     let inner : length (join_inner joins locals (keep_reached locals heap.spatial)) ≤ length (keep_reached locals heap.spatial) = inner-short joins locals (keep_reached locals heap.spatial) in
-    let facts = filter-short (λ fact. not (is_disequality_of (is_lost_among 65536 (locals ++ exps_of_atoms (join_inner joins locals (keep_reached locals heap.spatial)))) fact)) heap.pure in
+    let facts = filter-fewer (λ fact. not (is_disequality_of (is_lost_among 65536 (locals ++ exps_of_atoms (join_inner joins locals (keep_reached locals heap.spatial)))) fact)) heap.pure in
     omega (arith, kept, inner, facts)
 
 times-small : (turns : ℕ) (joins : Bool) (locals : List Exp) (heap : SymHeap) → parts_of (reduce_times turns joins locals heap) ≤ parts_of heap

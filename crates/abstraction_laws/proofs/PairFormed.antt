@@ -1,5 +1,5 @@
 -- What abstraction answers of pairs and candidates is well formed where what was given is.
-use Rattle.std.specs.Prelude.{◌≡◌, ℕ, zero, suc, ◌+◌, ◌*◌, ◌<◌, ◌≤◌, Bool, true, false, not, ◌==◌, if◌then◌else◌, leb, ltb, nat_lt, List, [], ◌∷◌, filter, length, map, option_map, All}
+use Rattle.std.specs.Prelude.{◌≡◌, ℕ, zero, suc, ◌+◌, ◌*◌, ◌<◌, ◌≤◌, Bool, true, false, not, ◌==◌, leb, ltb, nat_lt, List, [], ◌∷◌, filter, length, map, option_map, All}
 use Rattle.std.specs.List.{position_or_len}
 use Rattle.std.specs.Option.{IsSomeAnd}
 use Rattle.std.specs.declared.option.Option.{Option}
@@ -7,7 +7,7 @@ use Rattle.std.specs.declared.option.Option.TheVariants.{None, Some}
 use Rattle.std.proofs.Common.{refl, sym, subst, ◌∙◌, arith, lit≤}
 use Rattle.std.proofs.lemmas.Bool.{and_parts, lt-ltb, ltb-true}
 use Rattle.std.proofs.lemmas.List.{length-map}
-use Rattle.std.proofs.lemmas.List.Elements.{All-cons, All-head, All-nil, All-tail, All-weaker}
+use Rattle.std.proofs.lemmas.List.Elements.{All-cons, All-filter, All-head, All-nil, All-tail, All-weaker}
 use Rattle.shape_data.specs.declared.program.HeadMark.{HeadMark}
 use Rattle.shape_data.specs.declared.program.StructDef.{StructDef}
 use Rattle.shape_data.specs.declared.symbolic.Atom.{Atom}
@@ -20,15 +20,19 @@ use Rattle.shape_data.specs.declared.symbolic.SymHeap.{SymHeap}
 use Rattle.shape_data.specs.declared.symbolic.SymState.{SymState}
 use Rattle.shape_data.specs.Heap.{struct_named}
 use Rattle.shape_data.specs.WellFormed.{AreStructs, IsAtom, IsExp, IsFact, IsState, IsSymHeap, Limits, widest}
+use Rattle.sym_laws.specs.Each.{EachInFact}
 use Rattle.sym_laws.specs.Expressions.{is_among}
 use Rattle.sym_laws.specs.Mapped.{on_atom, on_fact, on_heap, on_state}
-use Rattle.sym_pure.proofs.WellFormedLaws.{form_is_well_formed}
+use Rattle.sym_pure.specs.Equations.{read_through}
+use Rattle.sym_pure.proofs.PartsLaws.{filter-fewer}
+use Rattle.sym_pure.proofs.ReadThrough.{read_through-each}
+use Rattle.sym_pure.proofs.WellFormedLaws.{form_is_well_formed, to_each}
 use Rattle.sym_canon.specs.declared.parts.Pair.{Pair}
 use Rattle.sym_canon.specs.declared.parts.Variables.TheVariants.{Further}
 use Rattle.sym_canon.specs.Canonical.{arranged, sight_state, with_facts_sorted, without_locals}
 use Rattle.sym_canon.specs.FactOrder.{sorted_facts}
 use Rattle.sym_canon.specs.Numbering.{with_number}
-use Rattle.sym_forms.specs.PairForms.{is_further_equation, pair_form, read_through, solved}
+use Rattle.sym_forms.specs.PairForms.{is_further_equation, pair_form}
 use Rattle.sym_forms.specs.Sizes.{bounded, fields_in, most_exps}
 use Rattle.sym_forms.proofs.PairFormLaws.{IsForm, form-is}
 use Rattle.sym_forms.proofs.WellFormedLaws.{arranged_is_well_formed, seen-longer, sorted-each, sorted-length}
@@ -40,8 +44,8 @@ use Rattle.abstraction_laws.specs.Pairs.{beside_nothing, canon_of, exps_beside_f
 use Rattle.abstraction_laws.specs.Results.{AbstractPairIsWellFormed, AbstractPairIsWithin, AbstractPreIsWellFormed, IsPair, with_at_most}
 use Rattle.abstraction_laws.specs.Rooms.{HasRoom}
 use Rattle.abstraction_laws.proofs.AtomsLaws.{HasNoMoreAtoms, arranged-long, pair_form-short, steps-short}
-use Rattle.abstraction_laws.proofs.KeptLaws.{all-filter, found-each}
-use Rattle.abstraction_laws.proofs.NormalResults.{filter-short, joined-short}
+use Rattle.abstraction_laws.proofs.KeptLaws.{found-each}
+use Rattle.abstraction_laws.proofs.NormalResults.{joined-short}
 use Rattle.abstraction_laws.proofs.PairRoomLaws.{joined_pair_has_room}
 use Rattle.abstraction_laws.proofs.RoomLaws.{few-fields, few_is_within_room}
 use Rattle.abstraction_laws.proofs.WellFormedResults.{head-fits-within, joined-fits, loosen, loosen-atom, loosen-fact}
@@ -148,7 +152,7 @@ module _ (most : ℕ) (structs : List StructDef) (params : ℕ) where
   facts-fit : (test : Fact → Bool) (heap : SymHeap) → IsSymHeap (wide most) structs params heap → IsSymHeap (wide most) structs params (record { pure = filter test heap.pure; spatial = heap.spatial })
   facts-fit test heap is =
       let few : length heap.pure + length heap.spatial ≤ most = is.parts in
-      record { parts = omega (arith, filter-short test heap.pure, few); facts = all-filter (IsFact (wide most) params) test heap.pure is.facts; atoms = is.atoms }
+      record { parts = omega (arith, filter-fewer test heap.pure, few); facts = All-filter test (IsFact (wide most) params) heap.pure is.facts; atoms = is.atoms }
 
   equations-fit : (slots : ℕ) (pair : Pair) → IsPair (wide most) structs params slots pair → IsPair (wide most) structs params slots (lose_equations params pair)
   equations-fit slots pair is = record {
@@ -166,19 +170,8 @@ module _ (most : ℕ) (structs : List StructDef) (params : ℕ) where
 
   -- ---- the normal form of a pair
 
-  solved-fits : (facts : List Fact) (x : ℕ) → All (IsFact (wide most) params) facts → IsExp (wide most) params (Var x) → IsExp (wide most) params (solved facts x)
-  solved-fits [] x is h = h
-  solved-fits (Eq (Var y) right ∷ facts) x is h = by_test (y == x) (solved-fits facts x (All-tail (IsFact (wide most) params) (Eq (Var y) right) facts is) h)
-    where
-      by_test : (b : Bool) → IsExp (wide most) params (solved facts x) → IsExp (wide most) params (if b then right else solved facts x)
-      by_test true k = (All-head (IsFact (wide most) params) (Eq (Var y) right) facts is).1
-      by_test false k = k
-  solved-fits (Eq (Const n) right ∷ facts) x is h = solved-fits facts x (All-tail (IsFact (wide most) params) (Eq (Const n) right) facts is) h
-  solved-fits (Ne left right ∷ facts) x is h = solved-fits facts x (All-tail (IsFact (wide most) params) (Ne left right) facts is) h
-
   read-fits : (facts : List Fact) → All (IsFact (wide most) params) facts → (e : Exp) → IsExp (wide most) params e → IsExp (wide most) params (read_through facts e)
-  read-fits facts is (Var x) h = solved-fits facts x is h
-  read-fits facts is (Const n) h = tt
+  read-fits facts is = read_through-each (IsExp (wide most) params) facts (All-weaker (IsFact (wide most) params) (EachInFact (IsExp (wide most) params)) (to_each (wide most) structs params) facts is)
 
   bare-fits : (limits : Limits) (heap : SymHeap) → IsSymHeap limits structs params heap → IsState limits structs params 0 (without_locals heap)
   bare-fits limits heap is = record { one_each = refl; locals = All-nil (IsExp limits params); heap = is }

@@ -11,14 +11,15 @@ use Rattle.shape_data.specs.declared.symbolic.Exp.TheVariants.{Var, Const}
 use Rattle.shape_data.specs.declared.symbolic.Fact.{Fact}
 use Rattle.shape_data.specs.declared.symbolic.SymState.{SymState}
 use Rattle.sym_laws.specs.Mapped.{on_atom, on_fact, on_state}
+use Rattle.sym_pure.specs.Equations.{read_through}
 use Rattle.sym_pure.specs.Laws.{HasNoMoreParts}
-use Rattle.sym_pure.proofs.PartsLaws.{form_has_no_more_parts}
+use Rattle.sym_pure.proofs.PartsLaws.{filter-fewer, form_has_no_more_parts}
 use Rattle.sym_canon.specs.declared.parts.Pair.{Pair}
 use Rattle.sym_canon.specs.declared.parts.Variables.TheVariants.{Existential}
 use Rattle.sym_canon.specs.Canonical.{arranged, sight_pair, sight_state, with_atoms_placed, without_locals}
 use Rattle.sym_canon.specs.FactOrder.{sorted_facts}
 use Rattle.sym_canon.specs.Numbering.{with_number}
-use Rattle.sym_forms.specs.PairForms.{is_further_equation, pair_form, read_through}
+use Rattle.sym_forms.specs.PairForms.{is_further_equation, pair_form}
 use Rattle.sym_forms.proofs.PairFormLaws.{IsForm, form-is}
 use Rattle.sym_forms.proofs.WellFormedLaws.{placed-length, sorted-length}
 use Rattle.abstraction_laws.specs.Forgetting.{first_new}
@@ -26,7 +27,7 @@ use Rattle.abstraction_laws.specs.Joining.{Join, find_join, with_join}
 use Rattle.abstraction_laws.specs.Losing.{is_disequality_of, is_lost_among}
 use Rattle.abstraction_laws.specs.Pairs.{beside_nothing, canon_of, exps_beside_facts, five_steps, is_lost_equation, join_pair, join_pair_once, join_pair_times, lose_equations, lose_in_pair, made_existential, make_existential, may_join, pair_in_forms, pair_with_join, reduce_state, state_joined_at}
 use Rattle.abstraction_laws.specs.Results.{AbstractPairHasNoMoreParts, AbstractPreHasNoMoreParts}
-use Rattle.abstraction_laws.proofs.NormalResults.{at_head-small, filter-short, joined-short, larger-trans, parts_of}
+use Rattle.abstraction_laws.proofs.NormalResults.{at_head-small, joined-short, larger-trans, parts_of}
 
 -- no part of the second pair has more parts than that of the first
 pub record IsNoLarger (before after : Pair) : Type 0 where
@@ -73,14 +74,14 @@ existential-small params pair = record { missing = omega arith; state = mapped-l
 
 equations-small : (params : ℕ) (pair : Pair) → IsNoLarger pair (lose_equations params pair)
 equations-small params pair =
-    let less = filter-short (λ fact. not (is_lost_equation params pair.missing fact)) pair.state.heap.pure in
+    let less = filter-fewer (λ fact. not (is_lost_equation params pair.missing fact)) pair.state.heap.pure in
     record { missing = omega arith; state = record { parts = omega (arith, less); locals = refl } }
 
 lost-small : (params : ℕ) (pair : Pair) → IsNoLarger pair (lose_in_pair params pair)
 lost-small params pair =
     let test : Fact → Bool = λ fact. not (is_disequality_of (is_lost_among params (exps_beside_facts pair)) fact) in
-    let missing : length (filter test pair.missing.pure) ≤ length pair.missing.pure = filter-short test pair.missing.pure in
-    let state : length (filter test pair.state.heap.pure) ≤ length pair.state.heap.pure = filter-short test pair.state.heap.pure in
+    let missing : length (filter test pair.missing.pure) ≤ length pair.missing.pure = filter-fewer test pair.missing.pure in
+    let state : length (filter test pair.state.heap.pure) ≤ length pair.state.heap.pure = filter-fewer test pair.state.heap.pure in
     record { missing = omega (arith, missing); state = record { parts = omega (arith, state); locals = refl } }
 
 steps-small : (params : ℕ) (kinds : List StructDef) (mark : HeadMark) (pair : Pair) → IsNoLarger pair (five_steps params kinds mark pair)
@@ -97,7 +98,7 @@ form-small : (params : ℕ) (pair form : Pair) → IsForm params pair form → I
 form-small params pair form is =
     let missing = form_has_no_more_parts (without_locals pair.missing) is.missing is.missing_is in
     let state = form_has_no_more_parts (on_state (read_through is.missing.heap.pure) pair.state) form.state is.state_is in
-    let facts = filter-short (λ fact. not (is_further_equation params fact)) is.missing.heap.pure in
+    let facts = filter-fewer (λ fact. not (is_further_equation params fact)) is.missing.heap.pure in
     record {
       missing = subst (λ heap. parts_of heap ≤ parts_of pair.missing) (sym is.form_is) (omega (arith, missing.parts, facts));
       state = larger-trans pair.state (on_state (read_through is.missing.heap.pure) pair.state) form.state (mapped-large (read_through is.missing.heap.pure) pair.state) state;

@@ -5,7 +5,7 @@ use Rattle.std.specs.Str.{bytes_eq}
 use Rattle.std.specs.declared.option.Option.{Option}
 use Rattle.std.specs.declared.option.Option.TheVariants.{None, Some}
 use Rattle.std.proofs.Common.{refl, sym, subst, ◌∙◌, arith}
-use Rattle.std.proofs.lemmas.List.Elements.{All-cons, All-head, All-nil, All-tail, All-weaker}
+use Rattle.std.proofs.lemmas.List.Elements.{All-cons, All-filter, All-head, All-nil, All-tail, All-weaker}
 use Rattle.shape_data.specs.declared.program.Field.{Field}
 use Rattle.shape_data.specs.declared.program.HeadMark.{HeadMark}
 use Rattle.shape_data.specs.declared.program.StructDef.{StructDef}
@@ -18,6 +18,7 @@ use Rattle.shape_data.specs.declared.symbolic.SymState.{SymState}
 use Rattle.shape_data.specs.Heap.{struct_named}
 use Rattle.sym_laws.specs.Each.{EachInAtom, EachInFact, EachInState}
 use Rattle.sym_laws.specs.Expressions.{same_exp}
+use Rattle.sym_pure.proofs.EachLaws.{All-get}
 use Rattle.sym_canon.specs.declared.parts.Pair.{Pair}
 use Rattle.sym_forms.specs.Sizes.{fields_in, fields_of}
 use Rattle.abstraction_laws.specs.Forgetting.{first_new, forget, forget_atom, forget_atoms, forget_cell, forget_fields, forget_slots, forget_value, is_constant, is_forgotten, is_int}
@@ -29,7 +30,7 @@ use Rattle.abstraction_laws.specs.Pairs.{join_pair, join_pair_once, join_pair_ti
 use Rattle.abstraction_laws.specs.Reaching.{keep_reached}
 use Rattle.abstraction_laws.specs.Repeating.{join_inner, reduce_once, reduce_times, size_of}
 use Rattle.abstraction_laws.specs.Rooms.{JoinedPairHasRoom}
-use Rattle.abstraction_laws.proofs.KeptLaws.{all-filter, all-got, reduce-each, state_times-each}
+use Rattle.abstraction_laws.proofs.KeptLaws.{reduce-each, state_times-each}
 use Rattle.abstraction_laws.proofs.OccurrenceLaws.{IsUnder, above-each, above-first, above-under, from_state, to_state}
 
 -- what holds of each expression, and of the variables below a limit
@@ -71,7 +72,7 @@ module _ (P : Exp → Type 0) where
   end-each kind link (Points at other fields) to ends is = by_kind (bytes_eq other kind) refl
     where
       by_kind : (b : Bool) → bytes_eq other kind ≡ b → P to
-      by_kind true e = let got : slice_get fields link ≡ Some to = rw e at ends in all-got P fields link to got is.1
+      by_kind true e = let got : slice_get fields link ≡ Some to = rw e at ends in All-get P fields link to got is.1
       by_kind false e = let bad : None ≡ Some to = rw e at ends in cc
   end-each kind link (Seg other field from end) to ends is = by_kind (bytes_eq other kind && field == link) refl
     where
@@ -85,7 +86,8 @@ module _ (P : Exp → Type 0) where
   to-each kind link from other segment (Some to) ends makes start is =
       let same : Seg kind link from to ≡ segment = cc in subst (EachInAtom P) same (start, end-each kind link other to ends is)
 
-  joined-each : (v : Exp) (one other segment : Atom) → start_of other ≡ Some v → segment_of v one other ≡ Some segment → EachInAtom P one → EachInAtom P other → EachInAtom P segment
+  -- what holds of each expression of two atoms holds of each of the segment that they are joined to
+  pub joined-each : (v : Exp) (one other segment : Atom) → start_of other ≡ Some v → segment_of v one other ≡ Some segment → EachInAtom P one → EachInAtom P other → EachInAtom P segment
   joined-each v (Points at kind fields) other segment starts makes is also = by_link (position (same_exp v) fields) makes
     where
       by_link : (o : Option ℕ) → segment_by kind at other o ≡ Some segment → EachInAtom P segment
@@ -98,11 +100,12 @@ module _ (P : Exp → Type 0) where
       by_test false f = cc
   joined-each v Junk other segment starts makes is also = cc
 
-  times-facts : (turns : ℕ) (joins : Bool) (locals : List Exp) (heap : SymHeap) → All (EachInFact P) heap.pure → All (EachInFact P) (reduce_times turns joins locals heap).pure
+  -- what holds of each expression of a heap's facts holds of those that stay when it is reduced
+  pub times-facts : (turns : ℕ) (joins : Bool) (locals : List Exp) (heap : SymHeap) → All (EachInFact P) heap.pure → All (EachInFact P) (reduce_times turns joins locals heap).pure
   times-facts zero joins locals heap h = h
   times-facts (suc turns) joins locals heap h =
       times-facts turns joins locals (reduce_once joins locals heap)
-      (all-filter (EachInFact P) (λ fact. not (is_disequality_of (is_lost_among 65536 (locals ++ exps_of_atoms (join_inner joins locals (keep_reached locals heap.spatial)))) fact)) heap.pure h)
+      (All-filter (λ fact. not (is_disequality_of (is_lost_among 65536 (locals ++ exps_of_atoms (join_inner joins locals (keep_reached locals heap.spatial)))) fact)) (EachInFact P) heap.pure h)
 
 -- what stays of a pair's state when it is joined
 joined-state : (params turns : ℕ) (pair : Pair) → ((join_pair_times turns params pair).state.locals ≡ pair.state.locals) × ((join_pair_times turns params pair).state.heap.pure ≡ pair.state.heap.pure)

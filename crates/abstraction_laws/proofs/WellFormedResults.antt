@@ -6,7 +6,7 @@ use Rattle.std.specs.declared.option.Option.{Option}
 use Rattle.std.specs.declared.option.Option.TheVariants.{None, Some}
 use Rattle.std.proofs.Common.{refl, sym, ap, subst, ◌∙◌, arith, lit≤}
 use Rattle.std.proofs.lemmas.Bool.{lt-ltb, ltb-true}
-use Rattle.std.proofs.lemmas.List.Elements.{All-cons, All-head, All-nil, All-tail, All-weaker}
+use Rattle.std.proofs.lemmas.List.Elements.{All-cons, All-filter, All-head, All-nil, All-tail, All-weaker}
 use Rattle.shape_data.specs.declared.program.Field.{Field}
 use Rattle.shape_data.specs.declared.program.Flow.{Flow}
 use Rattle.shape_data.specs.declared.program.HeadMark.{HeadMark}
@@ -26,6 +26,7 @@ use Rattle.sym_laws.specs.Expressions.{same_exp}
 use Rattle.sym_pure.specs.Laws.{HasNoMoreParts}
 use Rattle.sym_pure.proofs.EmptyingLaws.{position-found}
 use Rattle.sym_pure.proofs.WellFormedLaws.{form_is_well_formed}
+use Rattle.sym_pure.proofs.EachLaws.{All-get}
 use Rattle.sym_canon.specs.Canonical.{as_state, canon_post, canon_state}
 use Rattle.sym_forms.specs.Sizes.{bounded, fields_in, fields_of, most_exps}
 use Rattle.sym_forms.proofs.WellFormedLaws.{canon_state_is_well_formed}
@@ -38,7 +39,7 @@ use Rattle.abstraction_laws.specs.Reaching.{keep_reached}
 use Rattle.abstraction_laws.specs.Repeating.{join_inner, reduce_once, reduce_times, size_of}
 use Rattle.abstraction_laws.specs.Results.{AbstractExitIsWellFormed, AbstractHeadIsWellFormed, with_at_most}
 use Rattle.abstraction_laws.specs.Rooms.{HasRoom}
-use Rattle.abstraction_laws.proofs.KeptLaws.{all-filter, all-got, reduce-each}
+use Rattle.abstraction_laws.proofs.KeptLaws.{reduce-each}
 use Rattle.abstraction_laws.proofs.NormalResults.{at_exit-small, at_head-small, exit-locals, forgotten-slots, made-of, one-local}
 use Rattle.abstraction_laws.proofs.RoomLaws.{few-fields, well_formed_is_within_room}
 
@@ -117,7 +118,7 @@ module _ (limit : ℕ) (wide : 2147483648 ≤ limit) (structs : List StructDef) 
   end-fits kind link (Points other fields-kind fields) to ends is = by_kind (bytes_eq fields-kind kind) refl
     where
       by_kind : (b : Bool) → bytes_eq fields-kind kind ≡ b → IsExp (bounded limit) params to
-      by_kind true e = let got : slice_get fields link ≡ Some to = rw e at ends in all-got (IsExp (bounded limit) params) fields link to got is.2
+      by_kind true e = let got : slice_get fields link ≡ Some to = rw e at ends in All-get (IsExp (bounded limit) params) fields link to got is.2
       by_kind false e = let bad : None ≡ Some to = rw e at ends in cc
   end-fits kind link (Seg other field from end) to ends is = by_kind (bytes_eq other kind && field == link) refl
     where
@@ -163,7 +164,7 @@ module _ (limit : ℕ) (wide : 2147483648 ≤ limit) (structs : List StructDef) 
   times-facts zero joins locals heap h = h
   times-facts (suc turns) joins locals heap h =
       times-facts turns joins locals (reduce_once joins locals heap)
-      (all-filter (IsFact (bounded limit) params) (λ fact. not (is_disequality_of (is_lost_among 65536 (locals ++ exps_of_atoms (join_inner joins locals (keep_reached locals heap.spatial)))) fact)) heap.pure h)
+      (All-filter (λ fact. not (is_disequality_of (is_lost_among 65536 (locals ++ exps_of_atoms (join_inner joins locals (keep_reached locals heap.spatial)))) fact)) (IsFact (bounded limit) params) heap.pure h)
 
   reduced-fits : (parts slots : ℕ) (joins : Bool) (state small : SymState) → HasNoMoreParts small (reduced joins state) → length small.heap.pure + length small.heap.spatial ≤ parts → length state.locals ≡ slots → All (IsExp (bounded limit) params) state.locals →
       All (IsFact (bounded limit) params) state.heap.pure → All (IsAtom (bounded limit) structs params) state.heap.spatial → IsState (record (bounded limit) { parts = parts }) structs params slots (reduced joins state)

@@ -154,7 +154,7 @@ finishes-here task listing posts cert empty h =
     record { last = listing; grows = grows-refl listing; posts_are = same_posts; cert_is = same_cert; empty = empty; under_way = λ good way. way }
 
 -- what was done is what further turns give
-end-went : (again : Listing → Annotated) (course : Course) (posts : List Post) (cert : Cert) → IsOpen course → end_of again course ≡ Done posts cert →
+pub end-went : (again : Listing → Annotated) (course : Course) (posts : List Post) (cert : Cert) → IsOpen course → end_of again course ≡ Done posts cert →
     (mid : Listing) × (course ≡ Goes mid) × (again mid ≡ Done posts cert)
 end-went again (Goes mid) posts cert is_open h = (mid, refl, h)
 end-went again (Ends annotated) posts cert is_open h = absurd (subst IsNotDone h is_open)

@@ -3,7 +3,6 @@
 ghost use Rattle.std.specs.Prelude.{◌≡◌, ◌-◌, ◌++◌, ◌≤◌, pos, length, replicate, IfOk, IfSome};
 ghost use Rattle.shape_data.specs.declared.symbolic.Exp.TheVariants.{Const};
 ghost use Rattle.shape_data.specs.WellFormed.{IsSymHeap, widest};
-ghost use Rattle.sym_canon.specs.Canonical.{as_state as as_state_of};
 ghost use Rattle.sound_laws.specs.Certificates.{start_state as start_state_of};
 ghost use Rattle.certificate_laws.specs.Coming.{at_exit as at_exit_of, at_node as at_node_of, normal_post as normal_post_of, normal_state as normal_state_of, start_at_node as start_at_node_of, start_form as start_form_of};
 ghost use Rattle.certificate_laws.specs.Gaps.{line_at as line_at_node};
@@ -16,7 +15,7 @@ use shape_data::symbolic::{Exp, Post, SymHeap, SymState};
 use shape_data::{Row, copy_of};
 use std::alloc::{AllocError, Global};
 use sym_abstract::{abstract_exit, abstract_head, post_of};
-use sym_canon::canon_state;
+use sym_canon::{as_state, canon_state};
 use sym_pure::{Normal, normal};
 
 /// What stays the same through the analysis of a procedure.
@@ -48,16 +47,6 @@ pub fn normal_state(alloc: Global, state: &SymState) -> Result<Option<SymState>,
         Normal::Is(form) => Ok(Some(form)),
         Normal::Contradiction => Ok(None),
     }
-}
-
-/// A post as a state with one local, the result.
-fn as_state(alloc: Global, post: &Post) -> Result<SymState, AllocError>
-    ensures { IfOk result (λ state. state ≡ as_state_of post.now) }
-{
-    Ok(SymState {
-        locals: Row::from_vec(vec![in alloc; post.ret]?),
-        heap: copy_of(&post.heap)?,
-    })
 }
 
 /// The normal form of a post. The only error is want of memory.

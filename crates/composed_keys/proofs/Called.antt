@@ -1,5 +1,5 @@
 -- Whom components call outside of themselves.
-use Rattle.std.proofs.Common.{◌≡◌, ◌≢◌, ℕ, zero, suc, ◌+◌, ◌-◌, ◌<◌, ◌≤◌, ◌==◌, Bool, true, false, ◌&&◌, ◌||◌, not, List, [], ◌∷◌, ◌++◌, length, map, take, replicate, slice_get, get_or, set, Some, None, Option, Result, Ok, Err, OnOk, ◌⊎◌, inl, inr, refl, sym, ap, ◌∙◌, subst, arith, All, AllPairs, filter}
+use Rattle.std.proofs.Common.{◌≡◌, ◌≢◌, ℕ, zero, suc, ◌+◌, ◌-◌, ◌<◌, ◌≤◌, ◌==◌, Bool, true, false, ◌&&◌, ◌||◌, not, List, [], ◌∷◌, ◌++◌, length, map, take, replicate, slice_get, get_or, set, Some, None, Option, ◌⊎◌, inl, inr, refl, sym, ap, ◌∙◌, subst, arith, All, AllPairs, filter}
 use Rattle.std.specs.Prelude.{if◌then◌else◌, slice_index_or}
 use Rattle.std.specs.List.{list_any}
 use Rattle.std.proofs.lemmas.Bool.{cases_lt}
@@ -20,11 +20,6 @@ use Rattle.composed_keys.specs.declared.rows.Outer.{Outer as OuterRow}
 use Rattle.composed_keys.specs.Rows.{outer_in, outer_row}
 use Rattle.composed_keys.specs.Outside.{AreCallers, AreNoted, ArePlaced, ArePutBy, calls_from, is_last, is_number, noted_once}
 use Rattle.composed_keys.proofs.Placed.{outer_more, outer_none}
-
--- what a clause on success says
-pub on_ok : {X E : Type 0} (r : Result X E) (P Q : Type 0) → (P → Q) → OnOk r P → OnOk r Q
-on_ok (Ok x) P Q f p = f p
-on_ok (Err e) P Q f p = tt
 
 pub put_else : {X : Type 0} (place own : ℕ) (x y : X) → place ≢ own → (if place == own then x else y) ≡ y
 put_else {X = X} place own x y differ = by_test (place == own) refl

@@ -7,8 +7,8 @@ use Rattle.std.specs.declared.option.Option.{Option}
 use Rattle.std.specs.declared.option.Option.TheVariants.{None, Some}
 use Rattle.std.proofs.Common.{refl, sym, ◌∙◌, subst, arith}
 use Rattle.std.proofs.lemmas.Bool.{lt-ltb, ltb-true}
-use Rattle.std.proofs.lemmas.List.{length-map, length-set}
-use Rattle.std.proofs.lemmas.List.Elements.{All-append, All-cons, All-head, All-nil, All-set, All-tail}
+use Rattle.std.proofs.lemmas.List.{length-map, length-set, length_push}
+use Rattle.std.proofs.lemmas.List.Elements.{All-append, All-cons, All-head, All-nil, All-push, All-set, All-tail}
 use Rattle.std.proofs.lemmas.Slice.Eq.{bytes_eq-Decides}
 use Rattle.shape_data.specs.declared.answer.Fault.TheVariants as fault
 use Rattle.shape_data.specs.declared.program.ArithOp.{ArithOp}
@@ -27,6 +27,7 @@ use Rattle.shape_data.specs.declared.symbolic.SymHeap.{SymHeap}
 use Rattle.shape_data.specs.Heap.{struct_named}
 use Rattle.shape_data.specs.WellFormed.{AreStructs, IsAtom, IsExp, IsFact, widest}
 use Rattle.sym_laws.specs.Expressions.{same_exp}
+use Rattle.sym_pure.proofs.EachLaws.{All-get, All-remove}
 use Rattle.sym_canon.specs.declared.parts.Pair.{Pair}
 use Rattle.sym_canon.specs.Placing.{is_cell_at, is_segment_from}
 use Rattle.sym_pure.specs.Sources.{differs}
@@ -34,9 +35,10 @@ use Rattle.sym_matching.specs.Covers.{above}
 use Rattle.sym_matching.specs.NewVariables.{fresh, fresh_variables}
 use Rattle.sym_matching.specs.Reading.{is_logical_variable}
 use Rattle.sym_matching.specs.Steps.{contradicts}
-use Rattle.sym_matching.proofs.KeptLaws.{All-at, All-insert, All-or, All-push_one, All-remove}
+use Rattle.sym_matching.proofs.KeptLaws.{All-insert, All-or}
 use Rattle.sym_matching.proofs.NewVariableLaws.{length-fresh_variables}
 use Rattle.sym_renaming.specs.Calls.{variables_from}
+use Rattle.sym_renaming.proofs.SizeLemmas.{few_from}
 use Rattle.exec_laws.specs.declared.parts.Case.{Case}
 use Rattle.exec_laws.specs.declared.parts.Case.TheVariants.{On, Leaves, Drops}
 use Rattle.exec_laws.specs.declared.parts.Exposed.{Exposed}
@@ -50,7 +52,7 @@ use Rattle.exec_laws.specs.Exposing.{at_segment, cases_of_segment, cause_at, emp
 use Rattle.exec_laws.specs.Rooms.{with_parts, IsCaseWithin}
 use Rattle.exec_laws.specs.Pairs.{Setting, atoms_of, formed, in_slot, is_logical_fact, new_existentials, new_logical, pair_variables, unless_left_out, with_atoms, with_fact, with_missing_fact, with_slot, with_state_fact}
 use Rattle.exec_laws.specs.Values.{any, arith as arith_cases, copy, leave, operand, with_any, with_result}
-use Rattle.exec_laws.proofs.RoomLemmas.{InRoom, fact-room, few_fields, form-room, insert-longer, new-exps, push-longer, remove-shorter, room-more, true-room}
+use Rattle.exec_laws.proofs.RoomLemmas.{InRoom, fact-room, few_fields, form-room, insert-longer, new-exps, remove-shorter, room-more, true-room}
 
 module _ (structs : List StructDef) (are : AreStructs structs) (params slots nodes : ℕ) (narrow : slots ≤ 32768) (mode : Mode) (count : ℕ) (known : count ≤ 32768) (table : Table) where
   abbrev setting : Setting
@@ -113,10 +115,6 @@ module _ (structs : List StructDef) (are : AreStructs structs) (params slots nod
   from-small first (suc size) m small =
       All-cons (IsExp (with_parts m) params) (Var first) (map Var (variables_from (first + 1) size)) (lt-ltb first 2147483648 (omega arith)) (from-small (first + 1) size m (omega arith))
 
-  length-from : (first size : ℕ) → length (variables_from first size) ≡ size
-  length-from first zero = refl
-  length-from first (suc size) = let later : length (variables_from (first + 1) size) ≡ size = length-from (first + 1) size in omega arith
-
   passes-low : (xs : List ℕ) → All (λ x. x < 65536) (filter (λ x. ltb x 65536) xs)
   passes-low [] = All-nil (λ x. x < 65536)
   passes-low (x ∷ xs) = by_test (ltb x 65536) refl (passes-low xs)
@@ -140,20 +138,20 @@ module _ (structs : List StructDef) (are : AreStructs structs) (params slots nod
         let names : List ℕ = variables_from (new_logical count pair) (length def.fields) in
         let narrow_struct : length def.fields ≤ 32768 = few_fields structs kind def are is_def in
         let low : new_logical count pair ≤ 65536 = logical-low pair in
-        let counted : length (map Var names) ≡ length def.fields = length-map names Var ∙ length-from (new_logical count pair) (length def.fields) in
+        let counted : length (map Var names) ≡ length def.fields = length-map names Var ∙ few_from (new_logical count pair) (length def.fields) in
         let cell : IsAtom (with_parts k) structs params (Points e kind (map Var names)) = (e_is, rw is_def counted, from-small (new_logical count pair) (length def.fields) k (omega arith)) in
         let parts : length pair.state.heap.pure + length pair.state.heap.spatial ≤ k = room.state.heap.parts in
         let light : length pair.missing.pure + length pair.missing.spatial + length pair.state.heap.spatial ≤ j = room.light in
-        let more : length (atoms_of pair ++ Points e kind (map Var names) ∷ []) ≡ length (atoms_of pair) + 1 = push-longer (atoms_of pair) (Points e kind (map Var names)) in
-        let also : length (pair.missing.spatial ++ Points e kind (map Var names) ∷ []) ≡ length pair.missing.spatial + 1 = push-longer pair.missing.spatial (Points e kind (map Var names)) in
+        let more : length (atoms_of pair ++ Points e kind (map Var names) ∷ []) ≡ length (atoms_of pair) + 1 = length_push (atoms_of pair) (Points e kind (map Var names)) in
+        let also : length (pair.missing.spatial ++ Points e kind (map Var names) ∷ []) ≡ length pair.missing.spatial + 1 = length_push pair.missing.spatial (Points e kind (map Var names)) in
         record {
           state = record {
             one_each = room.state.one_each;
             locals = room.state.locals;
-            heap = record { parts = omega arith; facts = room.state.heap.facts; atoms = All-push_one (IsAtom (with_parts k) structs params) (atoms_of pair) (Points e kind (map Var names)) room.state.heap.atoms cell };
+            heap = record { parts = omega arith; facts = room.state.heap.facts; atoms = All-push (IsAtom (with_parts k) structs params) (atoms_of pair) (Points e kind (map Var names)) room.state.heap.atoms cell };
           };
           facts = room.facts;
-          atoms = All-push_one (IsAtom widest structs params) pair.missing.spatial (Points e kind (map Var names)) room.atoms cell;
+          atoms = All-push (IsAtom widest structs params) pair.missing.spatial (Points e kind (map Var names)) room.atoms cell;
           light = omega arith;
         }
 
@@ -189,13 +187,13 @@ module _ (structs : List StructDef) (are : AreStructs structs) (params slots nod
         with_both missing facts atoms more =
             let parts : length pair.state.heap.pure + length pair.state.heap.spatial ≤ k = room.state.heap.parts in
             let light : length pair.missing.pure + length pair.missing.spatial + length pair.state.heap.spatial ≤ j = room.light in
-            let longer : length (pair.state.heap.pure ++ fact ∷ []) ≡ length pair.state.heap.pure + 1 = push-longer pair.state.heap.pure fact in
+            let longer : length (pair.state.heap.pure ++ fact ∷ []) ≡ length pair.state.heap.pure + 1 = length_push pair.state.heap.pure fact in
             let less : length (remove (atoms_of pair) place) + 1 ≡ length (atoms_of pair) = shorter in
             record {
               state = record {
                 one_each = room.state.one_each;
                 locals = room.state.locals;
-                heap = record { parts = omega arith; facts = All-push_one (IsFact (with_parts k) params) pair.state.heap.pure fact room.state.heap.facts is; atoms = All-remove (IsAtom (with_parts k) structs params) (atoms_of pair) place room.state.heap.atoms };
+                heap = record { parts = omega arith; facts = All-push (IsFact (with_parts k) params) pair.state.heap.pure fact room.state.heap.facts is; atoms = All-remove (IsAtom (with_parts k) structs params) (atoms_of pair) place room.state.heap.atoms };
               };
               facts = facts;
               atoms = atoms;
@@ -204,8 +202,8 @@ module _ (structs : List StructDef) (are : AreStructs structs) (params slots nod
 
         by_logical : (b : Bool) → Room k j (with_state_fact fact (if b then record (without_segment place pair) { missing = with_fact fact pair.missing } else without_segment place pair))
         by_logical true =
-            let longer : length (pair.missing.pure ++ fact ∷ []) ≡ length pair.missing.pure + 1 = push-longer pair.missing.pure fact in
-            with_both (with_fact fact pair.missing) (All-push_one (IsFact widest params) pair.missing.pure fact room.facts is) room.atoms (omega arith)
+            let longer : length (pair.missing.pure ++ fact ∷ []) ≡ length pair.missing.pure + 1 = length_push pair.missing.pure fact in
+            with_both (with_fact fact pair.missing) (All-push (IsFact widest params) pair.missing.pure fact room.facts is) room.atoms (omega arith)
         by_logical false = with_both pair.missing room.facts room.atoms (omega arith)
 
         by_mode : (mode' : Mode) → Room k j (with_state_fact fact (with_missing_fact mode' fact (without_segment place pair)))
@@ -216,10 +214,10 @@ module _ (structs : List StructDef) (are : AreStructs structs) (params slots nod
         slice_get (new_existentials (length def.fields) pair) link ≡ Some next → Room (k + 1) (j + 1) (with_unfolded place kind link from to (new_existentials (length def.fields) pair) next pair)
     full-room pair place kind link from to def next room got is_def is_next =
         let names : List ℕ = new_existentials (length def.fields) pair in
-        let segment : IsAtom (with_parts k) structs params (Seg kind link from to) = All-at (IsAtom (with_parts k) structs params) (atoms_of pair) place (Seg kind link from to) got room.state.heap.atoms in
+        let segment : IsAtom (with_parts k) structs params (Seg kind link from to) = All-get (IsAtom (with_parts k) structs params) (atoms_of pair) place (Seg kind link from to) got room.state.heap.atoms in
         let narrow_struct : length def.fields ≤ 32768 = few_fields structs kind def are is_def in
         let exps : All (IsExp (with_parts k) params) (map Var names) = new-exps structs are params slots narrow k j (length def.fields) k pair room (omega arith) (omega arith) (omega arith) in
-        let link_exp : IsExp (with_parts k) params (Var next) = All-at (IsExp (with_parts k) params) (map Var names) link (Var next) (map-get names link next is_next) exps in
+        let link_exp : IsExp (with_parts k) params (Var next) = All-get (IsExp (with_parts k) params) (map Var names) link (Var next) (map-get names link next is_next) exps in
         let counted : length (map Var names) ≡ length def.fields = length-map names Var ∙ length-fresh_variables (length def.fields) (pair_variables pair) in
         let cell : IsAtom (with_parts k) structs params (Points from kind (map Var names)) = (segment.1, rw is_def counted, exps) in
         let rest : IsAtom (with_parts k) structs params (Seg kind link (Var next) to) = (segment.0, link_exp, segment.2) in
@@ -255,7 +253,7 @@ module _ (structs : List StructDef) (are : AreStructs structs) (params slots nod
         (by_test (differs pair.state.heap from to)) (by_def (struct_named structs kind) refl)
       where
         segment : IsAtom (with_parts k) structs params (Seg kind link from to)
-        segment = All-at (IsAtom (with_parts k) structs params) (atoms_of pair) place (Seg kind link from to) got room.state.heap.atoms
+        segment = All-get (IsAtom (with_parts k) structs params) (atoms_of pair) place (Seg kind link from to) got room.state.heap.atoms
 
         by_test : (b : Bool) → All (ExposedRoom (k + 2) (j + 2)) (if b then [] else unless_left_out again (formed mode count (with_state_fact (Eq from to) (with_missing_fact mode (Eq from to) (without_segment place pair)))))
         by_test true = All-nil (ExposedRoom (k + 2) (j + 2))
@@ -321,7 +319,7 @@ module _ (structs : List StructDef) (are : AreStructs structs) (params slots nod
       where
         by_kind : (b : Bool) → CaseRoom k j (if b then load_fields to field next pair at fields else Drops fault.Kind)
         by_kind true =
-            let cell : IsAtom (with_parts k) structs params (Points at kind' fields) = All-at (IsAtom (with_parts k) structs params) (atoms_of pair) place (Points at kind' fields) got room.state.heap.atoms in
+            let cell : IsAtom (with_parts k) structs params (Points at kind' fields) = All-get (IsAtom (with_parts k) structs params) (atoms_of pair) place (Points at kind' fields) got room.state.heap.atoms in
             (there, slot-room k j to (slice_index_or fields field (Const (pos 0))) pair room (All-or (IsExp (with_parts k) params) fields field (Const (pos 0)) tt cell.2))
         by_kind false = tt
     load-atom to base kind field next there place (Some (Seg kind' link from to')) got = tt
@@ -334,7 +332,7 @@ module _ (structs : List StructDef) (are : AreStructs structs) (params slots nod
         by_kind : (b : Bool) → bytes_eq kind' kind ≡ b → CaseRoom k j (if b then store_fields kind field from next pair place at fields else Drops fault.Kind)
         by_kind true same =
             let one : kind' ≡ kind = (bytes_eq-Decides kind' kind).0 same in
-            let cell : IsAtom (with_parts k) structs params (Points at kind' fields) = All-at (IsAtom (with_parts k) structs params) (atoms_of pair) place (Points at kind' fields) got room.state.heap.atoms in
+            let cell : IsAtom (with_parts k) structs params (Points at kind' fields) = All-get (IsAtom (with_parts k) structs params) (atoms_of pair) place (Points at kind' fields) got room.state.heap.atoms in
             let shaped : IsSomeAnd (struct_named structs kind) (λ def. length fields ≡ length def.fields) = subst (λ name. IsSomeAnd (struct_named structs name) (λ def. length fields ≡ length def.fields)) one cell.1 in
             let alike : length (slice_set fields field (operand pair from)) ≡ length fields = length-set fields field (operand pair from) in
             let written : IsAtom (with_parts k) structs params (Points at kind (slice_set fields field (operand pair from))) =
@@ -475,10 +473,10 @@ module _ (structs : List StructDef) (are : AreStructs structs) (params slots nod
             (All-head (IsExp (with_parts (k + 1)) params) (Var address) (map Var names) exps, rw is counted, All-tail (IsExp (with_parts (k + 1)) params) (Var address) (map Var names) exps) in
             let parts : length pair.state.heap.pure + length pair.state.heap.spatial ≤ k = room.state.heap.parts in
             let light : length pair.missing.pure + length pair.missing.spatial + length pair.state.heap.spatial ≤ j = room.light in
-            let more : length (atoms_of pair ++ Points (Var address) kind (map Var names) ∷ []) ≡ length (atoms_of pair) + 1 = push-longer (atoms_of pair) (Points (Var address) kind (map Var names)) in
+            let more : length (atoms_of pair ++ Points (Var address) kind (map Var names) ∷ []) ≡ length (atoms_of pair) + 1 = length_push (atoms_of pair) (Points (Var address) kind (map Var names)) in
             let made : Room (k + 1) (j + 1) (with_atoms (atoms_of pair ++ Points (Var address) kind (map Var names) ∷ []) pair) =
             atoms-room k (k + 1) j (j + 1) (atoms_of pair ++ Points (Var address) kind (map Var names) ∷ []) pair room (omega arith) (omega arith)
-            (All-push_one (IsAtom (with_parts k) structs params) (atoms_of pair) (Points (Var address) kind (map Var names)) room.state.heap.atoms cell) in (
+            (All-push (IsAtom (with_parts k) structs params) (atoms_of pair) (Points (Var address) kind (map Var names)) room.state.heap.atoms cell) in (
               there,
               room-more structs are params slots (k + 1) (k + 3) (j + 1) (j + 3) (omega arith) (omega arith) (with_new to kind (new_existentials (suc (length def.fields)) pair) pair)
                   (slot-room (k + 1) (j + 1) to (Var address) (with_atoms (atoms_of pair ++ Points (Var address) kind (map Var names) ∷ []) pair) made (All-head (IsExp (with_parts (k + 1)) params) (Var address) (map Var names) exps)),

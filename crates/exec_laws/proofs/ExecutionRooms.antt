@@ -7,8 +7,8 @@ use Rattle.shape_data.specs.declared.program.Cmd.{Cmd}
 use Rattle.shape_data.specs.declared.program.Cmd.TheVariants as cmd
 use Rattle.shape_data.specs.declared.program.StructDef.{StructDef}
 use Rattle.shape_data.specs.WellFormed.{AreStructs, IsAtom, IsCmd, IsFact, IsNode, widest}
+use Rattle.sym_pure.proofs.EachLaws.{All-get}
 use Rattle.sym_canon.specs.declared.parts.Pair.{Pair}
-use Rattle.sym_matching.proofs.KeptLaws.{All-at}
 use Rattle.exec_laws.specs.declared.parts.Mode.{Mode}
 use Rattle.exec_laws.specs.declared.parts.Mode.TheVariants.{Strict}
 use Rattle.exec_laws.specs.declared.parts.Step.TheVariants as step
@@ -67,7 +67,7 @@ answers_are_well_formed flow structs at node state table nexts exits parts are g
     let there : answer_to (line_of (Some node)) (cases_at (setting_of Strict flow structs table) (nothing_missing state) (Some node)) ≡ step.Next nexts exits = rw is_node at is in
     let narrow = good.slots in
     let known : length flow.params ≤ 32768 = good.params.few in
-    let command = (All-at (IsNode structs (length flow.slots) (length flow.nodes)) flow.nodes at node is_node good.nodes).command in
+    let command = (All-get (IsNode structs (length flow.slots) (length flow.nodes)) flow.nodes at node is_node good.nodes).command in
     let held : length state.heap.pure + length state.heap.spatial ≤ parts = well.heap.parts in
     let room : IsPairWithin structs (length flow.params) (length flow.slots) parts parts (nothing_missing state) =
     record { state = well; facts = All-nil (IsFact widest (length flow.params)); atoms = All-nil (IsAtom widest structs (length flow.params)); light = omega arith } in
@@ -88,7 +88,7 @@ all_answers_are_well_formed flow structs at node state table nexts exits parts m
     let there : answer_to (line_of (Some node)) (cases_at (setting_of Strict flow structs table) (nothing_missing state) (Some node)) ≡ step.Next nexts exits = rw is_node at is in
     let narrow = good.slots in
     let known : length flow.params ≤ 32768 = good.params.few in
-    let command = (All-at (IsNode structs (length flow.slots) (length flow.nodes)) flow.nodes at node is_node good.nodes).command in
+    let command = (All-get (IsNode structs (length flow.slots) (length flow.nodes)) flow.nodes at node is_node good.nodes).command in
     let held : length state.heap.pure + length state.heap.spatial ≤ parts = well.heap.parts in
     let room : IsPairWithin structs (length flow.params) (length flow.slots) parts parts (nothing_missing state) =
     record { state = well; facts = All-nil (IsFact widest (length flow.params)); atoms = All-nil (IsAtom widest structs (length flow.params)); light = omega arith } in

@@ -1,23 +1,24 @@
 -- Well-formed pairs with so many parts: their variables are few, so new ones may occur; and their forms are such pairs again.
-use Rattle.std.specs.Prelude.{◌≡◌, ℕ, zero, suc, ◌+◌, ◌*◌, ◌<◌, ◌≤◌, Bool, true, false, not, ◌==◌, if◌then◌else◌, List, [], ◌∷◌, ◌++◌, filter, length, map, slice_get, All}
+use Rattle.std.specs.Prelude.{◌≡◌, ℕ, zero, suc, ◌+◌, ◌*◌, ◌<◌, ◌≤◌, Bool, true, false, not, if◌then◌else◌, List, [], ◌∷◌, ◌++◌, filter, length, map, slice_get, All}
 use Rattle.std.specs.List.{insert, remove}
 use Rattle.std.specs.Option.{IsSomeAnd}
 use Rattle.std.specs.Str.{bytes_eq}
 use Rattle.std.specs.declared.option.Option.TheVariants.{Some}
 use Rattle.std.proofs.Common.{refl, arith}
 use Rattle.std.proofs.lemmas.Bool.{lt-ltb}
-use Rattle.std.proofs.lemmas.List.{length-map}
-use Rattle.std.proofs.lemmas.List.Elements.{All-filter, All-head, All-map, All-nil, All-tail, All-weaker}
+use Rattle.std.proofs.lemmas.List.{length-map, length_push}
+use Rattle.std.proofs.lemmas.List.Elements.{All-filter, All-head, All-map, All-nil, All-push, All-tail, All-weaker}
 use Rattle.shape_data.specs.declared.program.StructDef.{StructDef}
 use Rattle.shape_data.specs.declared.symbolic.Atom.{Atom}
 use Rattle.shape_data.specs.declared.symbolic.Atom.TheVariants.{Points, Seg, Junk}
 use Rattle.shape_data.specs.declared.symbolic.Exp.{Exp}
-use Rattle.shape_data.specs.declared.symbolic.Exp.TheVariants.{Var, Const}
+use Rattle.shape_data.specs.declared.symbolic.Exp.TheVariants.{Var}
 use Rattle.shape_data.specs.declared.symbolic.Fact.{Fact}
 use Rattle.shape_data.specs.declared.symbolic.Fact.TheVariants.{Eq, Ne}
 use Rattle.shape_data.specs.declared.symbolic.SymHeap.{SymHeap}
 use Rattle.shape_data.specs.Heap.{struct_named}
 use Rattle.shape_data.specs.WellFormed.{AreStructs, IsAtom, IsExp, IsFact, IsState, IsStruct, widest}
+use Rattle.sym_laws.specs.Each.{EachInFact}
 use Rattle.sym_laws.specs.Mapped.{on_atom, on_state}
 use Rattle.sym_canon.specs.Canonical.{without_locals}
 use Rattle.sym_canon.specs.declared.parts.Pair.{Pair}
@@ -25,20 +26,21 @@ use Rattle.sym_canon.specs.Numbering.{sides}
 use Rattle.sym_canon.specs.Placing.{exps_of}
 use Rattle.sym_pure.specs.declared.parts.Normal.{Normal}
 use Rattle.sym_pure.specs.declared.parts.Normal.TheVariants.{Is, Contradiction}
+use Rattle.sym_pure.specs.Equations.{read_through}
 use Rattle.sym_pure.specs.Normal.{normal}
-use Rattle.sym_pure.proofs.WellFormedLaws.{form_is_well_formed}
+use Rattle.sym_pure.proofs.PartsLaws.{FormHasNoMore, filter-fewer, form-fewer}
+use Rattle.sym_pure.proofs.ReadThrough.{read_through-each}
+use Rattle.sym_pure.proofs.WellFormedLaws.{form_is_well_formed, to_each}
 use Rattle.sym_matching.specs.Variables.{with_atoms, with_exps, with_facts, with_heap, with_state}
-use Rattle.sym_matching.proofs.KeptLaws.{All-push_one}
 use Rattle.sym_renaming.specs.Sizes.{AreSmall}
 use Rattle.sym_renaming.proofs.NumberLemmas.{fresh_small}
 use Rattle.sym_renaming.proofs.SizeLemmas.{few_exps, mapped_state_is_well_formed}
 use Rattle.sym_forms.specs.Forms.{of_form, of_form_some}
-use Rattle.sym_forms.specs.PairForms.{is_further_equation, pair_of, read_through, solved, with_missing}
+use Rattle.sym_forms.specs.PairForms.{is_further_equation, pair_of, with_missing}
 use Rattle.exec_laws.specs.declared.parts.Mode.{Mode}
 use Rattle.exec_laws.specs.declared.parts.Mode.TheVariants.{Strict, Search}
 use Rattle.exec_laws.specs.Rooms.{with_parts, IsPairWithin}
 use Rattle.exec_laws.specs.Pairs.{formed, is_logical_fact, new_existentials, pair_variables, unless_left_out, with_fact, with_missing_fact, with_state_fact}
-use Rattle.exec_laws.proofs.TurnLemmas.{FormHasNoMore, filter-fewer, form-fewer}
 
 -- ---- lists
 
@@ -52,10 +54,6 @@ insert-longer [] zero x = refl
 insert-longer [] (suc place) x = refl
 insert-longer (first ∷ xs) zero x = omega arith
 insert-longer (first ∷ xs) (suc place) x = let more : length (insert xs place x) ≡ length xs + 1 = insert-longer xs place x in omega arith
-
-pub push-longer : {A : Type 0} (xs : List A) (x : A) → length (xs ++ x ∷ []) ≡ length xs + 1
-push-longer [] x = refl
-push-longer (first ∷ xs) x = let more : length (xs ++ x ∷ []) ≡ length xs + 1 = push-longer xs x in omega arith
 
 -- ---- how many variables
 
@@ -126,18 +124,7 @@ module _ (structs : List StructDef) (are : AreStructs structs) (params slots : �
 
   -- what facts' equations solve a variable for may occur
   reads-good : (k : ℕ) (facts : List Fact) → All (IsFact widest params) facts → (e : Exp) → IsExp (with_parts k) params e → IsExp (with_parts k) params (read_through facts e)
-  reads-good k facts each (Var x) is = by_facts facts each
-    where
-      by_facts : (some : List Fact) → All (IsFact widest params) some → IsExp (with_parts k) params (solved some x)
-      by_facts [] good = is
-      by_facts (Eq (Var y) right ∷ some) good = by_test (y == x) (by_facts some (All-tail (IsFact widest params) (Eq (Var y) right) some good))
-        where
-          by_test : (b : Bool) → IsExp (with_parts k) params (solved some x) → IsExp (with_parts k) params (if b then right else solved some x)
-          by_test true later = (All-head (IsFact widest params) (Eq (Var y) right) some good).1
-          by_test false later = later
-      by_facts (Eq (Const n) right ∷ some) good = by_facts some (All-tail (IsFact widest params) (Eq (Const n) right) some good)
-      by_facts (Ne left right ∷ some) good = by_facts some (All-tail (IsFact widest params) (Ne left right) some good)
-  reads-good k facts each (Const n) is = tt
+  reads-good k facts each = read_through-each (IsExp (with_parts k) params) facts (All-weaker (IsFact widest params) (EachInFact (IsExp (with_parts k) params)) (to_each widest structs params) facts each)
 
   -- what is made of the normal form is good where what is made of each pair in that room is
   pub form-room : {A : Type 0} (P : A → Type 0) (go_on : Pair → List A) (mode : Mode) (count k j : ℕ) (pair : Pair) → InRoom k j pair → ((form : Pair) → InRoom k j form → All P (go_on form)) →
@@ -210,9 +197,9 @@ module _ (structs : List StructDef) (are : AreStructs structs) (params slots : �
         heap = record {
           parts =
               let parts : length pair.state.heap.pure + length pair.state.heap.spatial ≤ k = room.state.heap.parts in
-              let more : length (pair.state.heap.pure ++ fact ∷ []) ≡ length pair.state.heap.pure + 1 = push-longer pair.state.heap.pure fact in
+              let more : length (pair.state.heap.pure ++ fact ∷ []) ≡ length pair.state.heap.pure + 1 = length_push pair.state.heap.pure fact in
               omega arith;
-          facts = All-push_one (IsFact (with_parts k) params) pair.state.heap.pure fact room.state.heap.facts is;
+          facts = All-push (IsFact (with_parts k) params) pair.state.heap.pure fact room.state.heap.facts is;
           atoms = room.state.heap.atoms;
         };
       };
@@ -228,11 +215,11 @@ module _ (structs : List StructDef) (are : AreStructs structs) (params slots : �
         by_test : (b : Bool) → InRoom k (j + 1) (if b then record pair { missing = with_fact fact pair.missing } else pair)
         by_test true = record {
           state = room.state;
-          facts = All-push_one (IsFact widest params) pair.missing.pure fact room.facts is;
+          facts = All-push (IsFact widest params) pair.missing.pure fact room.facts is;
           atoms = room.atoms;
           light =
               let weight : length pair.missing.pure + length pair.missing.spatial + length pair.state.heap.spatial ≤ j = room.light in
-              let more : length (pair.missing.pure ++ fact ∷ []) ≡ length pair.missing.pure + 1 = push-longer pair.missing.pure fact in
+              let more : length (pair.missing.pure ++ fact ∷ []) ≡ length pair.missing.pure + 1 = length_push pair.missing.pure fact in
               omega arith;
         }
         by_test false = room-more k k j (j + 1) (omega arith) (omega arith) pair room

@@ -17,6 +17,7 @@ use Rattle.shape_data.specs.declared.symbolic.SymState.{SymState}
 use Rattle.shape_data.specs.declared.symbolic.Fact.TheVariants.{Ne}
 use Rattle.shape_data.specs.WellFormed.{AreStructs, IsCmd, IsExp, IsFact, IsNode, IsState, IsSymHeap}
 use Rattle.sym_laws.specs.Mapped.{on_atom, on_fact, on_heap, on_state}
+use Rattle.sym_pure.proofs.EachLaws.{All-get}
 use Rattle.sym_canon.specs.declared.parts.Pair.{Pair}
 use Rattle.sym_canon.specs.declared.parts.Variables.TheVariants.{Existential, Further}
 use Rattle.sym_canon.specs.Canonical.{arranged, canon_pair, sight_state, with_atoms_placed, with_facts_sorted, without_locals}
@@ -25,11 +26,12 @@ use Rattle.sym_canon.specs.Numbering.{with_number}
 use Rattle.sym_canon.specs.Placing.{placed}
 use Rattle.sym_pure.specs.declared.parts.Normal.{Normal}
 use Rattle.sym_pure.specs.declared.parts.Normal.TheVariants.{Is, Contradiction}
+use Rattle.sym_pure.specs.Equations.{read_through}
 use Rattle.sym_pure.specs.Normal.{normal}
-use Rattle.sym_matching.proofs.KeptLaws.{All-at}
+use Rattle.sym_pure.proofs.PartsLaws.{FormHasNoMore, form-fewer}
 use Rattle.sym_renaming.proofs.SizeLemmas.{mapped_state_is_well_formed}
 use Rattle.sym_forms.specs.Forms.{of_form, of_form_some}
-use Rattle.sym_forms.specs.PairForms.{pair_of, read_through, with_missing}
+use Rattle.sym_forms.specs.PairForms.{pair_of, with_missing}
 use Rattle.sym_forms.specs.Sizes.{Brings, fields_in, most_exps}
 use Rattle.sym_forms.proofs.WellFormedLaws.{arranged_is_well_formed, placed-length, seen-longer, sorted-each, sorted-length}
 use Rattle.exec_laws.specs.declared.parts.Case.{Case}
@@ -44,7 +46,7 @@ use Rattle.exec_laws.proofs.CallRooms.{HasAtoms, HasFewAtoms, call-both, case-mo
 use Rattle.exec_laws.proofs.ExecutionRooms.{rows-room}
 use Rattle.exec_laws.proofs.FormedRooms.{fields-few}
 use Rattle.exec_laws.proofs.RoomLemmas.{form-room}
-use Rattle.exec_laws.proofs.TurnLemmas.{FormHasNoMore, PairHasNoMore, form-fewer, formed-fewer}
+use Rattle.exec_laws.proofs.TurnLemmas.{PairHasNoMore, formed-fewer}
 
 -- ---- the normal form has no more atoms
 
@@ -233,5 +235,5 @@ pub search_cases_are_well_formed : SearchCasesAreWellFormed
 search_cases_are_well_formed flow structs at node pair table parts weight most are good is_node good_table fits few small some few_most room =
     let narrow = good.slots in
     let known : length flow.params ≤ 32768 = good.params.few in
-    let command = (All-at (IsNode structs (length flow.slots) (length flow.nodes)) flow.nodes at node is_node good.nodes).command in
+    let command = (All-get (IsNode structs (length flow.slots) (length flow.nodes)) flow.nodes at node is_node good.nodes).command in
     rw is_node (search-room structs are (length flow.params) (length flow.slots) (length flow.nodes) narrow known table parts weight few small pair room most some few_most good_table node.cmd fits command)

@@ -1,5 +1,5 @@
 -- As many turns of expose as there are atoms are enough.
-use Rattle.std.specs.Prelude.{◌≡◌, ℕ, zero, suc, ◌+◌, ◌≤◌, ◌<◌, Bool, true, false, if◌then◌else◌, List, [], ◌∷◌, ◌++◌, filter, length, map, position, slice_get, MatchOption}
+use Rattle.std.specs.Prelude.{◌≡◌, ℕ, zero, suc, ◌+◌, ◌≤◌, Bool, true, false, if◌then◌else◌, List, [], ◌∷◌, ◌++◌, length, map, position, slice_get}
 use Rattle.std.specs.List.{list_any, remove}
 use Rattle.std.specs.declared.option.Option.{Option}
 use Rattle.std.specs.declared.option.Option.TheVariants.{None, Some}
@@ -13,23 +13,18 @@ use Rattle.shape_data.specs.declared.symbolic.Fact.TheVariants.{Eq}
 use Rattle.shape_data.specs.declared.symbolic.SymHeap.{SymHeap}
 use Rattle.shape_data.specs.declared.symbolic.SymState.{SymState}
 use Rattle.shape_data.specs.Heap.{struct_named}
-use Rattle.sym_laws.specs.Junks.{is_other}
 use Rattle.sym_laws.specs.Mapped.{on_atom, on_state}
 use Rattle.sym_canon.specs.declared.parts.Pair.{Pair}
 use Rattle.sym_canon.specs.Canonical.{without_locals}
 use Rattle.sym_canon.specs.Placing.{is_cell_at, is_segment_from}
 use Rattle.sym_pure.specs.declared.parts.Normal.{Normal}
 use Rattle.sym_pure.specs.declared.parts.Normal.TheVariants.{Is, Contradiction}
-use Rattle.sym_pure.specs.declared.parts.Settled.{Settled}
-use Rattle.sym_pure.specs.declared.parts.Solved.{Solved}
-use Rattle.sym_pure.specs.Contradictions.{has_clash}
-use Rattle.sym_pure.specs.Emptying.{place_of_empty, settle, settle_at, with_equal_ends}
-use Rattle.sym_pure.specs.Normal.{disequalities, form_of, normal, normal_settled, normal_solved}
-use Rattle.sym_pure.specs.Redundancy.{one_junk}
-use Rattle.sym_pure.specs.Solving.{read, solve, unless_clash}
+use Rattle.sym_pure.specs.Equations.{read_through}
+use Rattle.sym_pure.specs.Normal.{normal}
 use Rattle.sym_pure.specs.Sources.{differs}
+use Rattle.sym_pure.proofs.PartsLaws.{FormHasNoMore, form-fewer, remove-shorter}
 use Rattle.sym_forms.specs.Forms.{of_form, of_form_some}
-use Rattle.sym_forms.specs.PairForms.{pair_of, read_through, with_missing}
+use Rattle.sym_forms.specs.PairForms.{pair_of, with_missing}
 use Rattle.exec_laws.specs.declared.parts.Exposed.TheVariants.{Shown}
 use Rattle.exec_laws.specs.declared.parts.Mode.{Mode}
 use Rattle.exec_laws.specs.declared.parts.Mode.TheVariants.{Strict, Search}
@@ -38,76 +33,6 @@ use Rattle.exec_laws.specs.Laws.{MoreTurnsChangeNothing}
 use Rattle.exec_laws.specs.Pairs.{Setting, atoms_of, formed, in_slot, is_logical_fact, unless_left_out, where_true, with_fact, with_missing_fact, with_state_fact}
 
 -- ---- a form has no more atoms
-
-remove-fewer : {A : Type 0} (xs : List A) (place : ℕ) → length (remove xs place) ≤ length xs
-remove-fewer [] zero = omega arith
-remove-fewer [] (suc place) = omega arith
-remove-fewer (x ∷ xs) zero = omega arith
-remove-fewer (x ∷ xs) (suc place) = let fewer = remove-fewer xs place in omega arith
-
-removed-less : {A : Type 0} (xs : List A) (place : ℕ) (x : A) → slice_get xs place ≡ Some x → length (remove xs place) < length xs
-removed-less [] place x is = cc
-removed-less (first ∷ xs) zero x is = omega arith
-removed-less (first ∷ xs) (suc place) x is = let fewer = removed-less xs place x is in omega arith
-
-abbrev HasNoMore : List Atom → Settled → Type 0
-HasNoMore atoms settled = length settled.atoms ≤ length atoms
-
-settle-fewer : (turns : ℕ) (solved : List Solved) (atoms : List Atom) → MatchOption (settle turns solved atoms) (Unit {0}) (HasNoMore atoms)
-settle-fewer zero solved atoms = omega arith
-settle-fewer (suc turns) solved atoms = by_place (place_of_empty solved atoms) (λ more others. settle-fewer turns more others)
-  where
-    weaker : (place : ℕ) (o : Option Settled) → MatchOption o (Unit {0}) (HasNoMore (remove atoms place)) → MatchOption o (Unit {0}) (HasNoMore atoms)
-    weaker place None fewer = tt
-    weaker place (Some settled) fewer = let less = remove-fewer atoms place in omega arith
-
-    by_ends : (place : ℕ) → ((more : List Solved) (others : List Atom) → MatchOption (settle turns more others) (Unit {0}) (HasNoMore others)) → (o : Option (List Solved)) →
-        MatchOption (unless_clash (λ more. settle turns more (remove atoms place)) o) (Unit {0}) (HasNoMore atoms)
-    by_ends place later None = tt
-    by_ends place later (Some more) = weaker place (settle turns more (remove atoms place)) (later more (remove atoms place))
-
-    by_place : (o : Option ℕ) → ((more : List Solved) (others : List Atom) → MatchOption (settle turns more others) (Unit {0}) (HasNoMore others)) →
-        MatchOption (settle_at (λ more others. settle turns more others) solved atoms o) (Unit {0}) (HasNoMore atoms)
-    by_place None later = omega arith
-    by_place (Some place) later = by_ends place later (with_equal_ends solved (slice_get atoms place))
-
-pub filter-fewer : {A : Type 0} (test : A → Bool) (xs : List A) → length (filter test xs) ≤ length xs
-filter-fewer test [] = omega arith
-filter-fewer test (x ∷ xs) = by_test (test x) (filter-fewer test xs)
-  where
-    by_test : (b : Bool) → length (filter test xs) ≤ length xs → length (if b then x ∷ filter test xs else filter test xs) ≤ length (x ∷ xs)
-    by_test true fewer = omega arith
-    by_test false fewer = omega arith
-
-junk-fewer : (atoms : List Atom) → length (one_junk atoms) ≤ length atoms
-junk-fewer [] = omega arith
-junk-fewer (Points at kind fields ∷ atoms) = let fewer = junk-fewer atoms in omega arith
-junk-fewer (Seg kind link from to ∷ atoms) = let fewer = junk-fewer atoms in omega arith
-junk-fewer (Junk ∷ atoms) = let fewer = filter-fewer is_other atoms in omega arith
-
-abbrev pub FormHasNoMore : SymState → Normal → Type 0
-FormHasNoMore state (Is form) = length form.heap.spatial ≤ length state.heap.spatial
-FormHasNoMore state Contradiction = Unit {0}
-
-pub form-fewer : (state : SymState) → FormHasNoMore state (normal state)
-form-fewer state = by_solved (solve state.heap.pure [])
-  where
-    by_clash : (settled : Settled) → HasNoMore state.heap.spatial settled → (b : Bool) (facts : List Fact) →
-        FormHasNoMore state (if b then Contradiction else Is (form_of state settled.solved facts (map (on_atom (read settled.solved)) settled.atoms)))
-    by_clash settled fewer true facts = tt
-    by_clash settled fewer false facts =
-        let alike : length (map (on_atom (read settled.solved)) settled.atoms) ≡ length settled.atoms = length-map settled.atoms (on_atom (read settled.solved)) in
-        let junk = junk-fewer (map (on_atom (read settled.solved)) settled.atoms) in
-        omega arith
-
-    by_settled : (o : Option Settled) → MatchOption o (Unit {0}) (HasNoMore state.heap.spatial) → FormHasNoMore state (normal_settled state o)
-    by_settled None fewer = tt
-    by_settled (Some settled) fewer =
-        by_clash settled fewer (has_clash (disequalities settled.solved state.heap.pure) (map (on_atom (read settled.solved)) settled.atoms)) (disequalities settled.solved state.heap.pure)
-
-    by_solved : (o : Option (List Solved)) → FormHasNoMore state (normal_solved state o)
-    by_solved None = tt
-    by_solved (Some solved) = by_settled (settle (length state.heap.spatial) solved state.heap.spatial) (settle-fewer (length state.heap.spatial) solved state.heap.spatial)
 
 abbrev pub PairHasNoMore : ℕ → Option Pair → Type 0
 PairHasNoMore count None = Unit {0}
@@ -179,7 +104,7 @@ module _ (setting : Setting) (kind : List ℕ) (slot : ℕ) where
     on-atom place None is = refl
     on-atom place (Some (Points at kind' fields)) is = refl
     on-atom place (Some (Seg kind' link from to)) is =
-        let less : length (remove (atoms_of pair) place) < length (atoms_of pair) = removed-less (atoms_of pair) place (Seg kind' link from to) is in
+        let less : length (atoms_of pair) ≡ suc (length (remove (atoms_of pair) place)) = remove-shorter (atoms_of pair) place (Seg kind' link from to) is in
         ap (λ cases. cases ++ unfolded_case setting pair place kind' link from to (struct_named setting.structs kind')) (on-empty place from to (omega arith))
     on-atom place (Some Junk) is = refl
 

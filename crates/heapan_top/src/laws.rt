@@ -1,5 +1,15 @@
 //! What is true of streams and their replies, whatever the program does with them.
-ghost use Rattle.heapan_top.specs.Laws.{FedIsFront, HonestReplies, OneFeeding, OneOpening, OneReply, PrintsValid, SomeFed, SomeOpening, SomeReply};
+ghost use Rattle.heapan_top.specs.Laws.{
+  FedIsFront,
+  HonestReplies,
+  OneFeeding,
+  OneOpening,
+  OneReply,
+  PrintsValid,
+  SomeFed,
+  SomeOpening,
+  SomeReply,
+};
 
 use certificate_laws::limits::limits_widen;
 use project_form::laws::limits_are_kept;

@@ -40,11 +40,15 @@ fn answer_commands<R: Wait, S: Source, K: Sink, P: Keeper, G: Gate, A: Ledger, B
     path: Option<&str>,
     reporters: &mut Vec<Box<dyn Reporter + Send>>,
 ) -> Status
-    ensures answers { IfSome (S.left source.old) (λ stream. Answers (beginning (setting_of loaded.now.value path.entry)) stream (K.held sink.old) (K.held sink.new) result) }
-    ensures work { IfSome (S.left source.old) (λ stream. AppendsCounted (setting_of loaded.now.value path.entry) stream (K.held sink.old) (K.held sink.new) hands.new.seen) }
-    ensures feeds { IfSome (S.left source.old) (λ stream. IsFed (beginning (setting_of loaded.now.value path.entry)) stream (K.held sink.old) (K.held sink.new)
+    ensures answers { IfSome (S.left source.old) (λ stream. Answers (beginning (setting_of loaded.now.value path.entry)) stream
+        (K.held sink.old) (K.held sink.new) result) }
+    ensures work { IfSome (S.left source.old) (λ stream. AppendsCounted (setting_of loaded.now.value path.entry) stream (K.held sink.old)
+        (K.held sink.new) hands.new.seen) }
+    ensures feeds { IfSome (S.left source.old) (λ stream. IsFed (beginning (setting_of loaded.now.value path.entry)) stream
+        (K.held sink.old) (K.held sink.new)
         (path_told (P.kept keeper.old) (path_bytes path.entry)) (path_told (P.kept keeper.new) (path_bytes path.entry))
-        (reporters.new.items ≡ reporters.old.items) (map (λ one. known one) reporters.old.items) (map (λ one. known one) reporters.new.items) result) }
+        (reporters.new.items ≡ reporters.old.items) (map (λ one. known one) reporters.old.items)
+        (map (λ one. known one) reporters.new.items) result) }
     ensures steady { steady_count (map (λ one. known one) reporters.new.items) ≡ steady_count (map (λ one. known one) reporters.old.items) }
     ensures reads { ReadsFront (S.left source.old) (S.left source.new) }
     ensures others { KeepsOthers (path_bytes path.entry) (P.kept keeper.old) (P.kept keeper.new) }
@@ -79,7 +83,8 @@ fn answer_commands<R: Wait, S: Source, K: Sink, P: Keeper, G: Gate, A: Ledger, B
     }
 }
 
-/// Who answers a stream: which entries were loaded from the store, from where the stream comes, where the replies go, what the words ask for, so where what is saved
+/// Who answers a stream: which entries were loaded from the store, from where the stream comes, where the replies go, what the words ask
+/// for, so where what is saved
 /// goes, who is fed the entries of reports, and how the session ended.
 #[derive(Drop)]
 pub struct Answering<'a, S: Source, K: Sink, P: Keeper> {
@@ -128,11 +133,13 @@ impl<'a, S: Source, K: Sink, P: Keeper, G: Gate> Leader<SolveJob, G> for Answeri
     ghost led = { λ before after seen.
         (after.source.ghost_name ≡ before.source.ghost_name) × (after.sink.ghost_name ≡ before.sink.ghost_name)
         × (after.keeper.ghost_name ≡ before.keeper.ghost_name) × (after.reporters.ghost_name ≡ before.reporters.ghost_name)
-        × IsLed (setting_of before.loaded.now.value before.asked.now.store) (path_bytes before.asked.now.store) (S.left before.source.now) (S.left after.source.now)
+        × IsLed (setting_of before.loaded.now.value before.asked.now.store) (path_bytes before.asked.now.store) (S.left before.source.now)
+        (S.left after.source.now)
         (K.held before.sink.now) (K.held after.sink.now) (P.kept before.keeper.now) (P.kept after.keeper.now)
         (S.faults before.source.now) (S.faults after.source.now) (K.faults before.sink.now) (K.faults after.sink.now)
         (P.faults before.keeper.now) (P.faults after.keeper.now) (after.reporters.now.items ≡ before.reporters.now.items)
-        (map (λ one. (Reporter-box one).known one.value) before.reporters.now.items) (map (λ one. (Reporter-box one).known one.value) after.reporters.now.items)
+        (map (λ one. (Reporter-box one).known one.value) before.reporters.now.items)
+        (map (λ one. (Reporter-box one).known one.value) after.reporters.now.items)
         after.status seen };
 
     fn lead<R: Wait, A: Ledger, B: Ledger>(

@@ -34,7 +34,8 @@ fn without_entries(alloc: Global, unread: bool) -> Result<Opened, AllocError>
 /// A session that begins with the entries of a store that has these bytes.
 fn with_bytes(alloc: Global, bytes: &[u8]) -> Result<Opened, AllocError>
     requires { length bytes.now ≤ MOST_HELD }
-    ensures { IfOk result (λ opened. Opens (Some (Some bytes.now)) (record { loaded = opened.loaded.value; saves = true }) (front_of opened.unread)) }
+    ensures { IfOk result (λ opened. Opens (Some (Some bytes.now)) (record { loaded = opened.loaded.value; saves = true })
+        (front_of opened.unread)) }
 {
     match load(alloc, bytes)? {
         Loaded::Entries {
@@ -54,7 +55,8 @@ fn with_bytes(alloc: Global, bytes: &[u8]) -> Result<Opened, AllocError>
 /// A session that begins with what is under the path of a store.
 fn with_held(alloc: Global, held: Held) -> Result<Opened, AllocError>
     requires { IsWithin held }
-    ensures { IfOk result (λ opened. (there : Option (List ℕ)) → IsHeld there held → Opens (Some there) (record { loaded = opened.loaded.value; saves = true }) (front_of opened.unread)) }
+    ensures { IfOk result (λ opened. (there : Option (List ℕ)) → IsHeld there held
+        → Opens (Some there) (record { loaded = opened.loaded.value; saves = true }) (front_of opened.unread)) }
 {
     match held {
         Held::Absent => without_entries(alloc, false),
@@ -65,7 +67,8 @@ fn with_held(alloc: Global, held: Held) -> Result<Opened, AllocError>
 
 /// Reads the store, if one is named; or says how the session ends for a fault.
 pub fn open<P: Keeper>(alloc: Global, keeper: &mut P, path: Option<&str>) -> Result<Opened, Status>
-    ensures opens { IfOk result (λ opened. IfSome (store_told (P.kept keeper.old) (path_bytes path.entry)) (λ store. Opens store (setting_of opened.loaded.value path.entry) (front_of opened.unread))) }
+    ensures opens { IfOk result (λ opened. IfSome (store_told (P.kept keeper.old) (path_bytes path.entry))
+        (λ store. Opens store (setting_of opened.loaded.value path.entry) (front_of opened.unread))) }
     ensures same { (any : List ℕ) → P.kept keeper.new any ≡ P.kept keeper.old any }
     ensures status { IfErr result IsStoreEnd }
     ensures store_fault { result ≡ Err Status.StoreFault → Rose (P.faults keeper.old) (P.faults keeper.new) }

@@ -1,4 +1,5 @@
-//! The top call: words, a source, a sink, a keeper, a gate and reporters in, and the replies and a status out. Its contract is the headline:
+//! The top call: words, a source, a sink, a keeper, a gate and reporters in, and the replies and a status out. Its contract is the
+//! headline:
 //! the bytes written answer the bytes read, whatever the threads did and whatever bytes the store has, reporters are fed what was reported,
 //! the store is given what is known, and each status has its cause.
 ghost use Rattle.std.specs.Prelude.{◌≡◌, ◌≢◌, ◌≤◌, Err, IfErr, IfSome, List, [], OnErr, OnOk, map};
@@ -7,7 +8,17 @@ ghost use Rattle.claim_laws.specs.Logs.{IsLegal, published, replay};
 ghost use Rattle.io_ports.specs.Counts.{Rose};
 ghost use Rattle.reporters.specs.Feeding.{steady_count};
 ghost use Rattle.heapan_top.specs.Fed.{FeedsSession};
-ghost use Rattle.heapan_top.specs.Headline.{AnswersOtherWords, AnswersSession, Appends, AppendsSome, AreRightWords, Completes, ReadsFront, store_named, word_bytes};
+ghost use Rattle.heapan_top.specs.Headline.{
+  AnswersOtherWords,
+  AnswersSession,
+  Appends,
+  AppendsSome,
+  AreRightWords,
+  Completes,
+  ReadsFront,
+  store_named,
+  word_bytes,
+};
 ghost use Rattle.heapan_top.specs.Laws.{HonestReplies, PrintsValid};
 ghost use Rattle.heapan_top.specs.Parts.{IsLed, IsWriteEnd, path_bytes, setting_of};
 ghost use Rattle.heapan_top.specs.Stores.{KeepsOthers, front_of, path_told, store_told};
@@ -75,9 +86,12 @@ fn answer_at_book<R: Threads + Wait + Sync, S: Source, K: Sink, P: Keeper, G: Ga
     mut reporters: Vec<Box<dyn Reporter + Send>>,
 ) -> Outcome
     requires { book.log ≡ [] }
-    ensures led { IsLed (setting_of loaded.now.value asked.now.store) (path_bytes asked.now.store) (S.left source.old) (S.left source.new) (K.held sink.old) (K.held sink.new)
-        (P.kept keeper.old) (P.kept keeper.new) (S.faults source.old) (S.faults source.new) (K.faults sink.old) (K.faults sink.new) (P.faults keeper.old) (P.faults keeper.new)
-        (result.reporters.items ≡ reporters.items) (map (λ one. known one) reporters.items) (map (λ one. known one) result.reporters.items) result.status result.solves }
+    ensures led { IsLed (setting_of loaded.now.value asked.now.store) (path_bytes asked.now.store) (S.left source.old) (S.left source.new)
+        (K.held sink.old) (K.held sink.new)
+        (P.kept keeper.old) (P.kept keeper.new) (S.faults source.old) (S.faults source.new) (K.faults sink.old) (K.faults sink.new)
+        (P.faults keeper.old) (P.faults keeper.new)
+        (result.reporters.items ≡ reporters.items) (map (λ one. known one) reporters.items)
+        (map (λ one. known one) result.reporters.items) result.status result.solves }
     ensures legal { IsLegal Solves (events_of result.log.items) }
     ensures idle { (replay (events_of result.log.items)).out ≡ [] }
     ensures solves { result.solves ≡ published (events_of result.log.items) }
@@ -122,9 +136,12 @@ fn answer_commands_at_pool<R: Threads + Wait + Sync, S: Source, K: Sink, P: Keep
     gate: &G,
     reporters: Vec<Box<dyn Reporter + Send>>,
 ) -> Outcome
-    ensures led { IsLed (setting_of loaded.value asked.now.store) (path_bytes asked.now.store) (S.left source.old) (S.left source.new) (K.held sink.old) (K.held sink.new)
-        (P.kept keeper.old) (P.kept keeper.new) (S.faults source.old) (S.faults source.new) (K.faults sink.old) (K.faults sink.new) (P.faults keeper.old) (P.faults keeper.new)
-        (result.reporters.items ≡ reporters.items) (map (λ one. known one) reporters.items) (map (λ one. known one) result.reporters.items) result.status result.solves }
+    ensures led { IsLed (setting_of loaded.value asked.now.store) (path_bytes asked.now.store) (S.left source.old) (S.left source.new)
+        (K.held sink.old) (K.held sink.new)
+        (P.kept keeper.old) (P.kept keeper.new) (S.faults source.old) (S.faults source.new) (K.faults sink.old) (K.faults sink.new)
+        (P.faults keeper.old) (P.faults keeper.new)
+        (result.reporters.items ≡ reporters.items) (map (λ one. known one) reporters.items)
+        (map (λ one. known one) result.reporters.items) result.status result.solves }
     ensures legal { IsLegal Solves (events_of result.log.items) }
     ensures idle { (replay (events_of result.log.items)).out ≡ [] }
     ensures solves { result.solves ≡ published (events_of result.log.items) }
@@ -182,8 +199,10 @@ fn answer_stream<R: Threads + Wait + Sync, S: Source, K: Sink, P: Keeper, G: Gat
     ensures counted { IfSome (store_told (P.kept keeper.old) (path_bytes asked.now.store)) (λ store. IfSome (S.left source.old) (λ stream.
         CountsSession store stream (K.held sink.old) (K.held sink.new) result.solves)) }
     ensures fed { IfSome (store_told (P.kept keeper.old) (path_bytes asked.now.store)) (λ store. IfSome (S.left source.old) (λ stream.
-        FeedsSession store stream (K.held sink.old) (K.held sink.new) (path_told (P.kept keeper.old) (path_bytes asked.now.store)) (path_told (P.kept keeper.new) (path_bytes asked.now.store))
-        (result.reporters.items ≡ reporters.items) (map (λ one. known one) reporters.items) (map (λ one. known one) result.reporters.items) result.status)) }
+        FeedsSession store stream (K.held sink.old) (K.held sink.new) (path_told (P.kept keeper.old) (path_bytes asked.now.store))
+        (path_told (P.kept keeper.new) (path_bytes asked.now.store))
+        (result.reporters.items ≡ reporters.items) (map (λ one. known one) reporters.items)
+        (map (λ one. known one) result.reporters.items) result.status)) }
     ensures steady { steady_count (map (λ one. known one) result.reporters.items) ≡ steady_count (map (λ one. known one) reporters.items) }
     ensures others { KeepsOthers (path_bytes asked.now.store) (P.kept keeper.old) (P.kept keeper.new) }
 {
@@ -222,15 +241,18 @@ pub fn run<R: Threads + Wait + Sync, S: Source, K: Sink, P: Keeper, G: Gate + Sy
     ensures reads { ReadsFront (S.left source.old) (S.left source.new) }
     ensures other_words { (AreRightWords (word_bytes words.now) → ⊥)
         → AnswersOtherWords (K.held sink.old) (K.held sink.new) result.status }
-    ensures untouched { (AreRightWords (word_bytes words.now) → ⊥) → (source.new ≡ source.old) × (keeper.new ≡ keeper.old) × (result.reporters ≡ reporters) }
+    ensures untouched { (AreRightWords (word_bytes words.now) → ⊥) → (source.new ≡ source.old) × (keeper.new ≡ keeper.old)
+        × (result.reporters ≡ reporters) }
 
     // What the reporters were fed: the entries of each report on a program, when its reply was written; steady ones stay. And what the
     // store was given: what is known of the program, before the reply to each command to save was written; no other path changes.
     ensures fed { AreRightWords (word_bytes words.now)
         → IfSome (store_told (P.kept keeper.old) (store_named (word_bytes words.now))) (λ store. IfSome (S.left source.old) (λ stream.
         FeedsSession store stream (K.held sink.old) (K.held sink.new)
-        (path_told (P.kept keeper.old) (store_named (word_bytes words.now))) (path_told (P.kept keeper.new) (store_named (word_bytes words.now)))
-        (result.reporters.items ≡ reporters.items) (map (λ one. known one) reporters.items) (map (λ one. known one) result.reporters.items) result.status)) }
+        (path_told (P.kept keeper.old) (store_named (word_bytes words.now)))
+        (path_told (P.kept keeper.new) (store_named (word_bytes words.now)))
+        (result.reporters.items ≡ reporters.items) (map (λ one. known one) reporters.items)
+        (map (λ one. known one) result.reporters.items) result.status)) }
     ensures steady { steady_count (map (λ one. known one) result.reporters.items) ≡ steady_count (map (λ one. known one) reporters.items) }
     ensures others { KeepsOthers (store_named (word_bytes words.now)) (P.kept keeper.old) (P.kept keeper.new) }
 

@@ -1,5 +1,25 @@
 //! One command after another: each is taken from the stream and answered, or ends the session.
-ghost use Rattle.std.specs.Prelude.{◌≡◌, ◌≢◌, ◌-◌, ◌≤◌, ◌↔◌, ℕ, List, Some, Err, IfErr, IfOk, IfSome, IfNone, IsSome, OnErr, OnOk, is_some, length, map};
+ghost use Rattle.std.specs.Prelude.{
+  ◌≡◌,
+  ◌≢◌,
+  ◌-◌,
+  ◌≤◌,
+  ◌↔◌,
+  ℕ,
+  List,
+  Some,
+  Err,
+  IfErr,
+  IfOk,
+  IfSome,
+  IfNone,
+  IsSome,
+  OnErr,
+  OnOk,
+  is_some,
+  length,
+  map,
+};
 ghost use Rattle.io_ports.specs.Counts.{Rose};
 ghost use Rattle.reporters.specs.Feeding.{steady_count};
 ghost use Rattle.session_lines.specs.Lines.{IsCommand, IsFirst};
@@ -8,14 +28,31 @@ ghost use Rattle.session_replies.specs.Answers.{IsAnswered};
 ghost use Rattle.heapan_top.specs.Headline.{ReadsFront};
 ghost use Rattle.session_replies.specs.Entries.{Feeds};
 ghost use Rattle.session_replies.specs.Parts.{bytes_saved};
-ghost use Rattle.heapan_top.specs.Parts.{Ends, IsAt, IsCutShort, IsOneMore, IsReply, IsReplyFed, IsReplySaved, IsReplyWork, IsStoreCut, IsTurn, IsTurnFed, IsWork, IsWriteEnd, course_of, ended_of, path_bytes};
+ghost use Rattle.heapan_top.specs.Parts.{
+  Ends,
+  IsAt,
+  IsCutShort,
+  IsOneMore,
+  IsReply,
+  IsReplyFed,
+  IsReplySaved,
+  IsReplyWork,
+  IsStoreCut,
+  IsTurn,
+  IsTurnFed,
+  IsWork,
+  IsWriteEnd,
+  course_of,
+  ended_of,
+  path_bytes,
+};
 ghost use Rattle.heapan_top.specs.Stores.{KeepsOthers, given_last, path_told};
 ghost use Rattle.heapan_top.specs.Replies.{Course, malformed_line, one_behind, status_with};
 
 use crate::laws::{one_reply, some_reply};
 use crate::status::Status;
 use io_ports::{Gate, KeepFault, Keeper, Sink, SinkFault, Source, write_all};
-use report_text::reasons::push_decimal;
+use report_text::push_decimal;
 use reporters::{Reporter, feed_all};
 use session_lines::laws::one_first;
 use session_lines::{Command, Commands, Taken, next_command};
@@ -102,8 +139,10 @@ fn stored<P: Keeper>(
     saved: Option<Vec<u8>>,
 ) -> Result<(), Status>
     requires { IsSome (bytes_saved saved) → IsSome path }
-    ensures stored { OnOk result (path_told (P.kept keeper.new) (path_bytes path.entry) ≡ given_last (bytes_saved saved) (path_told (P.kept keeper.old) (path_bytes path.entry))) }
-    ensures cut { OnErr result (IsStoreCut (bytes_saved saved) (path_told (P.kept keeper.old) (path_bytes path.entry)) (path_told (P.kept keeper.new) (path_bytes path.entry))) }
+    ensures stored { OnOk result (path_told (P.kept keeper.new) (path_bytes path.entry) ≡ given_last (bytes_saved saved)
+        (path_told (P.kept keeper.old) (path_bytes path.entry))) }
+    ensures cut { OnErr result (IsStoreCut (bytes_saved saved) (path_told (P.kept keeper.old) (path_bytes path.entry))
+        (path_told (P.kept keeper.new) (path_bytes path.entry))) }
     ensures status { IfErr result IsCutShort }
     ensures others { KeepsOthers (path_bytes path.entry) (P.kept keeper.old) (P.kept keeper.new) }
     ensures write_fault { result ≢ Err Status.WriteFault }
@@ -141,7 +180,8 @@ fn write_reply<R: Wait, K: Sink, P: Keeper, G: Gate, A: Ledger, B: Ledger>(
     ensures reply { IsReply session.old asked (K.held sink.old) session.new (K.held sink.new) (ended_of result) }
     ensures work { IsReplyWork session.old asked (K.held sink.old) session.new (K.held sink.new) hands.new.seen (ended_of result) }
     ensures entries { IfOk result (λ entries. Feeds session.old asked entries.items) }
-    ensures saved { IsReplySaved session.old asked (path_told (P.kept keeper.old) (path_bytes path.entry)) (path_told (P.kept keeper.new) (path_bytes path.entry)) (ended_of result) }
+    ensures saved { IsReplySaved session.old asked (path_told (P.kept keeper.old) (path_bytes path.entry))
+        (path_told (P.kept keeper.new) (path_bytes path.entry)) (ended_of result) }
     ensures others { KeepsOthers (path_bytes path.entry) (P.kept keeper.old) (P.kept keeper.new) }
     ensures rises { hands.old.seen ≤ hands.new.seen }
     ensures write_fault { result ≡ Err Status.WriteFault → Rose (K.faults sink.old) (K.faults sink.new) }
@@ -182,8 +222,10 @@ fn reply<R: Wait, K: Sink, P: Keeper, G: Gate, A: Ledger, B: Ledger>(
     requires named { session.old.setting.saves ≡ is_some path }
     ensures reply { IsReply session.old asked (K.held sink.old) session.new (K.held sink.new) result }
     ensures work { IsReplyWork session.old asked (K.held sink.old) session.new (K.held sink.new) hands.new.seen result }
-    ensures feeds { IsReplyFed session.old asked (path_told (P.kept keeper.old) (path_bytes path.entry)) (path_told (P.kept keeper.new) (path_bytes path.entry))
-        (reporters.new.items ≡ reporters.old.items) (map (λ one. known one) reporters.old.items) (map (λ one. known one) reporters.new.items) result }
+    ensures feeds { IsReplyFed session.old asked (path_told (P.kept keeper.old) (path_bytes path.entry))
+        (path_told (P.kept keeper.new) (path_bytes path.entry))
+        (reporters.new.items ≡ reporters.old.items) (map (λ one. known one) reporters.old.items)
+        (map (λ one. known one) reporters.new.items) result }
     ensures steady { steady_count (map (λ one. known one) reporters.new.items) ≡ steady_count (map (λ one. known one) reporters.old.items) }
     ensures others { KeepsOthers (path_bytes path.entry) (P.kept keeper.old) (P.kept keeper.new) }
     ensures rises { hands.old.seen ≤ hands.new.seen }
@@ -223,13 +265,17 @@ fn follow<R: Wait, K: Sink, P: Keeper, G: Gate, A: Ledger, B: Ledger>(
     requires named { session.old.setting.saves ≡ is_some path }
     ensures named { IfNone result (session.new.setting ≡ session.old.setting) }
     ensures turn { (course : Course) (stream rest : List ℕ) → IsAt course session.old number offset → IsFirst stream asked rest
-        → IsTurn course stream (K.held sink.old) (one_behind course (length stream - length rest) session.new) (Some rest) (K.held sink.new) result }
+        → IsTurn course stream (K.held sink.old) (one_behind course (length stream - length rest) session.new) (Some rest)
+        (K.held sink.new) result }
     ensures work { (course : Course) (stream rest : List ℕ) → IsAt course session.old number offset → IsFirst stream asked rest
-        → IsWork course stream (K.held sink.old) (one_behind course (length stream - length rest) session.new) (Some rest) (K.held sink.new) hands.new.seen result }
+        → IsWork course stream (K.held sink.old) (one_behind course (length stream - length rest) session.new) (Some rest)
+        (K.held sink.new) hands.new.seen result }
     ensures feeds { (course : Course) (stream rest : List ℕ) → IsAt course session.old number offset → IsFirst stream asked rest
-        → IsTurnFed course stream (K.held sink.old) (one_behind course (length stream - length rest) session.new) (Some rest) (K.held sink.new)
+        → IsTurnFed course stream (K.held sink.old) (one_behind course (length stream - length rest) session.new) (Some rest)
+        (K.held sink.new)
         (path_told (P.kept keeper.old) (path_bytes path.entry)) (path_told (P.kept keeper.new) (path_bytes path.entry))
-        (reporters.new.items ≡ reporters.old.items) (map (λ one. known one) reporters.old.items) (map (λ one. known one) reporters.new.items) result }
+        (reporters.new.items ≡ reporters.old.items) (map (λ one. known one) reporters.old.items)
+        (map (λ one. known one) reporters.new.items) result }
     ensures steady { steady_count (map (λ one. known one) reporters.new.items) ≡ steady_count (map (λ one. known one) reporters.old.items) }
     ensures others { KeepsOthers (path_bytes path.entry) (P.kept keeper.old) (P.kept keeper.new) }
     ensures rises { hands.old.seen ≤ hands.new.seen }
@@ -279,7 +325,8 @@ pub fn turn<R: Wait, S: Source, K: Sink, P: Keeper, G: Gate, A: Ledger, B: Ledge
         IsTurnFed (course_of commands.old session.old) stream (K.held sink.old) (course_of commands.new session.new)
         (stream_left commands.new (S.left source.new)) (K.held sink.new)
         (path_told (P.kept keeper.old) (path_bytes path.entry)) (path_told (P.kept keeper.new) (path_bytes path.entry))
-        (reporters.new.items ≡ reporters.old.items) (map (λ one. known one) reporters.old.items) (map (λ one. known one) reporters.new.items) result) }
+        (reporters.new.items ≡ reporters.old.items) (map (λ one. known one) reporters.old.items)
+        (map (λ one. known one) reporters.new.items) result) }
     ensures steady { steady_count (map (λ one. known one) reporters.new.items) ≡ steady_count (map (λ one. known one) reporters.old.items) }
     ensures others { KeepsOthers (path_bytes path.entry) (P.kept keeper.old) (P.kept keeper.new) }
     ensures rises { hands.old.seen ≤ hands.new.seen }

@@ -9,7 +9,7 @@ use Rattle.std.proofs.lemmas.List.Elements.{All-cons, All-head, All-tail, All-we
 use Rattle.std.proofs.lemmas.List.Kept.{AllPairs-cons}
 use Rattle.std.proofs.lemmas.Map.Lookups.{exact_bytes}
 use Rattle.component_keys.specs.Components.{in_name_order, by_name}
-use Rattle.call_components.proofs.Naming.{by_name_below}
+use Rattle.call_components.proofs.Naming.{All-put, by_name_below}
 use Rattle.key_laws.proofs.Elements.{pairs_first, pairs_rest, pairs_none, pairs_one}
 
 -- one list of bytes is below another
@@ -46,15 +46,6 @@ not_below xs ys differ e =
     let greater : slice_cmp nat_cmp xs ys ≡ Greater = not_lt (slice_cmp nat_cmp xs ys) e (λ same. differ (exact_bytes xs ys same)) in
     nat_list_cmp_total.antisymm ys xs ∙ ap ordering_reverse greater
 
--- a number that is put in has what all have
-all_put : (P : ℕ → Type 0) (names : List (List ℕ)) (number : ℕ) (order : List ℕ) → P number → All P order → All P (in_name_order names number order)
-all_put P names number [] own all = All-cons P number [] own all
-all_put P names number (x ∷ order) own all = by_test (is_lt (slice_cmp nat_cmp (named names number) (named names x))) (all_put P names number order own (All-tail P x order all))
-  where
-    by_test : (b : Bool) → All P (in_name_order names number order) → All P (if b then number ∷ x ∷ order else x ∷ in_name_order names number order)
-    by_test true again = All-cons P number (x ∷ order) own all
-    by_test false again = All-cons P x (in_name_order names number order) (All-head P x order all) again
-
 put_rising : (names : List (List ℕ)) (number : ℕ) (order : List ℕ) → All (λ other. named names number ≢ named names other) order → AllPairs (HasNameBelow names) order →
     AllPairs (HasNameBelow names) (in_name_order names number order)
 put_rising names number [] differ rising = pairs_one (HasNameBelow names) number
@@ -75,7 +66,7 @@ put_rising names number (x ∷ order) differ rising =
         rising
     by_test false e again =
         let less : HasNameBelow names x number = not_below (named names number) (named names x) (All-head (λ other. named names number ≢ named names other) x order differ) e in
-        AllPairs-cons (HasNameBelow names) x (in_name_order names number order) (all_put (HasNameBelow names x) names number order less above) again
+        AllPairs-cons (HasNameBelow names) x (in_name_order names number order) (All-put (HasNameBelow names x) names number order less above) again
 
 -- numbers below, whose names differ, stand in rising order of the names
 pub by_name_rising : (names : List (List ℕ)) (n : ℕ) → ((i j : ℕ) → i < n → j < n → named names i ≡ named names j → i ≡ j) → AllPairs (HasNameBelow names) (by_name names n)

@@ -1,9 +1,8 @@
 -- Abstraction at the head of a loop, and at an exit, makes no logical variable.
-use Rattle.std.specs.Prelude.{◌≡◌, ℕ, zero, suc, ◌+◌, ◌<◌, ◌≤◌, Bool, true, false, not, ◌==◌, ◌&&◌, if◌then◌else◌, List, [], ◌∷◌, ◌++◌, length, position, slice_get, All}
-use Rattle.std.specs.Str.{bytes_eq}
+use Rattle.std.specs.Prelude.{◌≡◌, ℕ, ◌+◌, ◌<◌, ◌≤◌, Bool, true, false, ◌&&◌, if◌then◌else◌, List, [], ◌∷◌, length, All}
 use Rattle.std.specs.declared.option.Option.{Option}
 use Rattle.std.specs.declared.option.Option.TheVariants.{None, Some}
-use Rattle.std.proofs.Common.{refl, sym, subst, arith}
+use Rattle.std.proofs.Common.{sym, subst, arith}
 use Rattle.std.proofs.lemmas.List.Elements.{All-cons, All-head, All-nil, All-tail}
 use Rattle.shape_data.specs.declared.program.Field.{Field}
 use Rattle.shape_data.specs.declared.program.Flow.{Flow}
@@ -14,24 +13,19 @@ use Rattle.shape_data.specs.declared.symbolic.Atom.TheVariants.{Points, Seg, Jun
 use Rattle.shape_data.specs.declared.symbolic.Exp.{Exp}
 use Rattle.shape_data.specs.declared.symbolic.Exp.TheVariants.{Var}
 use Rattle.shape_data.specs.declared.symbolic.Post.{Post}
-use Rattle.shape_data.specs.declared.symbolic.SymHeap.{SymHeap}
 use Rattle.shape_data.specs.declared.symbolic.SymState.{SymState}
 use Rattle.shape_data.specs.Heap.{struct_named}
-use Rattle.sym_laws.specs.Each.{EachInAtom, EachInFact, EachInPost, EachInState}
-use Rattle.sym_laws.specs.Expressions.{same_exp}
+use Rattle.sym_laws.specs.Each.{EachInAtom, EachInPost, EachInState}
 use Rattle.sym_pure.proofs.EachLaws.{form-each}
 use Rattle.sym_canon.specs.Canonical.{as_state, canon_post, canon_state}
 use Rattle.sym_forms.specs.Sizes.{fields_of}
 use Rattle.abstraction_laws.specs.Forgetting.{first_new, forget, forget_atom, forget_atoms, forget_cell, forget_fields, forget_slots, forget_value, is_constant, is_forgotten, is_int}
 use Rattle.abstraction_laws.specs.Heads.{abstract_exit, abstract_head, at_exit, at_head, forget_if_recursive, post_of, reduced}
-use Rattle.abstraction_laws.specs.Joining.{end_by, segment_by, segment_of, segment_to, start_of}
-use Rattle.abstraction_laws.specs.Losing.{is_disequality_of, is_lost_among}
-use Rattle.abstraction_laws.specs.Occurrences.{exps_of_atoms}
-use Rattle.abstraction_laws.specs.Reaching.{keep_reached}
-use Rattle.abstraction_laws.specs.Repeating.{join_inner, reduce_once, reduce_times, size_of}
+use Rattle.abstraction_laws.specs.Repeating.{size_of}
 use Rattle.abstraction_laws.proofs.ForgetLaws.{logical-low}
-use Rattle.abstraction_laws.proofs.KeptLaws.{all-filter, all-got, reduce-each}
+use Rattle.abstraction_laws.proofs.KeptLaws.{reduce-each}
 use Rattle.abstraction_laws.proofs.NormalResults.{exit-locals, made-of, one-local}
+use Rattle.abstraction_laws.proofs.PairRoomLaws.{joined-each, times-facts}
 use Rattle.limit_laws.proofs.Numbered.{as_state-each, canon-kept, canon_post-kept, of_state-each}
 
 module _ (P : Exp → Type 0) (new : (x : ℕ) → 65536 ≤ x → P (Var x)) where
@@ -72,55 +66,14 @@ module _ (P : Exp → Type 0) (new : (x : ℕ) → 65536 ≤ x → P (Var x)) wh
   first-high : (state : SymState) → 65536 ≤ first_new state
   first-high state = let last : 65535 < first_new state = logical-low state 65535 (omega arith) in omega (arith, last)
 
-  -- ---- segments that joins make
-
-  end-kept : (kind : List ℕ) (link : ℕ) (atom : Atom) (to : Exp) → end_by kind link atom ≡ Some to → EachInAtom P atom → P to
-  end-kept kind link (Points at other fields) to ends is = by_kind (bytes_eq other kind) refl
-    where
-      by_kind : (b : Bool) → bytes_eq other kind ≡ b → P to
-      by_kind true e = let got : slice_get fields link ≡ Some to = rw e at ends in all-got P fields link to got is.1
-      by_kind false e = let bad : None ≡ Some to = rw e at ends in cc
-  end-kept kind link (Seg other field from end) to ends is = by_kind (bytes_eq other kind && field == link) refl
-    where
-      by_kind : (b : Bool) → (bytes_eq other kind && field == link) ≡ b → P to
-      by_kind true e = let same : Some end ≡ Some to = rw e at ends in let equal : end ≡ to = cc in subst P equal is.1
-      by_kind false e = let bad : None ≡ Some to = rw e at ends in cc
-  end-kept kind link Junk to ends is = cc
-
-  to-kept : (kind : List ℕ) (link : ℕ) (from : Exp) (other segment : Atom) (o : Option Exp) → end_by kind link other ≡ o → segment_to kind link from o ≡ Some segment → P from → EachInAtom P other →
-      EachInAtom P segment
-  to-kept kind link from other segment None ends makes start is = cc
-  to-kept kind link from other segment (Some to) ends makes start is =
-      let same : Seg kind link from to ≡ segment = cc in
-      subst (EachInAtom P) same (start, end-kept kind link other to ends is)
-
-  joined-kept : (v : Exp) (one other segment : Atom) → start_of other ≡ Some v → segment_of v one other ≡ Some segment → EachInAtom P one → EachInAtom P other → EachInAtom P segment
-  joined-kept v (Points at kind fields) other segment starts makes is also = by_link (position (same_exp v) fields) makes
-    where
-      by_link : (o : Option ℕ) → segment_by kind at other o ≡ Some segment → EachInAtom P segment
-      by_link None f = cc
-      by_link (Some link) f = to-kept kind link at other segment (end_by kind link other) refl f is.0 also
-  joined-kept v (Seg kind link from to) other segment starts makes is also = by_test (same_exp v to) makes
-    where
-      by_test : (b : Bool) → (if b then segment_to kind link from (end_by kind link other) else None) ≡ Some segment → EachInAtom P segment
-      by_test true f = to-kept kind link from other segment (end_by kind link other) refl f is.0 also
-      by_test false f = cc
-  joined-kept v Junk other segment starts makes is also = cc
-
   -- ---- reduced
-
-  times-facts : (turns : ℕ) (joins : Bool) (locals : List Exp) (heap : SymHeap) → All (EachInFact P) heap.pure → All (EachInFact P) (reduce_times turns joins locals heap).pure
-  times-facts zero joins locals heap h = h
-  times-facts (suc turns) joins locals heap h =
-      times-facts turns joins locals (reduce_once joins locals heap)
-      (all-filter (EachInFact P) (λ fact. not (is_disequality_of (is_lost_among 65536 (locals ++ exps_of_atoms (join_inner joins locals (keep_reached locals heap.spatial)))) fact)) heap.pure h)
 
   reduced-kept : (joins : Bool) (state : SymState) → EachInState P state → EachInState P (reduced joins state)
   reduced-kept joins state is = record {
     locals = is.locals;
     heap = record {
-      facts = times-facts (size_of state.heap) joins state.locals state.heap is.heap.facts;
-      atoms = reduce-each (EachInAtom P) tt joined-kept joins state.locals state.heap is.heap.atoms;
+      facts = times-facts P (size_of state.heap) joins state.locals state.heap is.heap.facts;
+      atoms = reduce-each (EachInAtom P) tt (joined-each P) joins state.locals state.heap is.heap.atoms;
     };
   }
 

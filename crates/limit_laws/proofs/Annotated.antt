@@ -31,15 +31,15 @@ use Rattle.certificate_laws.specs.Limits.{analysable}
 use Rattle.certificate_laws.proofs.GivenLaws.{step-given}
 use Rattle.certificate_laws.proofs.LimitLaws as limits
 use Rattle.certificate_laws.proofs.ResultLaws.{at_exit_is_well_formed, at_node_is_well_formed, start_at_node_is_well_formed}
-use Rattle.annotation_laws.specs.declared.parts.Annotated.{Annotated}
 use Rattle.annotation_laws.specs.declared.parts.Annotated.TheVariants.{Done}
-use Rattle.annotation_laws.specs.Annotation.{all_done, annotate, end_of, kept, started, turn_of, turns, with_turn, without_turns, MOST_TURNS}
-use Rattle.annotation_laws.specs.Listing.{Course, Ends, Goes, Listing, MOST_STATES}
+use Rattle.annotation_laws.specs.Annotation.{all_done, annotate, kept, started, turn_of, turns, with_turn, without_turns, MOST_TURNS}
+use Rattle.annotation_laws.specs.Listing.{Goes, Listing, MOST_STATES}
 use Rattle.annotation_laws.proofs.AnnotationLaws.{done_is_small, done_is_well_formed}
-use Rattle.annotation_laws.proofs.Coming.{IsNotDone, IsOpen, after-step-open, started-open}
+use Rattle.annotation_laws.proofs.Coming.{after-step-open, started-open}
 use Rattle.annotation_laws.proofs.Growing.{cert_of}
 use Rattle.annotation_laws.proofs.KeptLaws.{kept-each}
 use Rattle.annotation_laws.proofs.ListedLaws.{AreListed, IfFew, IfPostFew, MayCome, MayLeave, after-step-listed, few-given, few-post-given, popped-listed, started-listed}
+use Rattle.annotation_laws.proofs.Turns.{end-went}
 use Rattle.limit_laws.specs.Laws.{DoneIsStorable, PostHasStorableLogical, HasStorableLogical}
 use Rattle.limit_laws.specs.Numbers.{IsLowExistential}
 use Rattle.limit_laws.specs.Sizes.{HasTaskSizes}
@@ -48,12 +48,6 @@ use Rattle.limit_laws.proofs.Executed.{execution_keeps_logical, exits_keep_logic
 use Rattle.limit_laws.proofs.Numbered.{canon-kept, forms_have_low_existentials}
 
 -- ---- what holds of all that comes holds of all that is listed
-
--- what was done is what further turns give
-end-went : (again : Listing → Annotated) (course : Course) (posts : List Post) (cert : Cert) → IsOpen course → end_of again course ≡ Done posts cert →
-    (mid : Listing) × (course ≡ Goes mid) × (again mid ≡ Done posts cert)
-end-went again (Goes mid) posts cert is_open h = (mid, refl, h)
-end-went again (Ends annotated) posts cert is_open h = absurd (subst IsNotDone h is_open)
 
 module _ (task : Task) (S : SymState → Type 0) (E : Post → Type 0)
     (runs : (at : ℕ) (state : SymState) → S state → (one : Step) → one ≡ execution task at state → OfNexts (MayCome S E task) one × OfExits (MayLeave S E task) one) where

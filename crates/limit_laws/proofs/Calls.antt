@@ -1,10 +1,10 @@
 -- A call makes no logical variable: what a match leaves and binds are expressions of the caller, or existential variables.
-use Rattle.std.specs.Prelude.{◌≡◌, ℕ, zero, suc, ◌+◌, ◌*◌, ◌<◌, ◌≤◌, Bool, true, false, ◌==◌, if◌then◌else◌, leb, ltb, List, [], ◌∷◌, ◌++◌, filter, length, map, All, Contains}
+use Rattle.std.specs.Prelude.{◌≡◌, ℕ, ◌+◌, ◌*◌, ◌≤◌, Bool, true, false, ◌==◌, if◌then◌else◌, leb, ltb, List, [], ◌∷◌, ◌++◌, filter, length, map, All, Contains}
 use Rattle.std.specs.Option.{IsSomeAnd, is_none}
 use Rattle.std.specs.declared.option.Option.{Option}
 use Rattle.std.specs.declared.option.Option.TheVariants.{None, Some}
 use Rattle.std.proofs.Common.{refl, sym, ap, subst, ◌∙◌, arith}
-use Rattle.std.proofs.lemmas.Bool.{eqb-false, eqb-true, or_left, or_right}
+use Rattle.std.proofs.lemmas.Bool.{or_right}
 use Rattle.std.proofs.lemmas.List.{length-map}
 use Rattle.std.proofs.lemmas.List.Elements.{All-append, All-cons, All-contains, All-filter, All-head, All-map, All-nil, All-set, All-tail, All-weaker}
 use Rattle.shape_data.specs.declared.answer.Callee.{Callee}
@@ -45,6 +45,8 @@ use Rattle.sym_renaming.specs.declared.parts.CalledPre.{CalledPre}
 use Rattle.sym_renaming.specs.declared.parts.Numbers.{Numbers}
 use Rattle.sym_renaming.specs.Apart.{number_of}
 use Rattle.sym_renaming.specs.Calls.{bound_in, bound_or_new, called_with, in_caller as in_caller_by, new_in_post, parameters_bound, post_in_caller, post_numbers, post_variables, pre_numbers, variables_from}
+use Rattle.sym_renaming.proofs.CallLemmas.{listed_from}
+use Rattle.sym_renaming.proofs.CoveringLemmas.{filtered}
 use Rattle.sym_renaming.proofs.ListedLemmas.{IsListed, heap-listed, listed-more, variable-listed}
 use Rattle.sym_renaming.proofs.NumberLemmas.{numbers_are_apart}
 use Rattle.exec_laws.specs.declared.parts.Case.{Case}
@@ -69,35 +71,6 @@ all-listed [] = All-nil (λ x. is_one_of [] x ≡ true)
 all-listed (x ∷ xs) =
     All-cons (λ y. is_one_of (x ∷ xs) y ≡ true) x xs (one_of-first x xs)
     (All-weaker (λ y. is_one_of xs y ≡ true) (λ y. is_one_of (x ∷ xs) y ≡ true) (λ y is. or_right (y == x) (is_one_of xs y) is) xs (all-listed xs))
-
--- one that passes a test is among those that do
-filter-has : (test : ℕ → Bool) (xs : List ℕ) (x : ℕ) → is_one_of xs x ≡ true → test x ≡ true → is_one_of (filter test xs) x ≡ true
-filter-has test [] x is passes = cc
-filter-has test (y ∷ xs) x is passes = by_same (x == y) refl (filter-has test xs x)
-  where
-    by_same : (b : Bool) → (x == y) ≡ b → (is_one_of xs x ≡ true → test x ≡ true → is_one_of (filter test xs) x ≡ true) → is_one_of (filter test (y ∷ xs)) x ≡ true
-    by_same true e later =
-        let one : x ≡ y = eqb-true x y e in
-        let also : test y ≡ true = subst (λ z. test z ≡ true) one passes in
-        rw also (or_left (x == y) (is_one_of (filter test xs) x) e)
-    by_same false e later =
-        let rest : is_one_of xs x ≡ true = rw e at is in
-        by_test (test y) refl (later rest passes)
-      where
-        by_test : (c : Bool) → test y ≡ c → is_one_of (filter test xs) x ≡ true → is_one_of (filter test (y ∷ xs)) x ≡ true
-        by_test true f there = rw f (or_right (x == y) (is_one_of (filter test xs) x) there)
-        by_test false f there = rw f there
-
--- the variables from a number on are listed
-listed-from : (k count x : ℕ) → k ≤ x → x < k + count → is_one_of (variables_from k count) x ≡ true
-listed-from k zero x low high = absurd (omega (arith, low, high))
-listed-from k (suc count) x low high = by_test (x == k) refl (listed-from (k + 1) count x)
-  where
-    by_test : (b : Bool) → (x == k) ≡ b → (k + 1 ≤ x → x < k + 1 + count → is_one_of (variables_from (k + 1) count) x ≡ true) → is_one_of (variables_from k (suc count)) x ≡ true
-    by_test true e later = or_left (x == k) (is_one_of (variables_from (k + 1) count) x) e
-    by_test false e later =
-        let other = eqb-false x k e in
-        or_right (x == k) (is_one_of (variables_from (k + 1) count) x) (later (omega (arith, low, other)) (omega (arith, high)))
 
 -- ---- a precondition in the caller
 
@@ -148,7 +121,7 @@ module _ (structs : List StructDef) (params before : ℕ) (used : List ℕ) (arg
   bound-from : (k : ℕ) (es : List Exp) → k + length es ≤ length args → All (IsLogicalStorable params) es → All (IsBound storable_logical params) (parameters_bound apart k es)
   bound-from k [] room each = All-nil (IsBound storable_logical params)
   bound-from k (e ∷ es) room each =
-      let listed : is_one_of list k ≡ true = heap-within pre (variables_from 0 (length args)) k (listed-from 0 (length args) k (omega arith) (omega (arith, room))) in
+      let listed : is_one_of list k ≡ true = heap-within pre (variables_from 0 (length args)) k (listed_from 0 (length args) k (omega arith) (omega (arith, room))) in
       All-cons (IsBound storable_logical params) (number_of apart k, e) (parameters_bound apart (k + 1) es) (number-fits k listed, All-head (IsLogicalStorable params) e es each)
       (bound-from (k + 1) es (omega (arith, room)) (All-tail (IsLogicalStorable params) e es each))
 
@@ -193,7 +166,7 @@ module _ (params : ℕ) (used : List ℕ) (apart : Numbers) (binding : List (ℕ
         by_bound : (o : Option Exp) → bound_in apart binding x ≡ o → IsLogicalStorable params (bound_or_new (post_numbers used apart binding post) x o)
         by_bound (Some e) is = bound_in-fits x e is
         by_bound None is =
-            let new : is_one_of (new_in_post apart binding post) x ≡ true = filter-has (λ y. is_none (bound_in apart binding y)) (post_variables post) x listed (ap is_none is) in
+            let new : is_one_of (new_in_post apart binding post) x ≡ true = filtered (λ y. is_none (bound_in apart binding y)) (post_variables post) x listed (ap is_none is) in
             existential-fits params (number_of (post_numbers used apart binding post) x) ((numbers_are_apart (with_binding used binding) (new_in_post apart binding post)).existential x new)
 
     pub read-post-fits : EachInPost (IsLogicalStorable params) (post_in_caller used apart binding post)

@@ -12,7 +12,7 @@ use Rattle.shape_data.specs.declared.program.StructDef.{StructDef}
 use Rattle.component_keys.specs.Components.{components}
 use Rattle.component_keys.specs.Keys.{Component, calls_in, component_of, flows_of, names_of, program_components}
 use Rattle.component_keys.specs.Structures.{structs_used}
-use Rattle.sym_matching.proofs.KeptLaws.{All-at}
+use Rattle.sym_pure.proofs.EachLaws.{All-get}
 use Rattle.limit_laws.specs.Laws.{ComposedKeysHaveSizes}
 use Rattle.shape_data.specs.Sizes.{HasFewSlots, IsNarrow}
 
@@ -23,7 +23,7 @@ picked {A = A} P all each (number ∷ numbers) = by_one (slice_get all number) r
   where
     by_one : (o : Option A) → slice_get all number ≡ o → All P (filter_map (slice_get all) numbers) → All P (cons_option o (filter_map (slice_get all) numbers))
     by_one None is later = later
-    by_one (Some x) is later = All-cons P x (filter_map (slice_get all) numbers) (All-at P all number x is each) later
+    by_one (Some x) is later = All-cons P x (filter_map (slice_get all) numbers) (All-get P all number x is each) later
 
 structs-narrow : (structs : List StructDef) (flows : List Flow) (callees : List Callee) → All IsNarrow structs → All IsNarrow (structs_used structs flows callees)
 unfolding structs_used

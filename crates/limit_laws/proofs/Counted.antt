@@ -18,6 +18,7 @@ use Rattle.shape_data.specs.declared.symbolic.SymState.{SymState}
 use Rattle.shape_data.specs.Heap.{struct_named}
 use Rattle.shape_data.specs.WellFormed.{IsAtom, IsExp, IsFact, IsPost, IsState, IsSymHeap, Limits, storable}
 use Rattle.sym_laws.specs.Each.{EachInAtom, EachInFact, EachInHeap, EachInPost, EachInState}
+use Rattle.sym_pure.proofs.WellFormedLaws.{atom_each, from_each, to_each}
 use Rattle.sym_canon.specs.Canonical.{as_state, without_locals}
 use Rattle.sym_forms.specs.Sizes.{fields_in, fields_of, most_exps}
 use Rattle.sym_matching.specs.Answers.{names_of_all}
@@ -103,29 +104,16 @@ module _ (params : ℕ) where
 -- ---- facts and atoms by their expressions
 
 module _ (from limits : Limits) (structs : List StructDef) (params : ℕ) where
-  fact-of : (fact : Fact) → EachInFact (IsExp limits params) fact → IsFact limits params fact
-  fact-of (Eq left right) is = is
-  fact-of (Ne left right) is = is
-
-  to-fact : (fact : Fact) → IsFact limits params fact → EachInFact (IsExp limits params) fact
-  to-fact (Eq left right) is = is
-  to-fact (Ne left right) is = is
-
   atom-of : (atom : Atom) → IsAtom from structs params atom → EachInAtom (IsExp limits params) atom → IsAtom limits structs params atom
   atom-of (Points at kind fields) is each = (each.0, is.1, each.1)
   atom-of (Seg kind link start end) is each = (is.0, each.0, each.1)
   atom-of Junk is each = tt
 
-  to-atom : (atom : Atom) → IsAtom limits structs params atom → EachInAtom (IsExp limits params) atom
-  to-atom (Points at kind fields) is = (is.0, is.2)
-  to-atom (Seg kind link start end) is = (is.1, is.2)
-  to-atom Junk is = tt
-
   pub facts-of : (facts : List Fact) → All (EachInFact (IsExp limits params)) facts → All (IsFact limits params) facts
-  facts-of facts is = All-weaker (EachInFact (IsExp limits params)) (IsFact limits params) fact-of facts is
+  facts-of facts is = All-weaker (EachInFact (IsExp limits params)) (IsFact limits params) (from_each limits structs params) facts is
 
   pub to-facts : (facts : List Fact) → All (IsFact limits params) facts → All (EachInFact (IsExp limits params)) facts
-  to-facts facts is = All-weaker (IsFact limits params) (EachInFact (IsExp limits params)) to-fact facts is
+  to-facts facts is = All-weaker (IsFact limits params) (EachInFact (IsExp limits params)) (to_each limits structs params) facts is
 
   pub atoms-of : (atoms : List Atom) → All (IsAtom from structs params) atoms → All (EachInAtom (IsExp limits params)) atoms → All (IsAtom limits structs params) atoms
   atoms-of [] is each = All-nil (IsAtom limits structs params)
@@ -135,7 +123,7 @@ module _ (from limits : Limits) (structs : List StructDef) (params : ℕ) where
       (atoms-of atoms (All-tail (IsAtom from structs params) atom atoms is) (All-tail (EachInAtom (IsExp limits params)) atom atoms each))
 
   pub to-atoms : (atoms : List Atom) → All (IsAtom limits structs params) atoms → All (EachInAtom (IsExp limits params)) atoms
-  to-atoms atoms is = All-weaker (IsAtom limits structs params) (EachInAtom (IsExp limits params)) to-atom atoms is
+  to-atoms atoms is = All-weaker (IsAtom limits structs params) (EachInAtom (IsExp limits params)) (atom_each limits structs params) atoms is
 
 -- ---- what follows from two facts on each expression
 

@@ -5,7 +5,7 @@ use Rattle.std.specs.Str.{bytes_eq}
 use Rattle.std.specs.declared.option.Option.{Option}
 use Rattle.std.specs.declared.option.Option.TheVariants.{None, Some}
 use Rattle.std.proofs.Common.{refl}
-use Rattle.std.proofs.lemmas.List.Elements.{All-append, All-cons, All-head, All-map, All-nil, All-set, All-tail, All-weaker}
+use Rattle.std.proofs.lemmas.List.Elements.{All-append, All-cons, All-head, All-map, All-nil, All-push, All-set, All-tail, All-weaker}
 use Rattle.shape_data.specs.declared.answer.Fault.TheVariants as fault
 use Rattle.shape_data.specs.declared.program.ArithOp.{ArithOp}
 use Rattle.shape_data.specs.declared.program.Operand.{Operand}
@@ -28,10 +28,10 @@ use Rattle.sym_pure.specs.declared.parts.Normal.{Normal}
 use Rattle.sym_pure.specs.declared.parts.Normal.TheVariants.{Is, Contradiction}
 use Rattle.sym_pure.specs.Normal.{normal}
 use Rattle.sym_pure.specs.Sources.{differs}
-use Rattle.sym_pure.proofs.EachLaws.{form-each}
+use Rattle.sym_pure.proofs.EachLaws.{All-get, All-remove, form-each}
 use Rattle.sym_forms.specs.Forms.{of_form}
 use Rattle.sym_matching.specs.NewVariables.{fresh, fresh_variables}
-use Rattle.sym_matching.proofs.KeptLaws.{All-at, All-insert, All-or, All-push_one, All-remove}
+use Rattle.sym_matching.proofs.KeptLaws.{All-insert, All-or}
 use Rattle.sym_matching.proofs.NewVariableLaws.{fresh_existential}
 use Rattle.exec_laws.specs.declared.parts.Case.{Case}
 use Rattle.exec_laws.specs.declared.parts.Case.TheVariants.{On, Leaves, Drops}
@@ -86,7 +86,7 @@ module _ (P : Exp → Type 0) (constant : (n : ℤ) → P (Const n)) (new : (x :
   atoms-good atoms pair good each = record { locals = good.locals; heap = record { facts = good.heap.facts; atoms = each } }
 
   fact-good : (fact : Fact) (pair : Pair) → Good pair → EachInFact P fact → Good (with_state_fact fact pair)
-  fact-good fact pair good is = record { locals = good.locals; heap = record { facts = All-push_one (EachInFact P) pair.state.heap.pure fact good.heap.facts is; atoms = good.heap.atoms } }
+  fact-good fact pair good is = record { locals = good.locals; heap = record { facts = All-push (EachInFact P) pair.state.heap.pure fact good.heap.facts is; atoms = good.heap.atoms } }
 
   news-good : (count : ℕ) (pair : Pair) → All P (map Var (new_existentials count pair))
   news-good count pair =
@@ -112,7 +112,7 @@ module _ (P : Exp → Type 0) (constant : (n : ℤ) → P (Const n)) (new : (x :
   full-good pair place kind link from to def next good segment is_next =
       let names : List ℕ = new_existentials (length def.fields) pair in
       let exps : All P (map Var names) = news-good (length def.fields) pair in
-      let link_exp : P (Var next) = All-at P (map Var names) link (Var next) (map-get names link next is_next) exps in
+      let link_exp : P (Var next) = All-get P (map Var names) link (Var next) (map-get names link next is_next) exps in
       atoms-good (insert (insert (remove (atoms_of pair) place) place (Seg kind link (Var next) to)) place (Points from kind (map Var names))) pair good
       (All-insert (EachInAtom P) (insert (remove (atoms_of pair) place) place (Seg kind link (Var next) to)) place (Points from kind (map Var names)) (segment.0, exps)
       (All-insert (EachInAtom P) (remove (atoms_of pair) place) place (Seg kind link (Var next) to) (link_exp, segment.1) (All-remove (EachInAtom P) (atoms_of pair) place good.heap.atoms)))
@@ -151,7 +151,7 @@ module _ (P : Exp → Type 0) (constant : (n : ℤ) → P (Const n)) (new : (x :
       by_atom later place (Some (Points at kind' fields)) is = one-exposed (Lacking (cause_at (in_slot pair slot))) tt
       by_atom later place (Some (Seg kind' link from to)) is =
           segment-good (λ form. expose_within turns strict kind slot form) later pair place kind' link from to good
-          (All-at (EachInAtom P) (atoms_of pair) place (Seg kind' link from to) is good.heap.atoms)
+          (All-get (EachInAtom P) (atoms_of pair) place (Seg kind' link from to) is good.heap.atoms)
       by_atom later place (Some Junk) is = one-exposed (Lacking (cause_at (in_slot pair slot))) tt
 
       by_place : ((form : Pair) → Good form → All ExposedGood (expose_within turns strict kind slot form)) → (place : Option ℕ) →
@@ -191,7 +191,7 @@ module _ (P : Exp → Type 0) (constant : (n : ℤ) → P (Const n)) (new : (x :
       where
         by_kind : (b : Bool) → CaseGood (if b then load_fields to field next pair at fields else Drops fault.Kind)
         by_kind true =
-            let cell : EachInAtom P (Points at kind' fields) = All-at (EachInAtom P) (atoms_of pair) place (Points at kind' fields) got good.heap.atoms in
+            let cell : EachInAtom P (Points at kind' fields) = All-get (EachInAtom P) (atoms_of pair) place (Points at kind' fields) got good.heap.atoms in
             slot-good to (slice_index_or fields field (Const (pos 0))) pair good (All-or P fields field (Const (pos 0)) (constant (pos 0)) cell.1)
         by_kind false = tt
     load-atom to base kind field next place (Some (Seg kind' link from to')) got = tt
@@ -203,7 +203,7 @@ module _ (P : Exp → Type 0) (constant : (n : ℤ) → P (Const n)) (new : (x :
       where
         by_kind : (b : Bool) → CaseGood (if b then store_fields kind field from next pair place at fields else Drops fault.Kind)
         by_kind true =
-            let cell : EachInAtom P (Points at kind' fields) = All-at (EachInAtom P) (atoms_of pair) place (Points at kind' fields) got good.heap.atoms in
+            let cell : EachInAtom P (Points at kind' fields) = All-get (EachInAtom P) (atoms_of pair) place (Points at kind' fields) got good.heap.atoms in
             let written : EachInAtom P (Points at kind (slice_set fields field (operand pair from))) = (cell.0, All-set P fields field (operand pair from) (operand-good pair good from) cell.1) in
             atoms-good (slice_set (atoms_of pair) place (Points at kind (slice_set fields field (operand pair from)))) pair good
             (All-set (EachInAtom P) (atoms_of pair) place (Points at kind (slice_set fields field (operand pair from))) written good.heap.atoms)
@@ -286,7 +286,7 @@ module _ (P : Exp → Type 0) (constant : (n : ℤ) → P (Const n)) (new : (x :
             let at : P (Var address) = All-head P (Var address) (map Var names) exps in
             slot-good to (Var address) (with_atoms (atoms_of pair ++ Points (Var address) kind (map Var names) ∷ []) pair)
             (atoms-good (atoms_of pair ++ Points (Var address) kind (map Var names) ∷ []) pair good
-            (All-push_one (EachInAtom P) (atoms_of pair) (Points (Var address) kind (map Var names)) good.heap.atoms (at, All-tail P (Var address) (map Var names) exps))) at
+            (All-push (EachInAtom P) (atoms_of pair) (Points (Var address) kind (map Var names)) good.heap.atoms (at, All-tail P (Var address) (map Var names) exps))) at
 
     pub branch-good : (op : TestOp) (pointers : Bool) (left right : Operand) (on_true on_false : ℕ) → All CaseGood (branch strict op pointers left right on_true on_false pair)
     branch-good op pointers left right on_true on_false = by_op op

@@ -1,8 +1,7 @@
 -- A turn of the wanted atoms, and its room.
-use Rattle.std.proofs.Common.{◌≡◌, ◌∙◌, ℕ, zero, suc, ◌+◌, ◌-◌, ◌<◌, ◌≤◌, List, [], ◌∷◌, Some, refl, sym, ap, subst, slice_get, arith}
+use Rattle.std.proofs.Common.{◌≡◌, ◌∙◌, ℕ, suc, ◌+◌, ◌-◌, ◌<◌, ◌≤◌, List, Some, sym, ap, subst, slice_get, arith}
 use Rattle.std.specs.List.{remove}
 use Rattle.shape_data.specs.declared.symbolic.Atom.{Atom}
-use Rattle.shape_data.specs.declared.symbolic.Atom.TheVariants.{Points, Seg, Junk}
 use Rattle.sym_matching.specs.declared.matching.Matching.{Matching}
 use Rattle.sym_matching.specs.declared.matching.Turned.{Turned}
 use Rattle.sym_matching.specs.declared.matching.Turned.TheVariants.{On, Stuck}
@@ -11,21 +10,15 @@ use Rattle.sym_matching.specs.NewVariables.{HasRoom}
 use Rattle.sym_matching.specs.Rooms.{fields_of, fields_of_all, fields_wanted, names_of, names_wanted}
 use Rattle.sym_matching.specs.Steps.{Rules, and_then}
 use Rattle.sym_matching.specs.WantedAtoms.{next_place, want_at, want_atom, want_atoms, wanted_from}
+use Rattle.sym_matching.proofs.AnswerLaws.{fields-from, names-from}
 use Rattle.sym_matching.proofs.RoomLaws.{room_parts}
-use Rattle.sym_matching.proofs.NextSteps.{atom_names}
-use Rattle.sym_matching.proofs.RoomSteps.{atom_takes_room}
+use Rattle.sym_matching.proofs.NextSteps.{atom_names, names-removed}
+use Rattle.sym_matching.proofs.RoomSteps.{atom_takes_room, fields-removed}
 use Rattle.sym_matching.specs.Answers.{names_of_all}
-
-fields_removed : (wanted : List Wanted) (place : ℕ) (w : Wanted) → slice_get wanted place ≡ Some w → fields_wanted wanted ≡ fields_of w.atom + fields_wanted (remove wanted place)
-fields_removed [] place w is = cc
-fields_removed (first ∷ others) zero w is = let same : first ≡ w = cc in rw same refl
-fields_removed (first ∷ others) (suc place) w is =
-    let later : fields_wanted others ≡ fields_of w.atom + fields_wanted (remove others place) = fields_removed others place w is in
-    omega arith
 
 module _ (wanted left : List Wanted) (place : ℕ) (w : Wanted) (used : List ℕ) (is : slice_get wanted place ≡ Some w) (rest : left ≡ remove wanted place) (room : HasRoom (fields_wanted wanted) used) where
   both : HasRoom (fields_of w.atom + fields_wanted left) used
-  both = let counts : fields_wanted wanted ≡ fields_of w.atom + fields_wanted left = fields_removed wanted place w is ∙ ap (λ list. fields_of w.atom + fields_wanted list) (sym rest) in subst (λ count. HasRoom count used) counts room
+  both = let counts : fields_wanted wanted ≡ fields_of w.atom + fields_wanted left = fields-removed wanted place w is ∙ ap (λ list. fields_of w.atom + fields_wanted list) (sym rest) in subst (λ count. HasRoom count used) counts room
 
   pub first_room : HasRoom (fields_of w.atom) used
   first_room = (room_parts (fields_of w.atom) (fields_wanted left) used both).0
@@ -34,16 +27,9 @@ pub later_room : (rules : Rules) (wanted left : List Wanted) (place : ℕ) (w : 
     want_atom rules w.number w.atom m ≡ On n → HasRoom (fields_wanted left) n.used
 later_room rules wanted left place w m n is rest room goes = atom_takes_room rules w.number w.atom m n (fields_wanted left) goes (both wanted left place w m.used is rest room)
 
-names_removed : (wanted : List Wanted) (place : ℕ) (w : Wanted) → slice_get wanted place ≡ Some w → names_wanted wanted ≡ names_of w.atom + names_wanted (remove wanted place)
-names_removed [] place w is = cc
-names_removed (first ∷ others) zero w is = let same : first ≡ w = cc in rw same refl
-names_removed (first ∷ others) (suc place) w is =
-    let later : names_wanted others ≡ names_of w.atom + names_wanted (remove others place) = names_removed others place w is in
-    omega arith
-
 module _ (wanted left : List Wanted) (place : ℕ) (w : Wanted) (next : ℕ) (is : slice_get wanted place ≡ Some w) (rest : left ≡ remove wanted place) (few : next + names_wanted wanted < 4294967296) where
   counted : names_wanted wanted ≡ names_of w.atom + names_wanted left
-  counted = names_removed wanted place w is ∙ ap (λ list. names_of w.atom + names_wanted list) (sym rest)
+  counted = names-removed wanted place w is ∙ ap (λ list. names_of w.atom + names_wanted list) (sym rest)
 
   pub first_names : next + names_of w.atom < 4294967296
   first_names = let both : names_wanted wanted ≡ names_of w.atom + names_wanted left = counted in omega arith
@@ -70,21 +56,9 @@ module _ (rules : Rules) (turns done : ℕ) (wanted now : List Wanted) (m : Matc
   atoms_go n is = one_turn ∙ ap (and_then (want_atoms (turns - (done + 1)) rules now)) is
 
 -- the wanted atoms have the fields of the heap's atoms
-pub fields_same : (atoms : List Atom) (number : ℕ) → fields_wanted (wanted_from number atoms) ≡ fields_of_all atoms
-fields_same [] number = refl
-fields_same (Points at kind fields ∷ atoms) number = let later : fields_wanted (wanted_from (number + 1) atoms) ≡ fields_of_all atoms = fields_same atoms (number + 1) in omega arith
-fields_same (Seg kind link from to ∷ atoms) number = let later : fields_wanted (wanted_from (number + 1) atoms) ≡ fields_of_all atoms = fields_same atoms (number + 1) in omega arith
-fields_same (Junk ∷ atoms) number = let later : fields_wanted (wanted_from (number + 1) atoms) ≡ fields_of_all atoms = fields_same atoms (number + 1) in omega arith
-
 pub wanted_room : (atoms : List Atom) (wanted : List Wanted) (used : List ℕ) → wanted ≡ wanted_from 0 atoms → HasRoom (fields_of_all atoms) used → HasRoom (fields_wanted wanted) used
-wanted_room atoms wanted used is room = subst (λ count. HasRoom count used) (sym (ap fields_wanted is ∙ fields_same atoms 0)) room
+wanted_room atoms wanted used is room = subst (λ count. HasRoom count used) (sym (ap fields_wanted is ∙ fields-from 0 atoms)) room
 
 -- and may take as many new logical variables
-pub names_same : (atoms : List Atom) (number : ℕ) → names_wanted (wanted_from number atoms) ≡ names_of_all atoms
-names_same [] number = refl
-names_same (Points at kind fields ∷ atoms) number = let later : names_wanted (wanted_from (number + 1) atoms) ≡ names_of_all atoms = names_same atoms (number + 1) in omega arith
-names_same (Seg kind link from to ∷ atoms) number = let later : names_wanted (wanted_from (number + 1) atoms) ≡ names_of_all atoms = names_same atoms (number + 1) in omega arith
-names_same (Junk ∷ atoms) number = let later : names_wanted (wanted_from (number + 1) atoms) ≡ names_of_all atoms = names_same atoms (number + 1) in omega arith
-
 pub wanted_names : (atoms : List Atom) (wanted : List Wanted) (next : ℕ) → wanted ≡ wanted_from 0 atoms → next + names_of_all atoms < 4294967296 → next + names_wanted wanted < 4294967296
-wanted_names atoms wanted next is few = let same : names_wanted wanted ≡ names_of_all atoms = ap names_wanted is ∙ names_same atoms 0 in omega arith
+wanted_names atoms wanted next is few = let same : names_wanted wanted ≡ names_of_all atoms = ap names_wanted is ∙ names-from 0 atoms in omega arith

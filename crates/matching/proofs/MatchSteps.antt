@@ -1,7 +1,5 @@
 -- The match as a whole: the answer is the definition's.
-use Rattle.std.proofs.Common.{◌≡◌, ◌∙◌, ℕ, ◌+◌, ◌<◌, ◌≤◌, List, [], ◌∷◌, ◌++◌, length, ap, arith}
-use Rattle.shape_data.specs.declared.symbolic.Atom.{Atom}
-use Rattle.shape_data.specs.declared.symbolic.Atom.TheVariants.{Points, Seg, Junk}
+use Rattle.std.proofs.Common.{◌≡◌, ◌∙◌, ℕ, ◌+◌, ◌<◌, ◌≤◌, List, ◌++◌, length, ap, arith}
 use Rattle.shape_data.specs.declared.symbolic.Exp.{Exp}
 use Rattle.shape_data.specs.declared.symbolic.Fact.{Fact}
 use Rattle.shape_data.specs.declared.symbolic.SymHeap.{SymHeap}
@@ -10,7 +8,8 @@ use Rattle.sym_matching.specs.declared.matching.Matching.{Matching}
 use Rattle.sym_matching.specs.declared.matching.Mode.{Mode}
 use Rattle.sym_matching.specs.declared.matching.Turned.{Turned}
 use Rattle.sym_matching.specs.Matches.{answer_abd, argument_variables, matching, rules_of, start_of, want_heap}
-use Rattle.sym_matching.specs.Rooms.{IsWithinSizes, fields_of, fields_of_all, names_of}
+use Rattle.sym_matching.specs.Rooms.{IsWithinSizes, fields_of_all}
+use Rattle.sym_matching.proofs.AnswerLaws.{few_names}
 use Rattle.sym_matching.proofs.RoomLaws.{few_fields}
 use Rattle.sym_matching.specs.Answers.{names_of_all}
 use Rattle.matching_steps.specs.InSetting.{rules_with}
@@ -32,18 +31,6 @@ module _ (mode : Mode) (a b : SymHeap) (bound : List (ℕ × Exp)) (flexible avo
       ∙ ap (λ list. answer_abd (rules_with mode list flexible) b (want_heap (rules_with mode list flexible) b (start_of a bound (argument_variables a b bound flexible ++ avoid) next))) facts_is
 
 -- ---- room for new logical variables
-
-one_more : (atom : Atom) → names_of atom ≤ fields_of atom + 1
-one_more (Points at kind fields) = omega arith
-one_more (Seg kind link from to) = omega arith
-one_more Junk = omega arith
-
-pub few_names : (atoms : List Atom) → names_of_all atoms ≤ fields_of_all atoms + length atoms
-few_names [] = omega arith
-few_names (atom ∷ atoms) =
-    let here : names_of atom ≤ fields_of atom + 1 = one_more atom in
-    let later : names_of_all atoms ≤ fields_of_all atoms + length atoms = few_names atoms in
-    omega arith
 
 -- a heap within the sizes takes at most 131,076,000
 pub names_within : (b : SymHeap) → IsWithinSizes b → names_of_all b.spatial ≤ 131076000

@@ -1,7 +1,7 @@
 -- The variables of well-formed arguments are small, so that there is room for new ones.
 use Rattle.std.specs.Prelude.{◌≡◌, ℕ, ◌+◌, ◌<◌, ◌≤◌, List, [], ◌∷◌, ◌++◌, length, All}
 use Rattle.std.proofs.Common.{arith}
-use Rattle.std.proofs.lemmas.List.Elements.{All-append, All-cons, All-head, All-nil, All-tail}
+use Rattle.std.proofs.lemmas.List.Elements.{All-append, All-cons, All-head, All-nil, All-push, All-tail}
 use Rattle.shape_data.specs.declared.symbolic.Atom.{Atom}
 use Rattle.shape_data.specs.declared.symbolic.Atom.TheVariants.{Points, Seg, Junk}
 use Rattle.shape_data.specs.declared.symbolic.Exp.{Exp}
@@ -16,7 +16,6 @@ use Rattle.sym_matching.specs.Matches.{argument_variables}
 use Rattle.sym_matching.specs.NewVariables.{HasRoom}
 use Rattle.sym_matching.specs.Rooms.{IsSmall, IsWithinSizes, fields_of_all}
 use Rattle.sym_matching.specs.Variables.{with_atoms, with_binding, with_exps, with_facts, with_heap, with_variable}
-use Rattle.sym_matching.proofs.KeptLaws.{All-push_one}
 use Rattle.sym_matching.proofs.RoomLaws.{few_fields, room_below}
 use Rattle.sym_renaming.specs.Sizes.{AreSmall, IsSmallBinding}
 
@@ -24,7 +23,7 @@ abbrev IsLow : ℕ → Type 0
 IsLow x = x < 2147483648
 
 small-variable : (names : List ℕ) (e : Exp) → AreSmall names → IsSmall e → AreSmall (with_variable names e)
-small-variable names (Var x) h small = All-push_one IsLow names x h small
+small-variable names (Var x) h small = All-push IsLow names x h small
 small-variable names (Const n) h small = h
 
 pub small-exps : (es : List Exp) (names : List ℕ) → AreSmall names → All IsSmall es → AreSmall (with_exps names es)
@@ -60,7 +59,7 @@ small-binding : (binding : List (ℕ × Exp)) (names : List ℕ) → AreSmall na
 small-binding [] names h each = h
 small-binding (bound ∷ binding) names h each =
     let here : IsLowBound bound = All-head IsLowBound bound binding each in
-    small-binding binding (with_variable (names ++ bound.0 ∷ []) bound.1) (small-variable (names ++ bound.0 ∷ []) bound.1 (All-push_one IsLow names bound.0 h here.0) here.1) (All-tail IsLowBound bound binding each)
+    small-binding binding (with_variable (names ++ bound.0 ∷ []) bound.1) (small-variable (names ++ bound.0 ∷ []) bound.1 (All-push IsLow names bound.0 h here.0) here.1) (All-tail IsLowBound bound binding each)
 
 small-arguments : (a b : SymHeap) (bound : List (ℕ × Exp)) (flexible avoid : List ℕ) → IsWithinSizes a → IsWithinSizes b → IsSmallBinding bound → AreSmall flexible → AreSmall avoid →
     AreSmall (argument_variables a b bound flexible ++ avoid)

@@ -2,7 +2,6 @@
 ghost use Rattle.std.specs.Prelude.{◌≡◌, ◌&&◌, ◌+◌, ◌<◌, IfOk, IfSome, length, position, slice_get};
 ghost use Rattle.std.specs.Str.{bytes_eq};
 ghost use Rattle.sym_laws.specs.Expressions.{same_exp};
-ghost use Rattle.sym_canon.specs.Placing.{is_cell_at as is_cell_at_of};
 ghost use Rattle.sym_matching.specs.NewVariables.{HasRoom};
 ghost use Rattle.sym_matching.specs.Steps.{whole as whole_of};
 ghost use Rattle.sym_matching.specs.WantedCells.{is_to_unfold as is_to_unfold_of, take_cell as take_cell_of, take_field as take_field_of, take_fields as take_fields_of, take_unfolded as take_unfolded_of};
@@ -53,16 +52,6 @@ fn take_fields(
         current = take_field(setting, number, wants[place], haves[place], current)?;
     }
     Ok(current)
-}
-
-/// Whether the atom is a cell at the expression.
-pub fn is_cell_at(e: Exp, atom: &Atom) -> bool
-    ensures { result ≡ is_cell_at_of e atom.now }
-{
-    match atom {
-        Atom::Points { at, .. } => is_same_exp(e, *at),
-        _ => false,
-    }
 }
 
 /// Whether a source and a kind are these.
@@ -149,14 +138,6 @@ pub fn take_unfolded(
         }
         _ => Ok(Turned::Stuck(number)),
     }
-}
-
-/// The place of the first cell at the expression.
-pub fn place_of_cell(e: Exp, atoms: &[Atom]) -> Option<usize>
-    ensures first { result ≡ position (is_cell_at_of e) atoms.now }
-    ensures within { IfSome result (λ place. place < length atoms.now) }
-{
-    atoms.iter().position(|atom| is_cell_at(e, atom))
 }
 
 /// The place of the first segment that may be unfolded.

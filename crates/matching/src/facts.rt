@@ -7,13 +7,13 @@ ghost use Rattle.sym_matching.specs.WantedFacts.{miss_disequality as miss_disequ
 ghost use Rattle.matching_steps.specs.InSetting.{rules_in};
 
 use matching_steps::missing::miss_fact;
-use matching_steps::reading::{Setting, is_logical, solved_exp};
+use matching_steps::reading::{Setting, is_logical};
 use matching_steps::steps::{bind, is_unbound_in, read_in, whole};
 use shape_data::symbolic::{Exp, Fact};
 use std::alloc::{AllocError, Global};
 use sym_matching::{Matching, Mode, Owed, Turned};
 use sym_parts::is_same_exp;
-use sym_pure::differs;
+use sym_pure::{differs, read_through};
 
 /// Whether the two are known to differ in the whole heap with the missing part.
 fn are_apart(
@@ -81,7 +81,7 @@ fn want_owed(
 ) -> Result<Turned, AllocError>
     ensures { IfOk result (λ turned. turned ≡ want_owed_of (rules_in setting.now) owed m) }
 {
-    let have = solved_exp(setting.facts, owed.have);
+    let have = read_through(setting.facts, owed.have);
     if is_unbound_in(setting, &m, owed.want) {
         return Ok(Turned::On(bind(m, owed.want, have)?));
     }

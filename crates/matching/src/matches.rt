@@ -1,7 +1,5 @@
 //! The match as a whole.
 ghost use Rattle.std.specs.Prelude.{◌≡◌, ◌++◌, ◌+◌, ◌<◌, ◌≤◌, IfOk, length};
-ghost use Rattle.std.specs.List.{list_any};
-ghost use Rattle.sym_laws.specs.Junks.{is_junk as is_junk_of};
 ghost use Rattle.sym_matching.specs.Matches.{answer_abd, argument_variables as argument_variables_of, matching, rules_of, start_of, want_heap as want_heap_of, want_spatial as want_spatial_of};
 ghost use Rattle.sym_matching.specs.NewVariables.{HasRoom};
 ghost use Rattle.sym_matching.specs.Rooms.{IsWithinSizes, fields_of_all};
@@ -17,10 +15,11 @@ use crate::facts::{want_all_owed, want_facts};
 use matching_steps::reading::Setting;
 use matching_steps::steps::all_facts;
 use matching_steps::variables::{add_binding, add_heap};
-use shape_data::symbolic::{Atom, Exp, SymHeap};
+use shape_data::symbolic::{Exp, SymHeap};
 use shape_data::{Row, copy_of};
 use std::alloc::{AllocError, Global};
 use sym_matching::{Abd, Matching, Mode, Turned};
+use sym_pure::has_junk;
 
 /// The wanted atoms of a heap. There is room for their new variables.
 fn want_spatial(
@@ -106,23 +105,6 @@ pub fn start(
         used: Row::from_vec(used),
         next,
     })
-}
-
-/// Whether the atom is Junk.
-fn is_junk(atom: &Atom) -> bool
-    ensures { result ≡ is_junk_of atom.now }
-{
-    match atom {
-        Atom::Junk => true,
-        _ => false,
-    }
-}
-
-/// Whether the heap has Junk.
-pub fn has_junk(atoms: &[Atom]) -> bool
-    ensures { result ≡ list_any is_junk_of atoms.now }
-{
-    atoms.iter().any(|atom| is_junk(atom))
 }
 
 /// What a match that went to its end answers.

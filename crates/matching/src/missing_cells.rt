@@ -1,31 +1,20 @@
 //! The rules for a wanted cell in abduction: the ends of a segment are made to differ (rule 3), or the cell is missing (rule 4).
 ghost use Rattle.std.specs.Prelude.{◌≡◌, ◌+◌, ◌<◌, ◌≤◌, IfOk, IfSome, length, map, position, slice_get};
 ghost use Rattle.std.specs.List.{list_all, list_any};
-ghost use Rattle.sym_canon.specs.Placing.{is_segment_from as is_segment_from_of};
 ghost use Rattle.sym_matching.specs.NewVariables.{HasRoom};
 ghost use Rattle.sym_matching.specs.Reading.{is_logical as is_logical_of, read as read_of};
 ghost use Rattle.sym_matching.specs.WantedCells.{is_atom_from as is_atom_from_of, is_to_part as is_to_part_of, miss_cell as miss_cell_of, miss_named as miss_named_of, miss_read as miss_read_of, name_field as name_field_of, name_fields as name_fields_of, part_at as part_at_of, place_to_part as place_to_part_of, take_parted as take_parted_of};
 ghost use Rattle.matching_steps.specs.InSetting.{rules_in};
 
-use crate::cells::{is_cell_at, is_from, take_unfolded};
+use crate::cells::{is_from, take_unfolded};
 use matching_steps::missing::{miss_atom, miss_fact};
 use matching_steps::reading::{Setting, is_logical, is_logical_variable};
 use matching_steps::steps::{bind_new, is_unbound_in, read_in};
 use shape_data::symbolic::{Atom, Exp, Fact};
 use shape_data::{Name, Row, copy_of};
 use std::alloc::{AllocError, Global};
+use sym_canon::{is_cell_at, is_segment_from};
 use sym_matching::{Matching, Mode, Turned};
-use sym_parts::is_same_exp;
-
-/// Whether the atom is a segment from the expression.
-fn is_segment_from(e: Exp, atom: &Atom) -> bool
-    ensures { result ≡ is_segment_from_of e atom.now }
-{
-    match atom {
-        Atom::Seg { from, .. } => is_same_exp(e, *from),
-        _ => false,
-    }
-}
 
 /// Whether the atom is the cell at the expression, or a segment from it.
 fn is_atom_from(e: Exp, atom: &Atom) -> bool

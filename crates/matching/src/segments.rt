@@ -9,7 +9,7 @@ ghost use Rattle.matching_steps.specs.InSetting.{rules_in};
 use crate::cells::is_from;
 use matching_steps::missing::miss_atom;
 use matching_steps::reading::{Setting, is_logical, is_logical_variable};
-use matching_steps::steps::{bind, bind_new, is_unbound_in, link_of, read_in};
+use matching_steps::steps::{bind, bind_new, exp_at, is_unbound_in, read_in};
 use shape_data::symbolic::{Atom, Exp};
 use shape_data::{Name, copy_of};
 use std::alloc::{AllocError, Global};
@@ -50,7 +50,7 @@ fn next_of(link: u32, atom: &Atom) -> Exp
     ensures { result ≡ next_of_atom link atom.now }
 {
     match atom {
-        Atom::Points { fields, .. } => link_of(fields.as_slice(), link),
+        Atom::Points { fields, .. } => exp_at(fields.as_slice(), link),
         Atom::Seg { to, .. } => *to,
         Atom::Junk => Exp::Const(0),
     }

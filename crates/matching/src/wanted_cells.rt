@@ -5,12 +5,13 @@ ghost use Rattle.sym_matching.specs.Steps.{whole as whole_of};
 ghost use Rattle.sym_matching.specs.WantedCells.{is_to_unfold as is_to_unfold_of, unfold_place as unfold_place_of, want_cell as want_cell_of};
 ghost use Rattle.matching_steps.specs.InSetting.{rules_in};
 
-use crate::cells::{place_of_cell, place_of_segment, take_cell, take_unfolded};
+use crate::cells::{place_of_segment, take_cell, take_unfolded};
 use crate::missing_cells::want_missing;
 use matching_steps::reading::Setting;
 use shape_data::Name;
 use shape_data::symbolic::Exp;
 use std::alloc::{AllocError, Global};
+use sym_canon::place_of_cell;
 use sym_matching::{Matching, Turned};
 
 /// A wanted cell, where no cell is at the expression: one out of a segment, or one that is missing.

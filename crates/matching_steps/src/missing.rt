@@ -12,9 +12,9 @@ use std::alloc::{AllocError, Global};
 use sym_matching::{Matching, Turned};
 use sym_pure::{Normal, normal};
 
-/// Whether the heap has no normal form.
+/// Whether the heap has no normal form: then nothing meets it. The only error is want of memory.
 #[tactic(auto, unfolding(sym_matching::specs::Steps::contradicts))]
-fn contradicts(alloc: Global, heap: SymHeap) -> Result<bool, AllocError>
+pub fn contradicts(alloc: Global, heap: SymHeap) -> Result<bool, AllocError>
     ensures { IfOk result (λ none. none ≡ contradicts_of heap) }
 {
     let state = SymState {

@@ -1,10 +1,12 @@
 //! Reading the expressions of the wanted heap: through the binding, and through the heap's equations.
 ghost use Rattle.std.specs.Prelude.{◌≡◌};
-ghost use Rattle.sym_matching.specs.Reading.{is_logical as is_logical_of, is_logical_variable as is_logical_variable_of, is_unbound as is_unbound_of, read as read_of, solved as solved_of, solved_exp as solved_exp_of};
+ghost use Rattle.sym_matching.specs.Reading.{is_logical as is_logical_of, is_logical_variable as is_logical_variable_of, is_unbound as is_unbound_of, read as read_of};
 
 use shape_data::symbolic::{Exp, FIRST_EXISTENTIAL, Fact};
 use sym_matching::Mode;
-use sym_renaming::reading::{bound_exp, bound_to, is_in};
+use sym_parts::is_one_of;
+use sym_pure::read_through;
+use sym_renaming::reading::{bound_exp, bound_to};
 
 /// What stays the same through a match: whether parts may be missing, the heap's facts, and the flexible variables.
 #[derive(Clone, Copy)]
@@ -14,35 +16,11 @@ pub struct Setting<'a> {
     pub flexible: &'a [u32],
 }
 
-/// What the facts' equations solve a variable for.
-fn solved(facts: &[Fact], x: u32) -> Exp
-    ensures { result ≡ solved_of facts.now x }
-{
-    for fact in facts {
-        if let Fact::Eq(Exp::Var(y), right) = *fact {
-            if y == x {
-                return right;
-            }
-        }
-    }
-    Exp::Var(x)
-}
-
-/// An expression, read through the facts' equations.
-pub fn solved_exp(facts: &[Fact], e: Exp) -> Exp
-    ensures { result ≡ solved_exp_of facts.now e }
-{
-    match e {
-        Exp::Var(x) => solved(facts, x),
-        Exp::Const(_) => e,
-    }
-}
-
 /// An expression of the wanted heap, read through the binding and the heap's equations.
 pub fn read(facts: &[Fact], binding: &[(u32, Exp)], e: Exp) -> Exp
     ensures { result ≡ read_of facts.now binding.now e }
 {
-    solved_exp(facts, bound_exp(binding, e))
+    read_through(facts, bound_exp(binding, e))
 }
 
 /// Whether the expression is a flexible variable that is not bound yet.
@@ -50,7 +28,7 @@ pub fn is_unbound(flexible: &[u32], binding: &[(u32, Exp)], e: Exp) -> bool
     ensures { result ≡ is_unbound_of flexible.now binding.now e }
 {
     match e {
-        Exp::Var(x) => is_in(flexible, x) && bound_to(binding, x).is_none(),
+        Exp::Var(x) => is_one_of(flexible, x) && bound_to(binding, x).is_none(),
         Exp::Const(_) => false,
     }
 }

@@ -52,11 +52,11 @@ pub fn owe(m: Matching, number: u32, want: Exp, have: Exp) -> Result<Matching, A
     Ok(m)
 }
 
-/// The field that links, or 0 where there is none.
-pub fn link_of(fields: &[Exp], link: u32) -> Exp
-    ensures { result ≡ slice_index_or fields.now link (Const (pos 0)) }
+/// The expression at a place (what a slot holds, or a cell's field), or 0 where there is none.
+pub fn exp_at(list: &[Exp], place: u32) -> Exp
+    ensures { result ≡ slice_index_or list.now place (Const (pos 0)) }
 {
-    fields.get(link as usize).copied().unwrap_or(Exp::Const(0))
+    list.get(place as usize).copied().unwrap_or(Exp::Const(0))
 }
 
 /// Puts a segment in at a place, from the link of a cell with these fields, and takes that cell.
@@ -73,7 +73,7 @@ pub fn put_unfolded(
     ensures { IfOk result (λ n. n ≡ record m { left = insert m.left place (Seg kind link (slice_index_or fields link (Const (pos 0))) to); gone = m.gone ++ Points from kind fields ∷ [] }) }
 {
     let mut m = m;
-    let next = link_of(fields.as_slice(), link);
+    let next = exp_at(fields.as_slice(), link);
     let rest = Atom::Seg {
         kind: copy_of(&kind)?,
         link,
@@ -102,8 +102,8 @@ pub fn all_facts(
     Ok(Row::from_vec(all))
 }
 
-/// Puts copies of the atoms behind others.
-fn add_atoms(all: &mut Row<Atom>, atoms: &[Atom]) -> Result<(), AllocError>
+/// Puts copies of the atoms behind others. The only error is want of memory.
+pub fn add_atoms(all: &mut Row<Atom>, atoms: &[Atom]) -> Result<(), AllocError>
     ensures { IfOk result (λ _. all.new ≡ all.old ++ atoms.now) }
 {
     for atom in atoms {

@@ -5,13 +5,13 @@ ghost use Rattle.sym_text.specs.Shape.{IsShapedPost, IsShapedSpec};
 ghost use Rattle.report_text.specs.Parts.{IsPrintable};
 ghost use Rattle.report_text.specs.Report.{block_text, has_result, head_line, is_junk, leak_text, post_line, spec_lines, summary_lines};
 
-use crate::reasons::{push_decimal, push_none};
+use crate::reasons::push_none;
 use shape_data::answer::ProcSummary;
 use shape_data::name::Name;
 use shape_data::program::{Proc, StructDef, Ty};
 use shape_data::symbolic::{Atom, Post, Spec, SymHeap};
 use std::alloc::{AllocError, Global};
-use sym_text::{push_heap, push_post};
+use sym_text::{push_decimal, push_heap, push_post};
 
 /// Whether a procedure of this type has a result.
 fn has_result(ty: &Ty) -> bool

@@ -12,4 +12,5 @@ pub mod totals;
 pub use blocks::{block, push_block};
 pub use reports::push_report;
 pub use summed::HasSummary;
+pub use sym_text::push_decimal;
 pub use totals::{count_none, push_total, total};

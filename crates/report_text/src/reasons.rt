@@ -3,16 +3,9 @@ ghost use Rattle.std.specs.Prelude.{◌≡◌, ◌+◌, ◌++◌, codes, OnOk};
 ghost use Rattle.std.specs.Fmt.{decimal};
 ghost use Rattle.report_text.specs.Report.{budget_text, fault_text, line_of, reason_text};
 
-use itoa::Buffer;
 use shape_data::answer::{Budget, Fault, Reason};
 use std::alloc::AllocError;
-
-/// Appends a number in decimal.
-pub fn push_decimal(text: &mut Vec<u8>, number: u64) -> Result<(), AllocError>
-    ensures { OnOk result (text.new.items ≡ text.old.items ++ decimal number) }
-{
-    text.extend_from_slice(Buffer::new().format(number).as_bytes())
-}
+use sym_text::push_decimal;
 
 /// The word of a fault.
 fn fault_word(fault: Fault) -> &'static [u8]

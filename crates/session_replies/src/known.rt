@@ -82,7 +82,8 @@ pub fn entries<R: Wait, G: Gate, A: Ledger, B: Ledger>(
     requires loaded { All IsStoredEntry loaded.now }
     ensures value { IfOk result (λ told. told.items ≡ program_entries loaded.now program.now.value) }
     ensures summaries { IfOk result (λ told. map summary_told told.items ≡ program_summaries loaded.now program.now.value) }
-    ensures reportable { IfOk result (λ told. AreReportable program.now.value.structs program.now.value.procs (map summary_told told.items)) }
+    ensures reportable { IfOk result (λ told. AreReportable program.now.value.structs program.now.value.procs
+        (map summary_told told.items)) }
     ensures worked { OnOk result (count_reached program.now.value aim.All ≤ hands.new.seen) }
     ensures rises { hands.old.seen ≤ hands.new.seen }
 {

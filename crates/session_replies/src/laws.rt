@@ -1,5 +1,16 @@
 //! Laws that show the definition of replies usable: a command has an answer, and has it once; and what is reported is valid.
-ghost use Rattle.session_replies.specs.Laws.{AnswersKeepLimits, AnswersKeepSetting, HonestAnswers, OneAnswer, OneFeed, OneSaving, ReportedIsValid, SomeAnswer, SomeFeed, SomeSaving};
+ghost use Rattle.session_replies.specs.Laws.{
+  AnswersKeepLimits,
+  AnswersKeepSetting,
+  HonestAnswers,
+  OneAnswer,
+  OneFeed,
+  OneSaving,
+  ReportedIsValid,
+  SomeAnswer,
+  SomeFeed,
+  SomeSaving,
+};
 
 use bottom_up::laws::{each_is_reported, honest_is_from_nothing};
 use project_form::laws::{

@@ -58,7 +58,11 @@ impl Model for Session {
 
     ghost Value = { Present };
 
-    ghost view = { λ session. record { files = sources_of session.project; missing = session.missing; setting = record { loaded = session.loaded.value; saves = session.saves } } };
+    ghost view = { λ session. record {
+      files = sources_of session.project;
+      missing = session.missing;
+      setting = record { loaded = session.loaded.value; saves = session.saves };
+    } };
 
     ghost invariant = { λ session. AreFiles (sources_of session.project) };
 }
@@ -240,8 +244,10 @@ impl Session {
         hands: &mut Hands<B>,
     ) -> Result<Vec<u8>, AllocError>
         ensures same { self.new ≡ self.old }
-        ensures text { IfOk result (λ text. (answer : Result Program Refused) × Reads self.old.files answer × (text.items ≡ text_of (program_total self.old.setting.loaded) answer)) }
-        ensures worked { OnOk result ((program : Program) → Reads self.old.files (Ok program) → count_reached program aim.All ≤ hands.new.seen) }
+        ensures text { IfOk result (λ text. (answer : Result Program Refused) × Reads self.old.files answer
+            × (text.items ≡ text_of (program_total self.old.setting.loaded) answer)) }
+        ensures worked { OnOk result ((program : Program) → Reads self.old.files (Ok program)
+            → count_reached program aim.All ≤ hands.new.seen) }
         ensures rises { hands.old.seen ≤ hands.new.seen }
     {
         one_answer();

@@ -5,7 +5,19 @@ ghost use Rattle.shape_data.specs.Sizes.{HasProgramSizes};
 ghost use Rattle.shape_data.specs.WellFormed.{IsProgram};
 ghost use Rattle.session_replies.specs.Entries.{program_entries};
 ghost use Rattle.session_replies.specs.Parts.{bytes_saved};
-ghost use Rattle.session_replies.specs.Texts.{block_named, drop_line, error_line, is_named, ok_line, program_missing, program_report, program_stored_line, program_total, refused_line, stored_program};
+ghost use Rattle.session_replies.specs.Texts.{
+  block_named,
+  drop_line,
+  error_line,
+  is_named,
+  ok_line,
+  program_missing,
+  program_report,
+  program_stored_line,
+  program_total,
+  refused_line,
+  stored_program,
+};
 ghost use Rattle.session_replies.specs.Work.{count_reached};
 ghost use Rattle.solve_job.specs.Solves.{IsStoredEntry};
 ghost use Rattle.summary_book.specs.declared.aims.Aim.TheVariants as aim;
@@ -15,9 +27,8 @@ use crate::reply::Reply;
 use io_ports::{Gate, MOST_HELD};
 use loaded_answers::LoadedAnswers;
 use project_form::Refused;
-use report_text::reasons::push_decimal;
 use report_text::totals::push_total;
-use report_text::{block, count_none, push_report};
+use report_text::{block, count_none, push_decimal, push_report};
 use shape_data::Name;
 use shape_data::program::Program;
 use solve_job::SolveJob;
@@ -105,7 +116,8 @@ pub fn block_text<R: Wait, G: Gate, A: Ledger, B: Ledger>(
     requires sizes { HasProgramSizes program.now.value }
     requires loaded { All IsStoredEntry loaded.now }
     ensures text { IfOk result (λ text. text.items ≡ block_named loaded.now name.now program.now.value) }
-    ensures worked { OnOk result (is_some (position (is_named name.now) program.now.value.procs) ≡ true → count_reached program.now.value (aim.One name.now) ≤ hands.new.seen) }
+    ensures worked { OnOk result (is_some (position (is_named name.now) program.now.value.procs) ≡ true
+        → count_reached program.now.value (aim.One name.now) ≤ hands.new.seen) }
     ensures rises { hands.old.seen ≤ hands.new.seen }
 {
     let Some(place) = place_of(program, name) else {

@@ -8,7 +8,7 @@ mod heaps;
 pub mod names;
 pub mod well_formed;
 
-pub use flows::struct_of;
+pub use flows::{are_params, are_structs, struct_of};
 pub use shape_types::exact::{Exact, copy_of, is_same};
 pub use shape_types::name::Name;
 pub use shape_types::row::Row;

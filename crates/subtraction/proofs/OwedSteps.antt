@@ -4,6 +4,7 @@ use Rattle.shape_data.specs.declared.symbolic.Exp.{Exp}
 use Rattle.shape_data.specs.declared.symbolic.Exp.TheVariants.{Var, Const}
 use Rattle.shape_data.specs.declared.symbolic.Fact.TheVariants.{Eq}
 use Rattle.sym_laws.specs.Expressions.{same_exp}
+use Rattle.sym_pure.specs.Equations.{read_through}
 use Rattle.sym_pure.specs.Sources.{differs}
 use Rattle.sym_matching.specs.declared.matching.Matching.{Matching}
 use Rattle.sym_matching.specs.declared.matching.Mode.{Mode}
@@ -12,7 +13,7 @@ use Rattle.sym_matching.specs.declared.matching.Owed.{Owed}
 use Rattle.sym_matching.specs.declared.matching.Turned.{Turned}
 use Rattle.sym_matching.specs.declared.matching.Turned.TheVariants.{On, Stuck}
 use Rattle.sym_matching.specs.NewVariables.{HasRoom}
-use Rattle.sym_matching.specs.Reading.{is_logical, is_unbound, read, solved_exp}
+use Rattle.sym_matching.specs.Reading.{is_logical, is_unbound, read}
 use Rattle.sym_matching.specs.Steps.{Rules, and_then, bind, miss_fact, whole, with_missing_fact}
 use Rattle.sym_matching.specs.WantedFacts.{miss_equation, want_all_owed, want_owed, want_same}
 use Rattle.sym_matching.proofs.RoomSteps.{on_then}
@@ -53,10 +54,10 @@ module _ (rules : Rules) where
     where
       by_test : (b : Bool) → is_unbound rules.flexible m.binding owed.want ≡ b → Same m k
       by_test true e =
-          let is : On (bind m owed.want (solved_exp rules.facts owed.have)) ≡ On k = rw e at h in
-          let same : k ≡ bind m owed.want (solved_exp rules.facts owed.have) = cc in
-          same-bound m k owed.want (solved_exp rules.facts owed.have) same
-      by_test false e = same-same owed.number (read rules.facts m.binding owed.want) (solved_exp rules.facts owed.have) m k (rw e at h)
+          let is : On (bind m owed.want (read_through rules.facts owed.have)) ≡ On k = rw e at h in
+          let same : k ≡ bind m owed.want (read_through rules.facts owed.have) = cc in
+          same-bound m k owed.want (read_through rules.facts owed.have) same
+      by_test false e = same-same owed.number (read rules.facts m.binding owed.want) (read_through rules.facts owed.have) m k (rw e at h)
 
   same-all : (owed : List Owed) (m n : Matching) → want_all_owed rules owed m ≡ On n → Same m n
   same-all [] m n h = let same : n ≡ m = cc in Same-refl m n same

@@ -1,11 +1,8 @@
 -- What states and posts within the sizes have, and that well-formed ones are so.
 use Rattle.std.specs.Prelude.{◌≡◌, ℕ, ◌+◌, ◌<◌, ◌≤◌, List, [], length}
 use Rattle.std.proofs.Common.{refl, ap, arith}
-use Rattle.std.proofs.lemmas.Bool.{ltb-true}
 use Rattle.std.proofs.lemmas.List.{length-map}
 use Rattle.std.proofs.lemmas.List.Elements.{All-weaker}
-use Rattle.shape_data.specs.declared.symbolic.Exp.{Exp}
-use Rattle.shape_data.specs.declared.symbolic.Exp.TheVariants.{Var, Const}
 use Rattle.shape_data.specs.declared.symbolic.SymState.{SymState}
 use Rattle.shape_data.specs.WellFormed.{IsExp, widest}
 use Rattle.sym_laws.specs.Mapped.{renamed}
@@ -15,7 +12,7 @@ use Rattle.sym_matching.specs.NewVariables.{HasRoom, number_apart}
 use Rattle.sym_matching.specs.Rooms.{IsSmall, IsWithinSizes, fields_of_all}
 use Rattle.sym_matching.specs.Variables.{with_state}
 use Rattle.sym_matching.proofs.RoomLaws.{few_fields, room_of_few}
-use Rattle.sym_matching.proofs.SizeLaws.{well_formed_is_within_sizes}
+use Rattle.sym_matching.proofs.SizeLaws.{small, well_formed_is_within_sizes}
 use Rattle.sym_renaming.proofs.SizeLemmas.{few_state_variables, mapped_is_within_sizes, small_renamed, state_room}
 use Rattle.matching.proofs.MatchSteps.{names_within}
 use Rattle.subtraction.specs.Conditions.{IsStateWithinSizes, WellFormedPostIsWithinSizes, WellFormedStateIsWithinSizes}
@@ -64,14 +61,10 @@ covering-names a b apart one other is =
 
 -- ---- well-formed states and posts
 
-small_exp : (params : ℕ) (e : Exp) → IsExp widest params e → IsSmall e
-small_exp params (Var x) h = ltb-true x 2147483648 h
-small_exp params (Const n) h = tt
-
 pub state_within : WellFormedStateIsWithinSizes
 state_within structs params slots state are few is =
     let same : length state.locals ≡ slots = is.one_each in
-    record { locals = All-weaker (IsExp widest params) IsSmall (small_exp params) state.locals is.locals; few = omega arith; heap = well_formed_is_within_sizes structs params state.heap are is.heap }
+    record { locals = All-weaker (IsExp widest params) IsSmall (small params) state.locals is.locals; few = omega arith; heap = well_formed_is_within_sizes structs params state.heap are is.heap }
 
 pub post_within : WellFormedPostIsWithinSizes
-post_within structs params post are is = record { ret = small_exp params post.ret is.ret; heap = well_formed_is_within_sizes structs params post.heap are is.heap }
+post_within structs params post are is = record { ret = small params post.ret is.ret; heap = well_formed_is_within_sizes structs params post.heap are is.heap }

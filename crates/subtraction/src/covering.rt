@@ -14,14 +14,15 @@ ghost use Rattle.sym_matching.specs.Answers.{names_of_all};
 ghost use Rattle.subtraction.specs.Conditions.{IsPostWithinSizes, IsStateWithinSizes};
 
 use matching::facts::want_all_owed;
-use matching::matches::{has_junk, start, want_heap};
+use matching::matches::{start, want_heap};
 use matching_steps::reading::Setting;
 use matching_steps::variables::add_state;
+use shape_data::is_same;
 use shape_data::symbolic::{Exp, Post, SymHeap, SymState};
-use shape_data::{Row, copy_of, is_same};
 use std::alloc::{AllocError, Global};
-use sym_canon::{canon_post, canon_state};
+use sym_canon::{as_state, canon_post, canon_state};
 use sym_matching::{Matching, Mode, Owed, Turned};
+use sym_pure::has_junk;
 use sym_renaming::{existentials, state_apart};
 
 /// The variables of a state.
@@ -153,16 +154,6 @@ pub fn covers_state(alloc: Global, a: &SymState, b: &SymState) -> Result<bool, A
         return Ok(true);
     }
     matches_state(alloc, a, b)
-}
-
-/// A post as a state with one local, the result.
-fn as_state(alloc: Global, post: &Post) -> Result<SymState, AllocError>
-    ensures { IfOk result (λ state. state ≡ as_state_of post.now) }
-{
-    Ok(SymState {
-        locals: Row::from_vec(vec![in alloc; post.ret]?),
-        heap: copy_of(&post.heap)?,
-    })
 }
 
 /// Whether the posts, as states, match with nothing left over.

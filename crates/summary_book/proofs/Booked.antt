@@ -1,5 +1,5 @@
 -- A book after each of its events.
-use Rattle.std.proofs.Common.{◌≡◌, ℕ, zero, suc, ◌+◌, ◌^◌, ◌<◌, ◌≤◌, All, Bool, true, false, cond, is_some, replicate, List, [], ◌∷◌, ◌++◌, length, slice_get, Some, None, Option, refl, sym, ap, ◌∙◌, subst, arith}
+use Rattle.std.proofs.Common.{◌≡◌, ℕ, ◌+◌, ◌^◌, ◌<◌, ◌≤◌, All, Bool, true, false, cond, is_some, List, [], ◌∷◌, ◌++◌, length, slice_get, Some, None, Option, refl, sym, ap, ◌∙◌, subst, arith}
 use Rattle.std.specs.Global.{Vec}
 use Rattle.std.specs.List.{AllZip, count_by, filter, range_with_len, remove}
 use Rattle.std.proofs.lemmas.List.{length-map}
@@ -230,8 +230,3 @@ met_other world program revision other is =
     by_test : (b : Bool) → program_test.0 program world.program ≡ b → b ≡ false
     by_test false e = refl
     by_test true e = absurd (other ((program_test.1 program world.program).0 e))
-
-pub all_unmarked : (count place : ℕ) → marked (replicate count false) place ≡ false
-all_unmarked zero place = refl
-all_unmarked (suc count) zero = refl
-all_unmarked (suc count) (suc place) = all_unmarked count place

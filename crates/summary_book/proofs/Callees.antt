@@ -10,6 +10,7 @@ use Rattle.shape_data.specs.declared.program.Flow.{Flow}
 use Rattle.shape_data.specs.declared.program.Proc.{Proc}
 use Rattle.shape_data.specs.declared.program.Program.{Program}
 use Rattle.call_components.specs.Reaching.{marked}
+use Rattle.shape_laws.proofs.StepsStacks.{within-some}
 use Rattle.component_keys.specs.Components.{same_names}
 use Rattle.component_keys.specs.Keys.{Component, Outer, flows_of, names_of, specs_in, program_components}
 use Rattle.component_keys.proofs.Basics.{both_true, not_none, some_same, mapped_some, at_map}
@@ -25,7 +26,6 @@ use Rattle.claim_laws.proofs.Steps.{settled_slot}
 use Rattle.summary_book.specs.declared.rows.SlotRow.{SlotRow}
 use Rattle.summary_book.specs.Rows.{AreSlots, IsSlot, known_by, known_row, row_answer}
 use Rattle.summary_book.proofs.Here.{settled_stands}
-use Rattle.summary_book.proofs.Lists.{there_is}
 
 -- a settled component's row has its slot's answer
 pub row_of : (world : World) (log : List Told) (slots : List (Option SlotRow)) → AreSlots log world.slots world.program slots → (place : ℕ) (slot : Slot) → settled_at world place ≡ Some slot →
@@ -47,7 +47,7 @@ abbrev pub AreProcs : Program → List OuterRow → Type 0
 AreProcs program rows = All (λ (one : OuterRow). one.number < length program.procs) rows
 
 flow_there : (program : Program) (number : ℕ) → number < length program.procs → (flow : Flow) × (slice_get (flows_of program) number ≡ Some flow)
-flow_there program number lt = there_is (flows_of program) number (subst (λ n. number < n) (sym (length-map program.procs (λ (proc : Proc). proc.flow))) lt)
+flow_there program number lt = within-some (flows_of program) number (subst (λ n. number < n) (sym (length-map program.procs (λ (proc : Proc). proc.flow))) lt)
 
 -- the value of a row
 pub outer_there : (program : Program) (row : OuterRow) → row.number < length program.procs → (flow : Flow) × (slice_get (flows_of program) row.number ≡ Some flow) × (outer_value (flows_of program) row ≡ Some (record { name = flow.name; params = flow.params; component = row.component }))

@@ -9,6 +9,7 @@ use Rattle.std.proofs.lemmas.Option.{get_or_from_slice_get, slice_get_within}
 use Rattle.shape_data.specs.declared.program.Proc.{Proc}
 use Rattle.shape_data.specs.declared.program.Program.{Program}
 use Rattle.call_components.specs.Reaching.{AreDefined, rows}
+use Rattle.shape_laws.proofs.StepsStacks.{within-some}
 use Rattle.component_keys.specs.Components.{calls_of, components, holds, reached}
 use Rattle.component_keys.specs.Keys.{Component, Outer, calls_in, component_of, flows_of, names_of, program_components}
 use Rattle.component_keys.proofs.Basics.{at_map, mapped_some}
@@ -28,7 +29,6 @@ use Rattle.summary_book.specs.Aims.{aimed, called_components, component_calls, c
 use Rattle.summary_book.specs.Rows.{AreParts}
 use Rattle.summary_book.proofs.Callees.{AreProcs, outer_there}
 use Rattle.summary_book.proofs.Events.{not_both}
-use Rattle.summary_book.proofs.Lists.{there_is}
 
 -- ---- how many there are
 
@@ -101,7 +101,7 @@ calls_length program = length-map (program_components program) called_components
 
 -- whoever is called is a component
 pub calls_defined : (program : Program) → AreDefined (component_calls program)
-calls_defined program number callee h = ⊎_elim (λ lt. let there = there_is (program_components program) number lt in by_row there.0 there.1) (λ le. none le) (cases_lt number (length (program_components program)))
+calls_defined program number callee h = ⊎_elim (λ lt. let there = within-some (program_components program) number lt in by_row there.0 there.1) (λ le. none le) (cases_lt number (length (program_components program)))
   where
     none : length (program_components program) ≤ number → callee < length (component_calls program)
     none le =

@@ -9,6 +9,7 @@ use Rattle.component_keys.specs.Keys.{names_of, program_components}
 use Rattle.component_keys.specs.Tests.{key_test}
 use Rattle.component_keys.proofs.Basics.{both_true, some_same}
 use Rattle.component_keys.proofs.Ordered.{some_passes}
+use Rattle.key_laws.proofs.Elements.{zipped_left}
 use Rattle.claim_core.specs.Views.{Claimed}
 use Rattle.claim_core.specs.declared.event.Event.{Event as Told}
 use Rattle.claim_core.specs.Told.{events_of}
@@ -22,7 +23,7 @@ use Rattle.summary_book.specs.Rows.{AreOut, IsOutRow, place_named}
 use Rattle.summary_book.specs.Views.{is_claim, is_own}
 use Rattle.summary_book.proofs.Events.{not_both, own_claim, own_found}
 use Rattle.summary_book.proofs.Here.{named_none}
-use Rattle.summary_book.proofs.Lists.{rising_differ, zipped_back}
+use Rattle.summary_book.proofs.Lists.{rising_differ}
 
 -- the row of a claim and the claim
 pub record IsEnd (log : List Told) (program : Program) (rows : List OutRow) (at : ℕ) (claim : Claimed) : Type 0 where
@@ -42,7 +43,7 @@ end_at log program rows at claim are own place =
     let tests = both_true (there.1.number == claim.number) _ there.3 in
     let number : there.1.number ≡ claim.number = (Decides-eqb there.1.number claim.number).0 tests.0 in
     let key : there.1.key ≡ claim.key = (key_test.1 there.1.key claim.key).0 tests.1 in
-    let back = zipped_back (IsOutRow log program) rows world.out there.0 there.1 are there.2 in
+    let back = zipped_left (IsOutRow log program) rows world.out there.0 there.1 are there.2 in
     let row = place there.0 back.0 back.1 (back.2.number ∙ number) in
     let own_out = own_claim log program rows world.out at row.0 are row.1 in
     let number_is : own_out.0.number ≡ claim.number = sym own_out.2.number ∙ row.2 in

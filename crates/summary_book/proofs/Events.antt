@@ -13,6 +13,7 @@ use Rattle.component_keys.specs.Keys.{Component, names_of, key_over, program_com
 use Rattle.component_keys.specs.Tests.{key_test, program_test}
 use Rattle.component_keys.proofs.Apart.{components_differ, names_same}
 use Rattle.component_keys.proofs.Basics.{at_left, at_end, both_true, found, is_found, not_none, some_same}
+use Rattle.key_laws.proofs.Elements.{zipped_weaker}
 use Rattle.claim_core.specs.declared.event.Event.{Event as Told}
 use Rattle.claim_core.specs.Told.{event_of, events_of}
 use Rattle.claim_laws.specs.Invariant.{IsEarlier, IsWorld}
@@ -31,7 +32,7 @@ use Rattle.summary_book.specs.Moved.{IsMoved, with_slot, with_slot_at}
 use Rattle.summary_book.specs.Places.{answer_at, answer_in, key_at, key_in}
 use Rattle.summary_book.specs.Rows.{AreMarks, AreOut, AreParts, AreSlots, IsOutRow, IsSight, IsSlot, IsSlotAt, is_fit, is_fit_at, place_named}
 use Rattle.summary_book.proofs.Here.{own_place, place_is, some_settled}
-use Rattle.summary_book.proofs.Lists.{rising_differ, without_place, zipped_at_end, zipped_back, zipped_through, zipped_weaker, zipped_without}
+use Rattle.summary_book.proofs.Lists.{rising_differ, without_place, zipped_at_end, zipped_through, zipped_without}
 
 pub not_both : {A : Type 0} {b : Bool} → b ≡ true → b ≡ false → A
 not_both t f = let never : true ≡ false = sym t ∙ f in cc
@@ -65,7 +66,7 @@ out_row_left : (log more : List Told) (program : Program) (row : OutRow) (claim 
 out_row_left log more program row claim is = record { key_is = key_left log more row.claimed claim.key is.key_is; number = is.number; here = is.here; fits = is.fits }
 
 pub out_left : (log more : List Told) (program : Program) (rows : List OutRow) (out : List Out) → AreOut log program rows out → AreOut (log ++ more) program rows out
-out_left log more program rows out are = zipped_weaker (IsOutRow log program) (IsOutRow (log ++ more) program) rows out (out_row_left log more program) are
+out_left log more program rows out are = zipped_weaker (IsOutRow log program) (IsOutRow (log ++ more) program) (out_row_left log more program) rows out are
 
 -- ---- the world and the log
 

@@ -67,25 +67,7 @@ find_none {X = X} p xs fails = by_found (find p xs) refl
     by_found None e = refl
     by_found (Some x) e = let there = found p xs x e in absurd (let f : p x ≡ false = fails there.1.0 x there.1.1 in let t = there.0 in cc)
 
-pub there_is : {X : Type 0} (xs : List X) (i : ℕ) → i < length xs → (x : X) × (slice_get xs i ≡ Some x)
-there_is [] i lt = absurd (omega (arith, lt))
-there_is (first ∷ xs) zero lt = (first, refl)
-there_is (first ∷ xs) (suc i) lt = let less : i < length xs = omega (arith, lt) in there_is xs i less
-
 -- ---- lists side by side
-
-pub zipped_back : {X Y : Type 0} (R : X → Y → Type 0) (xs : List X) (ys : List Y) (i : ℕ) (y : Y) → AllZip R xs ys → slice_get ys i ≡ Some y → (x : X) × (slice_get xs i ≡ Some x) × R x y
-zipped_back R [] [] i y h e = not_none e
-zipped_back R [] (first ∷ ys) i y h e = absurd h
-zipped_back R (x ∷ xs) [] i y h e = absurd h
-zipped_back R (x ∷ xs) (first ∷ ys) zero y h e = (x, refl, subst (R x) (some_same e) h.0)
-zipped_back R (x ∷ xs) (first ∷ ys) (suc i) y h e = zipped_back R xs ys i y h.1 e
-
-pub zipped_length : {X Y : Type 0} (R : X → Y → Type 0) (xs : List X) (ys : List Y) → AllZip R xs ys → length xs ≡ length ys
-zipped_length R [] [] h = refl
-zipped_length R [] (y ∷ ys) h = absurd h
-zipped_length R (x ∷ xs) [] h = absurd h
-zipped_length R (x ∷ xs) (y ∷ ys) h = ap (λ n. suc n) (zipped_length R xs ys h.1)
 
 pub zipped_without : {X Y : Type 0} (R : X → Y → Type 0) (xs : List X) (ys : List Y) (i : ℕ) → AllZip R xs ys → AllZip R (remove xs i) (remove ys i)
 zipped_without R [] [] zero h = tt
@@ -94,12 +76,6 @@ zipped_without R [] (y ∷ ys) i h = absurd h
 zipped_without R (x ∷ xs) [] i h = absurd h
 zipped_without R (x ∷ xs) (y ∷ ys) zero h = h.1
 zipped_without R (x ∷ xs) (y ∷ ys) (suc i) h = (h.0, zipped_without R xs ys i h.1)
-
-pub zipped_weaker : {X Y : Type 0} (R S : X → Y → Type 0) (xs : List X) (ys : List Y) → ((x : X) (y : Y) → R x y → S x y) → AllZip R xs ys → AllZip S xs ys
-zipped_weaker R S [] [] f h = tt
-zipped_weaker R S [] (y ∷ ys) f h = absurd h
-zipped_weaker R S (x ∷ xs) [] f h = absurd h
-zipped_weaker R S (x ∷ xs) (y ∷ ys) f h = (f x y h.0, zipped_weaker R S xs ys f h.1)
 
 -- two relations in turn
 pub zipped_through : {X Y Z : Type 0} (R : X → Z → Type 0) (S : X → Y → Type 0) (T : Y → Z → Type 0) (xs : List X) (ys : List Y) (zs : List Z) → ((x : X) (y : Y) (z : Z) → R x z → S x y → T y z) →

@@ -9,7 +9,9 @@ use Rattle.shape_data.specs.declared.program.Program.{Program}
 use Rattle.component_keys.specs.Tests.{key_test}
 use Rattle.component_keys.proofs.Basics.{found, mapped_some, not_none, some_same}
 use Rattle.component_keys.proofs.Reach.{any_passes}
+use Rattle.component_keys.proofs.Whole.{same_answers}
 use Rattle.composed_keys.specs.declared.rows.Component.{Component as ComponentRow}
+use Rattle.key_laws.proofs.Elements.{zipped_length}
 use Rattle.claim_core.specs.Views.{Claimed}
 use Rattle.claim_core.specs.declared.event.Event.{Event as Told}
 use Rattle.claim_core.specs.Told.{events_of}
@@ -25,14 +27,9 @@ use Rattle.summary_book.specs.Views.{is_claim}
 use Rattle.summary_book.proofs.Due.{AreSettled, due_known, stands}
 use Rattle.summary_book.proofs.Events.{own_claim}
 use Rattle.summary_book.proofs.Here.{settled_of}
-use Rattle.summary_book.proofs.Lists.{find_none, find_place, position_at, zipped_length}
+use Rattle.summary_book.proofs.Lists.{find_none, find_place, position_at}
 
 -- ---- row by row
-
-pub same_bit : (b c : Bool) → (b ≡ true → c ≡ true) → (c ≡ true → b ≡ true) → b ≡ c
-same_bit true c there back = sym (there refl)
-same_bit false true there back = back refl
-same_bit false false there back = refl
 
 pub not_false : (b : Bool) → not b ≡ false → b ≡ true
 not_false true e = refl
@@ -40,7 +37,7 @@ not_false false e = cc
 
 pub same_keys : (one other : Key) → key_test.0 one other ≡ key_test.0 other one
 same_keys one other =
-    same_bit (key_test.0 one other) (key_test.0 other one) (λ t. (key_test.1 other one).1 (sym ((key_test.1 one other).0 t))) (λ t. (key_test.1 one other).1 (sym ((key_test.1 other one).0 t)))
+    same_answers (key_test.0 one other) (key_test.0 other one) (λ t. (key_test.1 other one).1 (sym ((key_test.1 one other).0 t))) (λ t. (key_test.1 one other).1 (sym ((key_test.1 other one).0 t)))
 
 pub any_none : {X : Type 0} (p : X → Bool) (xs : List X) → ((k : ℕ) (x : X) → slice_get xs k ≡ Some x → p x ≡ false) → list_any p xs ≡ false
 any_none p [] fails = refl
@@ -96,7 +93,7 @@ none_any_found log program rows out are p fails =
 
 pub claim_test : (claim : Claimed) (out : Out) (b : Bool) (key : Key) → out.number ≡ claim.number → out.key ≡ key → (b ≡ true → key ≡ claim.key) → (key ≡ claim.key → b ≡ true) → b ≡ is_claim claim out
 claim_test claim out b key number key_is there back =
-    same_bit b (key_test.0 out.key claim.key) (λ t. (key_test.1 out.key claim.key).1 (key_is ∙ there t)) (λ t. back (sym key_is ∙ (key_test.1 out.key claim.key).0 t)) ∙
+    same_answers b (key_test.0 out.key claim.key) (λ t. (key_test.1 out.key claim.key).1 (key_is ∙ there t)) (λ t. back (sym key_is ∙ (key_test.1 out.key claim.key).0 t)) ∙
     ap (λ c. c && key_test.0 out.key claim.key) (sym ((Decides-eqb out.number claim.number).1 number))
 
 pub other_number : (claim : Claimed) (out : Out) → (out.number ≡ claim.number → ⊥) → is_claim claim out ≡ false

@@ -8,6 +8,7 @@ use Rattle.shape_data.specs.declared.answer.Key.{Key}
 use Rattle.shape_data.specs.declared.program.Flow.{Flow}
 use Rattle.shape_data.specs.declared.program.Program.{Program}
 use Rattle.shape_data.specs.declared.program.StructDef.{StructDef}
+use Rattle.shape_laws.proofs.StepsStacks.{within-some}
 use Rattle.component_keys.specs.Components.{same_names}
 use Rattle.component_keys.specs.Keys.{Component, key_over, names_of, program_components}
 use Rattle.component_keys.specs.Tests.{key_test}
@@ -24,7 +25,6 @@ use Rattle.summary_book.specs.declared.rows.SlotRow.{SlotRow}
 use Rattle.summary_book.specs.Places.{key_at}
 use Rattle.summary_book.specs.Rows.{AreSlots, IsComposed, IsSight, IsSlot, IsSlotAt, is_fit, is_fit_at, place_named}
 use Rattle.summary_book.proofs.Here.{no_place, own_place, place_is}
-use Rattle.summary_book.proofs.Lists.{there_is}
 use Rattle.summary_book.proofs.Present.{IsPresent, part_of, present_at, replayed_present}
 
 -- a key that fits is composed over the structures
@@ -36,7 +36,7 @@ pub slot_composed : (log : List Told) (old : Parts) (slots : List (Option SlotRo
     place < length slots → slice_index_or slots place None ≡ Some row → key_at log row.claimed ≡ Some key → row.fits ≡ true → IsComposed program.structs key
 slot_composed log old slots sight program same place row key within row_is key_is fits =
     let world = replay (events_of log) in
-    let part = there_is (program_components world.program) place (let e = sight.slots_are.lengths in omega (arith, within, e)) in
+    let part = within-some (program_components world.program) place (let e = sight.slots_are.lengths in omega (arith, within, e)) in
     let slot : IsSlotAt log world.slots world.program part.0 row = subst (IsSlot log world.slots world.program part.0) row_is (sight.slots_are.each place part.0 part.1) in
     let is : slot.key ≡ key_over world.program.structs part.0.flows slot.key.callees = (key_test.1 slot.key (key_over world.program.structs part.0.flows slot.key.callees)).0 (sym slot.fits ∙ fits) in
     subst (λ (k : Key). IsComposed program.structs k) (some_same (sym slot.key_is ∙ key_is))
@@ -87,7 +87,7 @@ module _ (log : List Told) (old program : Program) (rows kept : List (Option Slo
   new_row = record { claim = row.claim; claimed = row.claimed; published = row.published; fits = fits }
 
   old_part : (part : Component) × (slice_get (program_components world.program) count ≡ Some part)
-  old_part = there_is (program_components world.program) count (let e = old_slots.lengths in omega (arith, within, e))
+  old_part = within-some (program_components world.program) count (let e = old_slots.lengths in omega (arith, within, e))
 
   old_slot : IsSlotAt log world.slots world.program old_part.0 row
   old_slot = subst (IsSlot log world.slots world.program old_part.0) row_is (old_slots.each count old_part.0 old_part.1)

@@ -6,11 +6,13 @@ use Rattle.std.proofs.lemmas.List.{take_more}
 use Rattle.std.proofs.lemmas.Option.{slice_get-get_or, slice_get_within}
 use Rattle.shape_data.specs.declared.answer.Key.{Key}
 use Rattle.shape_data.specs.declared.program.Program.{Program}
+use Rattle.shape_laws.proofs.StepsStacks.{within-some}
 use Rattle.component_keys.specs.Components.{same_names}
 use Rattle.component_keys.specs.Keys.{Component, flows_of, key_over, names_of, program_components}
 use Rattle.component_keys.specs.Tests.{key_test}
 use Rattle.component_keys.proofs.Apart.{names_same}
 use Rattle.component_keys.proofs.Basics.{some_same}
+use Rattle.component_keys.proofs.Whole.{same_answers}
 use Rattle.composed_keys.specs.declared.rows.Component.{Component as ComponentRow}
 use Rattle.composed_keys.specs.Rows.{component_value}
 use Rattle.summary_book.specs.declared.rows.Parts.{Parts}
@@ -18,8 +20,7 @@ use Rattle.summary_book.specs.Aims.{component_with, has_name}
 use Rattle.summary_book.specs.Rows.{AreParts, IsComposed, is_fit, place_named}
 use Rattle.summary_book.proofs.Components.{components_length, part_of_row}
 use Rattle.summary_book.proofs.Here.{own_place}
-use Rattle.summary_book.proofs.Lists.{position_at, position_none, there_is, zipped_at_end}
-use Rattle.summary_book.proofs.Looked.{same_bit}
+use Rattle.summary_book.proofs.Lists.{position_at, position_none, zipped_at_end}
 
 pub zipped_more : {X Y : Type 0} (R : X → Y → Type 0) (xs : List X) (ys : List Y) (i : ℕ) (d : X) (y : Y) → i < length xs → AllZip R (take i xs) ys → R (get_or xs i d) y → AllZip R (take (i + 1) xs) (ys ++ y ∷ [])
 zipped_more R xs ys i d y lt before r = subst (λ l. AllZip R l (ys ++ y ∷ [])) (sym (take_more xs i d lt)) (zipped_at_end R (take i xs) ys (get_or xs i d) y before r)
@@ -93,7 +94,7 @@ module _ (parts : Parts) (are : AreParts parts) where
       (key ≡ key_over program.structs (filter_map (slice_get (flows_of program)) row.members.items) key.callees → b ≡ true) → b ≡ is_fit program (slice_get all place) key
   fit_there place row key b at there back =
       let part : Component = component_value (flows_of program) row in
-      same_bit b (key_test.0 key (key_over program.structs part.flows key.callees)) (λ t. (key_test.1 key (key_over program.structs part.flows key.callees)).1 (there t))
+      same_answers b (key_test.0 key (key_over program.structs part.flows key.callees)) (λ t. (key_test.1 key (key_over program.structs part.flows key.callees)).1 (there t))
       (λ t. back ((key_test.1 key (key_over program.structs part.flows key.callees)).0 t)) ∙ ap (λ o. is_fit program o key) (sym (part_of_row parts are place row at))
 
   -- of a key that is composed over the structures, by its procedures
@@ -108,4 +109,4 @@ pub row_at : {X : Type 0} (xs ys : List X) (i : ℕ) (x : X) → xs ≡ ys → i
 row_at xs ys i x e lt is = ap (λ l. slice_get l i) (sym e) ∙ slice_get-get_or xs i x lt ∙ ap (λ y. Some y) (sym is)
 
 pub there_row : (items : List ComponentRow) (place : ℕ) → place < length items → (row : ComponentRow) × (slice_get items place ≡ Some row)
-there_row items place lt = there_is items place lt
+there_row items place lt = within-some items place lt

@@ -9,6 +9,7 @@ use Rattle.std.proofs.lemmas.List.{append_assoc, append-nil}
 use Rattle.shape_data.specs.declared.answer.Answer.{Answer}
 use Rattle.shape_data.specs.declared.answer.Key.{Key}
 use Rattle.component_keys.proofs.Basics.{not_none, some_same}
+use Rattle.key_laws.proofs.Elements.{zipped_length}
 use Rattle.claim_core.specs.declared.event.Event.{Event as Told}
 use Rattle.claim_core.specs.declared.event.Event.TheVariants as told
 use Rattle.claim_core.specs.Told.{events_of}
@@ -22,7 +23,6 @@ use Rattle.summary_book.specs.Rows.{IsOutRow}
 use Rattle.summary_book.specs.Views.{Contents}
 use Rattle.summary_book.proofs.Booked.{IsLonger, given_book}
 use Rattle.summary_book.proofs.Events.{may_give_back, others_stay, own_claim, replay_told, told_events}
-use Rattle.summary_book.proofs.Lists.{zipped_length}
 
 pub positive : (n : ℕ) → (n == 0) ≡ false → 0 < n
 positive zero e = cc

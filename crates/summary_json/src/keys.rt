@@ -9,7 +9,6 @@ ghost use Rattle.summary_json.specs.Keys.{key_data, key_members, read_key, whole
 ghost use Rattle.summary_json.specs.Laws.{IsReadKey};
 ghost use Rattle.summary_json.specs.Unfit.{IsUnfit};
 
-use crate::formed::are_structs;
 use crate::scoped::Scoped;
 use flow_json::objects::{has_names, member};
 use flow_json::values::read_flag;
@@ -17,7 +16,7 @@ use flow_json::{Unread, list_value, read_list};
 use serde_json::{Value, json};
 use shape_data::answer::Key;
 use shape_data::program::StructDef;
-use shape_data::{Row, well_formed_key};
+use shape_data::{Row, are_structs, well_formed_key};
 use std::alloc::{AllocError, Global};
 
 /// The array of structures.

@@ -6,9 +6,9 @@
 
 mod answers;
 mod certs;
-mod formed;
 mod keys;
 pub mod laws;
+mod params;
 mod reasons;
 mod scoped;
 mod specs_of;

@@ -5,7 +5,7 @@ ghost use Rattle.shape_data.specs.WellFormed.{AreParams, AreStructs};
 ghost use Rattle.flow_json.specs.Unread.{IsUnread};
 ghost use Rattle.summary_json.specs.Keys.{callee_parts, spec_members};
 
-use crate::formed::read_params;
+use crate::params::read_params;
 use crate::scoped::Scoped;
 use flow_json::objects::{has_names, member};
 use flow_json::values::items;

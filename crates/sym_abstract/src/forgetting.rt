@@ -5,7 +5,6 @@ ghost use Rattle.sym_abstract.specs.Places.{forget_at};
 ghost use Rattle.shape_data.specs.Heap.{struct_named};
 ghost use Rattle.sym_canon.specs.Numbering.{sides};
 ghost use Rattle.sym_canon.specs.Placing.{exps_of};
-ghost use Rattle.sym_laws.specs.Fresh.{is_one_of};
 ghost use Rattle.sym_forms.specs.Sizes.{fields_of as fields_of_atom};
 ghost use Rattle.abstraction_laws.specs.Forgetting.{above, above_exp as above_exp_of, first_new as first_new_of, forget as forget_of, forget_atom as forget_atom_of, forget_atoms as forget_atoms_of, forget_cell as forget_cell_of, forget_fields as forget_fields_of, forget_slots as forget_slots_of, forget_value as forget_value_of, is_constant as is_constant_of, is_forgotten as is_forgotten_of, is_int as is_int_of};
 ghost use Rattle.abstraction_laws.specs.Occurrences.{exps_of_atoms, exps_of_facts};
@@ -16,6 +15,7 @@ use shape_data::program::{Field, HeadMark, StructDef, Ty};
 use shape_data::symbolic::{Atom, Exp, FIRST_EXISTENTIAL, Fact, SymHeap, SymState};
 use shape_data::{Name, Row, copy_of, struct_of};
 use std::alloc::{AllocError, Global};
+use sym_parts::is_one_of;
 
 /// Whether the expression is a constant.
 fn is_constant(e: Exp) -> bool
@@ -113,17 +113,11 @@ pub fn first_new(locals: &[Exp], heap: &SymHeap) -> u64
     above_facts(atoms, heap.pure.as_slice())
 }
 
-fn has_slot(slots: &[u32], slot: u32) -> bool
-    ensures { result ≡ is_one_of slots.now slot }
-{
-    slots.iter().any(|other| slot == *other)
-}
-
 /// Whether a slot is forgotten: it is dead, or it is one of the mark's ints and holds a constant.
 fn is_forgotten(mark: &HeadMark, slot: u32, e: Exp) -> bool
     ensures { result ≡ is_forgotten_of mark.now slot e }
 {
-    has_slot(mark.dead.as_slice(), slot) || has_slot(mark.ints.as_slice(), slot) && is_constant(e)
+    is_one_of(mark.dead.as_slice(), slot) || is_one_of(mark.ints.as_slice(), slot) && is_constant(e)
 }
 
 /// What a slot holds, or this new variable where it is forgotten.

@@ -10,7 +10,7 @@ use shape_data::program::{Flow, HeadMark, StructDef};
 use shape_data::symbolic::{Exp, Post, SymHeap, SymState};
 use shape_data::{Row, copy_of};
 use std::alloc::{AllocError, Global};
-use sym_canon::{canon_post, canon_state};
+use sym_canon::{as_state, canon_post, canon_state};
 use sym_pure::{Normal, normal};
 
 /// The state with its heap reduced.
@@ -57,16 +57,6 @@ pub fn abstract_head(
         Normal::Contradiction => Ok(None),
         Normal::Is(form) => Ok(Some(canon_state(alloc, &form, flow.params.len() as u32)?)),
     }
-}
-
-/// A post as a state with one local, the result.
-fn as_state(alloc: Global, post: &Post) -> Result<SymState, AllocError>
-    ensures { IfOk result (λ state. state ≡ as_state_of post.now) }
-{
-    Ok(SymState {
-        locals: Row::from_vec(vec![in alloc; post.ret]?),
-        heap: copy_of(&post.heap)?,
-    })
 }
 
 /// The first rule at an exit, of a post as a state: a constant in the result, where that is an int, and in int fields.

@@ -12,6 +12,7 @@ mod placing;
 mod sights;
 mod states;
 
-pub use pairs::canon_pair;
+pub use pairs::{canon_pair, without_locals};
 pub use parts::Pair;
-pub use states::{canon_post, canon_state};
+pub use placing::{is_cell_at, is_segment_from, place_of_cell};
+pub use states::{as_state, canon_post, canon_state};

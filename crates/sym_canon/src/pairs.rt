@@ -12,8 +12,8 @@ use shape_data::{Row, copy_of};
 use std::alloc::{AllocError, Global};
 use sym_parts::{map_heap, map_state};
 
-/// A heap as a state without locals.
-fn without_locals(alloc: Global, heap: &SymHeap) -> Result<SymState, AllocError>
+/// A heap as a state without locals. The only error is want of memory.
+pub fn without_locals(alloc: Global, heap: &SymHeap) -> Result<SymState, AllocError>
     ensures { IfOk result (λ state. state ≡ without_locals_of heap.now) }
 {
     Ok(SymState {

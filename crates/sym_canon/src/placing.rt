@@ -13,8 +13,8 @@ use shape_data::symbolic::{Atom, Exp};
 use std::alloc::{AllocError, Global};
 use sym_parts::{has_cell_at, is_same_exp};
 
-/// Whether the atom is a cell at the expression.
-fn is_cell_at(e: Exp, atom: &Atom) -> bool
+/// Whether the atom is a cell at this very expression; facts are not asked.
+pub fn is_cell_at(e: Exp, atom: &Atom) -> bool
     ensures { result ≡ is_cell_at_of e atom.now }
 {
     match atom {
@@ -23,14 +23,22 @@ fn is_cell_at(e: Exp, atom: &Atom) -> bool
     }
 }
 
-/// Whether the atom is a segment from the expression.
-fn is_segment_from(e: Exp, atom: &Atom) -> bool
+/// Whether the atom is a segment from this very expression, of any kind; facts are not asked.
+pub fn is_segment_from(e: Exp, atom: &Atom) -> bool
     ensures { result ≡ is_segment_from_of e atom.now }
 {
     match atom {
         Atom::Seg { from, .. } => is_same_exp(e, *from),
         _ => false,
     }
+}
+
+/// The place of the first cell at the expression, counted from 0; none where there is no such cell.
+pub fn place_of_cell(e: Exp, atoms: &[Atom]) -> Option<usize>
+    ensures first { result ≡ position (is_cell_at_of e) atoms.now }
+    ensures within { IfSome result (λ place. place < length atoms.now) }
+{
+    atoms.iter().position(|atom| is_cell_at(e, atom))
 }
 
 /// Whether the expression places the atom, where there is a cell at it or none.

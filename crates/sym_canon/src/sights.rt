@@ -1,6 +1,5 @@
 //! Variables in the order in which they come into sight.
 ghost use Rattle.std.specs.Prelude.{◌≡◌, IfOk};
-ghost use Rattle.sym_laws.specs.Fresh.{is_one_of};
 ghost use Rattle.sym_canon.specs.Canonical.{sight_state as sight_state_of};
 ghost use Rattle.sym_canon.specs.Numbering.{is_numbered as is_numbered_of, sight as sight_of, sight_atoms as sight_atoms_of, sight_facts as sight_facts_of, sides, with_sight};
 ghost use Rattle.sym_canon.specs.Placing.{exps_of};
@@ -8,6 +7,7 @@ ghost use Rattle.sym_canon.specs.Placing.{exps_of};
 use crate::parts::Variables;
 use shape_data::symbolic::{Atom, Exp, FIRST_EXISTENTIAL, Fact, SymState};
 use std::alloc::AllocError;
+use sym_parts::is_one_of;
 
 /// Whether the variable is one of those that are numbered.
 fn is_numbered(which: Variables, x: u32) -> bool
@@ -19,19 +19,12 @@ fn is_numbered(which: Variables, x: u32) -> bool
     }
 }
 
-/// Whether the variable is in the list.
-fn is_seen(seen: &[u32], x: u32) -> bool
-    ensures { result ≡ is_one_of seen.now x }
-{
-    seen.iter().any(|y| x == *y)
-}
-
 /// Puts the variable of an expression behind those that were seen, if it is numbered and new.
 fn see(seen: &mut Vec<u32>, which: Variables, e: Exp) -> Result<(), AllocError>
     ensures { IfOk result (λ _. seen.new.items ≡ with_sight which seen.old.items e) }
 {
     if let Exp::Var(x) = e {
-        if is_numbered(which, x) && !is_seen(seen.as_slice(), x) {
+        if is_numbered(which, x) && !is_one_of(seen.as_slice(), x) {
             seen.push(x)?;
         }
     }

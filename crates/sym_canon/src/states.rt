@@ -75,8 +75,8 @@ pub fn canon_state(alloc: Global, state: &SymState, params: u32) -> Result<SymSt
     state_with_facts_sorted(alloc, arranged(alloc, params, state)?)
 }
 
-/// A post as a state with one local, the result.
-fn as_state(alloc: Global, post: &Post) -> Result<SymState, AllocError>
+/// A post as a state with one local, the result. The only error is want of memory.
+pub fn as_state(alloc: Global, post: &Post) -> Result<SymState, AllocError>
     ensures { IfOk result (λ state. state ≡ as_state_of post.now) }
 {
     Ok(SymState {

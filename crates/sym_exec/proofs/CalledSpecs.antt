@@ -6,11 +6,9 @@ use Rattle.std.specs.declared.option.Option.TheVariants.{None, Some}
 use Rattle.std.specs.Option.{IfSome}
 use Rattle.std.proofs.Common.{refl, sym, ap, subst, ◌∙◌, append_assoc, arith, get_or}
 use Rattle.std.proofs.lemmas.List.{drop_more, length-map, map-append}
-use Rattle.std.proofs.lemmas.Bool.{ltb-true}
 use Rattle.std.proofs.lemmas.List.Elements.{All-weaker}
 use Rattle.shape_data.specs.declared.program.Operand.{Operand}
 use Rattle.shape_data.specs.declared.symbolic.Exp.{Exp}
-use Rattle.shape_data.specs.declared.symbolic.Exp.TheVariants.{Var, Const}
 use Rattle.shape_data.specs.declared.symbolic.Post.{Post}
 use Rattle.shape_data.specs.declared.symbolic.Spec.{Spec}
 use Rattle.shape_data.specs.declared.symbolic.SymHeap.{SymHeap}
@@ -24,7 +22,7 @@ use Rattle.sym_matching.specs.declared.matching.Sub.TheVariants as sub
 use Rattle.sym_matching.specs.Matches.{biabduce_avoiding, subtract_avoiding}
 use Rattle.sym_matching.specs.Rooms.{IsSmall, IsWithinSizes}
 use Rattle.sym_matching.specs.Steps.{contradicts}
-use Rattle.sym_matching.proofs.SizeLaws.{well_formed_is_within_sizes}
+use Rattle.sym_matching.proofs.SizeLaws.{small, well_formed_is_within_sizes}
 use Rattle.sym_renaming.specs.declared.parts.CalledPre.{CalledPre}
 use Rattle.sym_renaming.specs.declared.parts.Numbers.{Numbers}
 use Rattle.sym_renaming.specs.Calls.{called_with}
@@ -46,10 +44,6 @@ use Rattle.sym_exec.specs.Sizes.{IsLowPair}
 use Rattle.sym_exec.proofs.GivenPairs.{given_is_few, given_is_low, given_is_within, operands_are_exps}
 use Rattle.sym_exec.proofs.LowVariables.{low_variables}
 
-small-exp : (params : ℕ) (e : Exp) → IsExp widest params e → IsSmall e
-small-exp params (Var x) is = ltb-true x 2147483648 is
-small-exp params (Const n) is = tt
-
 -- ---- sizes
 
 module _ (setting : Setting) (caller : Caller) (is : IsCaller setting caller) (before : ℕ) (spec : Spec) (good : IsSpec widest setting.structs before spec) where
@@ -63,7 +57,7 @@ module _ (setting : Setting) (caller : Caller) (is : IsCaller setting caller) (b
   called_within called same =
       let few : length caller.used.now ≤ 300000000 = is.few in
       rw same (called_is_within_sizes caller.used.now caller.args.now spec.pre (omega arith) is.few_args
-      (All-weaker (IsExp widest setting.params) IsSmall (small-exp setting.params) caller.args.now is.args) pre_within)
+      (All-weaker (IsExp widest setting.params) IsSmall (small setting.params) caller.args.now is.args) pre_within)
 
   posts_within : All (λ (post : Post). IsWithinSizes post.heap) spec.posts
   posts_within = All-weaker (IsPost widest setting.structs before) (λ (post : Post). IsWithinSizes post.heap) (λ post one. well_formed_is_within_sizes setting.structs before post.heap is.good.structs one.heap) spec.posts good.posts

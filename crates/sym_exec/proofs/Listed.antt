@@ -1,5 +1,5 @@
 -- What is found in a list: the structure and the callee of a name.
-use Rattle.std.specs.Prelude.{◌≡◌, ℕ, zero, suc, ◌<◌, ◌≤◌, Bool, true, false, List, [], ◌∷◌, length, slice_get, All}
+use Rattle.std.specs.Prelude.{◌≡◌, ℕ, zero, suc, ◌<◌, Bool, true, false, List, [], ◌∷◌, length, slice_get, All}
 use Rattle.std.specs.List.{find}
 use Rattle.std.specs.Option.{option_or}
 use Rattle.std.specs.Str.{bytes_eq}
@@ -12,8 +12,7 @@ use Rattle.shape_data.specs.declared.answer.Callee.{Callee}
 use Rattle.shape_data.specs.declared.program.Cmd.TheVariants as cmd
 use Rattle.shape_data.specs.declared.program.Operand.{Operand}
 use Rattle.shape_data.specs.declared.program.StructDef.{StructDef}
-use Rattle.shape_data.specs.Heap.{struct_named}
-use Rattle.shape_data.specs.WellFormed.{AreStructs, IsCallee, IsStruct, widest}
+use Rattle.shape_data.specs.WellFormed.{IsCallee, widest}
 use Rattle.sym_matching.proofs.KeptLaws.{All-left, All-right}
 use Rattle.exec_laws.specs.declared.parts.Table.{Table}
 use Rattle.exec_laws.specs.Calling.{callee_named, callee_of}
@@ -27,10 +26,6 @@ found_passes P test (y ∷ ys) x is each = by_test (test y) refl (found_passes P
     by_test : (b : Bool) → test y ≡ b → (find test ys ≡ Some x → All P ys → P x × (test x ≡ true)) → P x × (test x ≡ true)
     by_test true e later = let here : Some y ≡ Some x = rw e at is in let same : y ≡ x = cc in subst (λ z. P z × (test z ≡ true)) same (All-head P y ys each, e)
     by_test false e later = later (rw e at is) (All-tail P y ys each)
-
--- a structure that is found has few fields
-pub few_fields : (structs : List StructDef) (kind : List ℕ) (def : StructDef) → AreStructs structs → struct_named structs kind ≡ Some def → length def.fields ≤ 32768
-few_fields structs kind def are is = (found_passes IsStruct (λ one. bytes_eq one.name kind) structs def is are.each).0.fields
 
 -- a callee that is found under a name
 from_named : (structs : List StructDef) (name : List ℕ) (count : ℕ) (callees : List Callee) (callee : Callee) → callee_named callees name ≡ Some callee → All (IsCallee widest structs) callees →

@@ -1,15 +1,12 @@
 -- The form of a pair with low variables has low variables.
-use Rattle.std.specs.Prelude.{◌≡◌, ℕ, Bool, true, false, not, ◌==◌, if◌then◌else◌, List, [], ◌∷◌, All}
+use Rattle.std.specs.Prelude.{◌≡◌, ℕ, Bool, true, false, not, if◌then◌else◌, List, All}
 use Rattle.std.specs.List.{remove}
 use Rattle.std.specs.Option.{IfSome}
 use Rattle.std.specs.declared.option.Option.{Option}
 use Rattle.std.proofs.Common.{refl}
-use Rattle.std.proofs.lemmas.List.Elements.{All-filter, All-head, All-nil, All-tail}
+use Rattle.std.proofs.lemmas.List.Elements.{All-filter, All-nil, All-push}
 use Rattle.shape_data.specs.declared.symbolic.Atom.{Atom}
-use Rattle.shape_data.specs.declared.symbolic.Exp.{Exp}
-use Rattle.shape_data.specs.declared.symbolic.Exp.TheVariants.{Var, Const}
 use Rattle.shape_data.specs.declared.symbolic.Fact.{Fact}
-use Rattle.shape_data.specs.declared.symbolic.Fact.TheVariants.{Eq, Ne}
 use Rattle.shape_data.specs.declared.symbolic.SymHeap.{SymHeap}
 use Rattle.shape_data.specs.declared.symbolic.SymState.{SymState}
 use Rattle.sym_laws.specs.Each.{EachInAtom, EachInFact, EachInHeap, EachInState}
@@ -19,11 +16,12 @@ use Rattle.sym_canon.specs.Canonical.{without_locals}
 use Rattle.sym_canon.specs.declared.parts.Pair.{Pair}
 use Rattle.sym_pure.specs.declared.parts.Normal.{Normal}
 use Rattle.sym_pure.specs.declared.parts.Normal.TheVariants.{Is, Contradiction}
+use Rattle.sym_pure.specs.Equations.{read_through}
 use Rattle.sym_pure.specs.Normal.{normal}
-use Rattle.sym_pure.proofs.EachLaws.{form_has_no_other}
+use Rattle.sym_pure.proofs.EachLaws.{All-remove, form_has_no_other}
+use Rattle.sym_pure.proofs.ReadThrough.{read_through-each}
 use Rattle.sym_forms.specs.Forms.{of_form, of_form_some}
-use Rattle.sym_forms.specs.PairForms.{is_further_equation, pair_of, read_through, solved, with_missing}
-use Rattle.sym_matching.proofs.KeptLaws.{All-push_one, All-remove}
+use Rattle.sym_forms.specs.PairForms.{is_further_equation, pair_of, with_missing}
 use Rattle.exec_laws.specs.declared.parts.Mode.{Mode}
 use Rattle.exec_laws.specs.declared.parts.Mode.TheVariants.{Strict, Search}
 use Rattle.exec_laws.specs.Pairs.{Setting, atoms_of, formed, is_logical_fact, where_true, with_atoms, with_fact, with_missing_fact, with_state_fact}
@@ -31,26 +29,12 @@ use Rattle.sym_exec.specs.Sizes.{is_low, IsLow, IsLowFact, IsLowPair}
 
 -- ---- forms
 
-low-solved : (x : ℕ) (facts : List Fact) → All (EachInFact IsLow) facts → IsLow (Var x) → IsLow (solved facts x)
-low-solved x [] each low = low
-low-solved x (Eq (Var y) right ∷ facts) each low = by_test (y == x) (low-solved x facts (All-tail (EachInFact IsLow) (Eq (Var y) right) facts each) low)
-  where
-    by_test : (b : Bool) → IsLow (solved facts x) → IsLow (if b then right else solved facts x)
-    by_test true later = (All-head (EachInFact IsLow) (Eq (Var y) right) facts each).1
-    by_test false later = later
-low-solved x (Eq (Const n) right ∷ facts) each low = low-solved x facts (All-tail (EachInFact IsLow) (Eq (Const n) right) facts each) low
-low-solved x (Ne left right ∷ facts) each low = low-solved x facts (All-tail (EachInFact IsLow) (Ne left right) facts each) low
-
-low-read : (facts : List Fact) → All (EachInFact IsLow) facts → (e : Exp) → IsLow e → IsLow (read_through facts e)
-low-read facts each (Var x) low = low-solved x facts each low
-low-read facts each (Const n) low = low
-
 low-on_state : (facts : List Fact) (state : SymState) → All (EachInFact IsLow) facts → EachInState IsLow state → EachInState IsLow (on_state (read_through facts) state)
 low-on_state facts state each low = record {
-  locals = each-on_exps IsLow IsLow (read_through facts) (low-read facts each) state.locals low.locals;
+  locals = each-on_exps IsLow IsLow (read_through facts) (read_through-each IsLow facts each) state.locals low.locals;
   heap = record {
-    facts = each-on_facts IsLow IsLow (read_through facts) (low-read facts each) state.heap.pure low.heap.facts;
-    atoms = each-on_atoms IsLow IsLow (read_through facts) (low-read facts each) state.heap.spatial low.heap.atoms;
+    facts = each-on_facts IsLow IsLow (read_through facts) (read_through-each IsLow facts each) state.heap.pure low.heap.facts;
+    atoms = each-on_atoms IsLow IsLow (read_through facts) (read_through-each IsLow facts each) state.heap.spatial low.heap.atoms;
   };
 }
 
@@ -86,13 +70,13 @@ low-missing_fact Strict fact pair low is = low
 low-missing_fact Search fact pair low is = by_test (is_logical_fact fact)
   where
     by_test : (b : Bool) → IsLowPair (if b then record pair { missing = with_fact fact pair.missing } else pair)
-    by_test true = record { missing = record { facts = All-push_one (EachInFact IsLow) pair.missing.pure fact low.missing.facts is; atoms = low.missing.atoms }; state = low.state }
+    by_test true = record { missing = record { facts = All-push (EachInFact IsLow) pair.missing.pure fact low.missing.facts is; atoms = low.missing.atoms }; state = low.state }
     by_test false = low
 
 low-state_fact : (fact : Fact) (pair : Pair) → IsLowPair pair → IsLowFact fact → IsLowPair (with_state_fact fact pair)
 low-state_fact fact pair low is = record {
   missing = low.missing;
-  state = record { locals = low.state.locals; heap = record { facts = All-push_one (EachInFact IsLow) pair.state.heap.pure fact low.state.heap.facts is; atoms = low.state.heap.atoms } };
+  state = record { locals = low.state.locals; heap = record { facts = All-push (EachInFact IsLow) pair.state.heap.pure fact low.state.heap.facts is; atoms = low.state.heap.atoms } };
 }
 
 -- the case in which a fact is true

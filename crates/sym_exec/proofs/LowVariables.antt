@@ -2,7 +2,7 @@
 use Rattle.std.specs.Prelude.{ℕ, ◌<◌, ◌≤◌, List, [], ◌∷◌, All}
 use Rattle.std.proofs.Common.{arith}
 use Rattle.std.proofs.lemmas.Bool.{ltb-true}
-use Rattle.std.proofs.lemmas.List.Elements.{All-cons, All-head, All-nil, All-tail}
+use Rattle.std.proofs.lemmas.List.Elements.{All-cons, All-head, All-nil, All-push, All-tail}
 use Rattle.shape_data.specs.declared.symbolic.Atom.{Atom}
 use Rattle.shape_data.specs.declared.symbolic.Atom.TheVariants.{Points, Seg, Junk}
 use Rattle.shape_data.specs.declared.symbolic.Exp.{Exp}
@@ -16,7 +16,6 @@ use Rattle.sym_canon.specs.Numbering.{sides}
 use Rattle.sym_canon.specs.Placing.{exps_of}
 use Rattle.sym_matching.specs.NewVariables.{HasRoom}
 use Rattle.sym_matching.specs.Variables.{with_atoms, with_exps, with_facts, with_heap, with_variable}
-use Rattle.sym_matching.proofs.KeptLaws.{All-push_one}
 use Rattle.sym_matching.proofs.RoomLaws.{room_below}
 use Rattle.exec_laws.specs.Pairs.{pair_variables}
 use Rattle.sym_exec.specs.Sizes.{IsLow, IsLowFact, IsLowPair}
@@ -25,7 +24,7 @@ abbrev IsUnder : ℕ → Type 0
 IsUnder x = x < 2147483648
 
 low-variable : (names : List ℕ) (e : Exp) → All IsUnder names → IsLow e → All IsUnder (with_variable names e)
-low-variable names (Var x) h low = All-push_one IsUnder names x h (ltb-true x 2147483648 low)
+low-variable names (Var x) h low = All-push IsUnder names x h (ltb-true x 2147483648 low)
 low-variable names (Const n) h low = h
 
 low-exps : (es : List Exp) (names : List ℕ) → All IsUnder names → All IsLow es → All IsUnder (with_exps names es)

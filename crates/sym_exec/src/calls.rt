@@ -14,16 +14,18 @@ ghost use Rattle.exec_laws.specs.Values.{operand as operand_of};
 ghost use Rattle.sym_exec.specs.Callers.{IsCaller, IsGiven, IsRoomy, fit_in};
 ghost use Rattle.sym_exec.specs.InSetting.{IsGood, setting_in};
 
-use crate::pairs::{above_logical, contradicts, pair_variables};
+use crate::pairs::{above_logical, pair_variables};
 use crate::setting::Setting;
 use crate::values::{one_case, operand};
 use abduction::biabduce_avoiding;
 use exec_laws::laws::fits_are_within;
 use exec_laws::{Case, Mode, Table};
+use matching_steps::missing::contradicts;
+use matching_steps::steps::add_atoms;
 use matching_steps::variables::{add_heap, add_state};
 use shape_data::answer::{Callee, Fault};
 use shape_data::program::Operand;
-use shape_data::symbolic::{Atom, Exp, Post, Spec, SymHeap, SymState};
+use shape_data::symbolic::{Exp, Post, Spec, SymHeap, SymState};
 use shape_data::{Name, Row, copy_of};
 use std::alloc::{AllocError, Global};
 use subtraction::subtract_avoiding;
@@ -84,16 +86,6 @@ pub struct Fit<'a> {
     pub apart: Numbers,
     pub binding: Row<(u32, Exp)>,
     pub posts: &'a [Post],
-}
-
-/// Puts copies of the atoms behind others.
-fn add_atoms(all: &mut Row<Atom>, atoms: &[Atom]) -> Result<(), AllocError>
-    ensures { IfOk result (λ _. all.new ≡ all.old ++ atoms.now) }
-{
-    for atom in atoms {
-        all.push(copy_of(atom)?)?;
-    }
-    Ok(())
 }
 
 /// One symbolic heap beside another.

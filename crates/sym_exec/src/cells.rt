@@ -12,19 +12,19 @@ ghost use Rattle.sym_exec.specs.Accesses.{use_of, with_found};
 ghost use Rattle.sym_exec.specs.InSetting.{IsGood, setting_in};
 ghost use Rattle.sym_exec.specs.Sizes.{IsLow, IsLowPair};
 
-use crate::exposing::{cause_at, expose, place_of_cell};
-use crate::pairs::{exp_at, in_slot, new_existentials, where_true, with_slot};
+use crate::exposing::{cause_at, expose};
+use crate::pairs::{in_slot, new_existentials, where_true, with_slot};
 use crate::setting::Setting;
 use crate::values::{on_alone, operand};
 use exec_laws::{Case, Exposed};
 use matching_steps::new_variables::as_exps;
-use matching_steps::steps::is_same_name;
+use matching_steps::steps::{exp_at, is_same_name};
 use shape_data::answer::Fault;
 use shape_data::program::{Operand, StructDef};
 use shape_data::symbolic::{Atom, Exp, Fact};
 use shape_data::{Name, Row, copy_of, struct_of};
 use std::alloc::{AllocError, Global};
-use sym_canon::Pair;
+use sym_canon::{Pair, place_of_cell};
 use sym_parts::is_same_exp;
 use sym_pure::differs;
 

@@ -14,9 +14,10 @@ ghost use Rattle.sym_exec.specs.InSetting.{IsGood, setting_in};
 ghost use Rattle.sym_exec.specs.Sizes.{IsLow, IsLowPair};
 ghost use Rattle.sym_exec.specs.Turns.{IsLowTurn, cases_after, listed, turn_of};
 
-use crate::pairs::{contradicts, formed, in_slot, new_existentials, new_logical, where_true};
+use crate::pairs::{formed, in_slot, new_existentials, new_logical, where_true};
 use crate::setting::Setting;
 use exec_laws::{Exposed, Mode};
+use matching_steps::missing::contradicts;
 use matching_steps::new_variables::as_exps;
 use matching_steps::reading::is_logical_variable;
 use shape_data::answer::Fault;
@@ -24,7 +25,7 @@ use shape_data::program::StructDef;
 use shape_data::symbolic::{Atom, Exp, Fact};
 use shape_data::{Name, Row, copy_of, struct_of};
 use std::alloc::{AllocError, Global};
-use sym_canon::Pair;
+use sym_canon::{Pair, is_cell_at, is_segment_from};
 use sym_parts::is_same_exp;
 use sym_pure::differs;
 
@@ -39,39 +40,11 @@ pub fn cause_at(e: Exp) -> Fault
     }
 }
 
-/// Whether the atom is a cell at the expression.
-fn is_cell_at(e: Exp, atom: &Atom) -> bool
-    ensures { result ≡ is_cell_at_of e atom.now }
-{
-    match atom {
-        Atom::Points { at, .. } => is_same_exp(e, *at),
-        _ => false,
-    }
-}
-
-/// Whether the atom is a segment from the expression.
-fn is_segment_from(e: Exp, atom: &Atom) -> bool
-    ensures { result ≡ is_segment_from_of e atom.now }
-{
-    match atom {
-        Atom::Seg { from, .. } => is_same_exp(e, *from),
-        _ => false,
-    }
-}
-
 /// Whether there is a cell at the expression.
 fn has_cell(e: Exp, atoms: &[Atom]) -> bool
     ensures { result ≡ list_any (is_cell_at_of e) atoms.now }
 {
     atoms.iter().any(|atom| is_cell_at(e, atom))
-}
-
-/// The place of the first cell at the expression.
-pub fn place_of_cell(e: Exp, atoms: &[Atom]) -> Option<usize>
-    ensures first { result ≡ position (is_cell_at_of e) atoms.now }
-    ensures within { IfSome result (λ place. place < length atoms.now) }
-{
-    atoms.iter().position(|atom| is_cell_at(e, atom))
 }
 
 /// The place of the first segment from the expression.

@@ -1,9 +1,7 @@
 //! Pairs of a missing heap and a state, as execution changes them: slots, new variables, forms and facts.
-ghost use Rattle.std.specs.Prelude.{◌≡◌, ◌≤◌, ℕ, IfOk, IfSome, filter, ltb, pos, slice_index_or};
-ghost use Rattle.shape_data.specs.declared.symbolic.Exp.TheVariants.{Const};
+ghost use Rattle.std.specs.Prelude.{◌≡◌, ◌≤◌, ℕ, IfOk, IfSome, filter, ltb};
 ghost use Rattle.sym_matching.specs.Covers.{above};
 ghost use Rattle.sym_matching.specs.NewVariables.{HasRoom};
-ghost use Rattle.sym_matching.specs.Steps.{contradicts as contradicts_of};
 ghost use Rattle.exec_laws.specs.Pairs.{canonical as canonical_of, formed as formed_of, in_slot as in_slot_of, is_logical_fact as is_logical_fact_of, new_existentials as new_existentials_of, new_logical as new_logical_of, pair_variables as pair_variables_of, where_true as where_true_of, where_true_in_state as where_true_in_state_of, with_missing_fact as with_missing_fact_of, with_slot as with_slot_of, with_state_fact as with_state_fact_of};
 ghost use Rattle.sym_exec.specs.InSetting.{setting_in};
 ghost use Rattle.sym_exec.specs.Sizes.{IsLowFact, IsLowPair};
@@ -12,20 +10,14 @@ use crate::setting::Setting;
 use exec_laws::Mode;
 use matching_steps::new_variables::fresh_variables;
 use matching_steps::reading::is_logical;
+use matching_steps::steps::exp_at;
 use matching_steps::variables::{add_heap, add_state};
 use shape_data::Row;
-use shape_data::symbolic::{Exp, FIRST_EXISTENTIAL, Fact, SymHeap, SymState};
+use shape_data::symbolic::{Exp, FIRST_EXISTENTIAL, Fact};
 use std::alloc::{AllocError, Global};
 use sym_canon::{Pair, canon_pair, canon_state};
 use sym_forms::pair_form;
 use sym_pure::{Normal, normal};
-
-/// The expression at a place, or 0 where there is none.
-pub fn exp_at(list: &[Exp], place: u32) -> Exp
-    ensures { result ≡ slice_index_or list.now place (Const (pos 0)) }
-{
-    list.get(place as usize).copied().unwrap_or(Exp::Const(0))
-}
 
 /// What a slot holds.
 pub fn in_slot(pair: &Pair, slot: u32) -> Exp
@@ -85,21 +77,6 @@ pub fn new_logical(alloc: Global, params: u32, pair: &Pair) -> Result<u32, Alloc
 {
     let names = pair_variables(alloc, pair)?;
     Ok(above_logical(params, names.as_slice()))
-}
-
-/// Whether the heap has no normal form.
-#[tactic(auto, unfolding(sym_matching::specs::Steps::contradicts))]
-pub fn contradicts(alloc: Global, heap: SymHeap) -> Result<bool, AllocError>
-    ensures { IfOk result (λ none. none ≡ contradicts_of heap) }
-{
-    let state = SymState {
-        locals: Row::new(alloc),
-        heap,
-    };
-    match normal(alloc, &state)? {
-        Normal::Is(_) => Ok(false),
-        Normal::Contradiction => Ok(true),
-    }
 }
 
 /// The normal form: in strict execution the state's, in the search the pair's. None is a contradiction.

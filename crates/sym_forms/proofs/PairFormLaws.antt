@@ -20,6 +20,7 @@ use Rattle.sym_pure.specs.declared.parts.Normal.{Normal}
 use Rattle.sym_pure.specs.declared.parts.Normal.TheVariants.{Is, Contradiction}
 use Rattle.sym_pure.specs.Contradictions.{has_clash, has_same_sides}
 use Rattle.sym_pure.specs.Emptying.{is_empty, is_plain}
+use Rattle.sym_pure.specs.Equations.{read_through}
 use Rattle.sym_pure.specs.IsNormal.{are_in_order, are_normal_atoms, are_normal_facts, has_redundant, has_two_junk, is_below, is_disequality, is_normal, is_normal_heap, is_read, is_read_atom, is_read_fact, is_solved_in}
 use Rattle.sym_pure.specs.Normal.{normal}
 use Rattle.sym_pure.specs.Redundancy.{are_constants}
@@ -34,7 +35,7 @@ use Rattle.sym_canon.proofs.NumberLaws.{front-renaming, seen-from, state-numbere
 use Rattle.sym_canon.proofs.SightLaws.{AreSeen, Known, kept-state, none-seen, state-known, state-seen, state-stays}
 use Rattle.sym_forms.specs.Forms.{of_form, of_form_some}
 use Rattle.sym_forms.specs.Laws.{CanonPairKeepsMissingNormal, PairFormIsNormal}
-use Rattle.sym_forms.specs.PairForms.{is_further_equation, is_no_param, pair_form, pair_of, read_through, with_missing, without_facts}
+use Rattle.sym_forms.specs.PairForms.{is_further_equation, is_no_param, pair_form, pair_of, with_missing, without_facts}
 use Rattle.sym_forms.proofs.FormNormalLaws.{arranged-normal}
 use Rattle.sym_forms.proofs.RenamedLaws.{AreOfLow, renamed-normal}
 use Rattle.sym_forms.proofs.SortedLaws.{sorted-normal}

@@ -7,7 +7,7 @@ use Rattle.std.specs.declared.option.Option.TheVariants.{None, Some}
 use Rattle.std.proofs.Common.{refl, sym, ap, ◌∙◌, arith, length-append}
 use Rattle.std.proofs.lemmas.Bool.{leb-false, lt-ltb, ltb-true}
 use Rattle.std.proofs.lemmas.List.{length-map}
-use Rattle.std.proofs.lemmas.List.Elements.{All-append, All-cons, All-head, All-nil, All-tail}
+use Rattle.std.proofs.lemmas.List.Elements.{All-append, All-cons, All-filter, All-head, All-nil, All-tail}
 use Rattle.shape_data.specs.declared.program.StructDef.{StructDef}
 use Rattle.shape_data.specs.declared.symbolic.Atom.{Atom}
 use Rattle.shape_data.specs.declared.symbolic.Atom.TheVariants.{Points, Seg, Junk}
@@ -37,14 +37,6 @@ use Rattle.sym_forms.proofs.SortedLaws.{blind, sorted-count}
 
 -- ---- placing keeps what holds of each atom, and their number
 
-all-filter : (P : Atom → Type 0) (test : Atom → Bool) (atoms : List Atom) → All P atoms → All P (filter test atoms)
-all-filter P test [] h = All-nil P
-all-filter P test (atom ∷ atoms) h = by_test (test atom) refl (all-filter P test atoms (All-tail P atom atoms h))
-  where
-    by_test : (b : Bool) → test atom ≡ b → All P (filter test atoms) → All P (filter test (atom ∷ atoms))
-    by_test true e k = rw e (All-cons P atom (filter test atoms) (All-head P atom atoms h) k)
-    by_test false e k = rw e k
-
 module _ (P : Atom → Type 0) where
   at-each : (again : List Exp → List Atom → List Atom) → ((queue : List Exp) (left : List Atom) → All P left → All P (again queue left)) → (queue : List Exp) (left : List Atom) (o : Option ℕ) → All P left → All P (place_at again queue left o)
   at-each again each queue [] None h = each [] [] h
@@ -53,8 +45,8 @@ module _ (P : Atom → Type 0) where
       let e : Exp = slice_index_or queue k (Const (pos 0)) in
       let now : List Atom = filter (is_placed left e) left in
       let others : List Atom = filter (λ atom. not (is_placed left e atom)) left in
-      All-append P now (again (drop (k + 1) queue ++ all_lead_to now) others) (all-filter P (is_placed left e) left h)
-      (each (drop (k + 1) queue ++ all_lead_to now) others (all-filter P (λ atom. not (is_placed left e atom)) left h))
+      All-append P now (again (drop (k + 1) queue ++ all_lead_to now) others) (All-filter (is_placed left e) P left h)
+      (each (drop (k + 1) queue ++ all_lead_to now) others (All-filter (λ atom. not (is_placed left e atom)) P left h))
 
   place-each : (turns : ℕ) (queue : List Exp) (left : List Atom) → All P left → All P (place turns queue left)
   place-each zero queue left h = h
@@ -63,7 +55,7 @@ module _ (P : Atom → Type 0) where
   pub placed-each : (params : ℕ) (locals : List Exp) (atoms : List Atom) → All P atoms → All P (placed params locals atoms)
   placed-each params locals atoms h =
       All-append P (place (length (filter is_other atoms)) (params_from 0 params ++ locals) (filter is_other atoms)) (filter is_junk atoms)
-      (place-each (length (filter is_other atoms)) (params_from 0 params ++ locals) (filter is_other atoms) (all-filter P is_other atoms h)) (all-filter P is_junk atoms h)
+      (place-each (length (filter is_other atoms)) (params_from 0 params ++ locals) (filter is_other atoms) (All-filter is_other P atoms h)) (All-filter is_junk P atoms h)
 
 count-all : {A : Type 0} (xs : List A) → count (λ x. true) xs ≡ length xs
 count-all [] = refl

@@ -1,5 +1,5 @@
 -- The normal form of a pair of a missing heap and a state, in which logical variables mean the same.
-use Rattle.std.specs.Prelude.{ℕ, Bool, false, not, ◌==◌, if◌then◌else◌, leb, List, [], ◌∷◌, filter}
+use Rattle.std.specs.Prelude.{ℕ, Bool, false, not, leb, filter}
 use Rattle.std.specs.declared.option.Option.{Option}
 use Rattle.shape_data.specs.declared.symbolic.Exp.{Exp}
 use Rattle.shape_data.specs.declared.symbolic.Exp.TheVariants.{Var, Const}
@@ -8,22 +8,11 @@ use Rattle.shape_data.specs.declared.symbolic.Fact.TheVariants.{Eq, Ne}
 use Rattle.shape_data.specs.declared.symbolic.SymHeap.{SymHeap}
 use Rattle.shape_data.specs.declared.symbolic.SymState.{SymState}
 use Rattle.sym_laws.specs.Mapped.{on_state}
+use Rattle.sym_pure.specs.Equations.{read_through}
 use Rattle.sym_pure.specs.Normal.{normal}
 use Rattle.sym_canon.specs.declared.parts.Pair.{Pair}
 use Rattle.sym_canon.specs.Canonical.{without_locals}
 use Rattle.sym_forms.specs.Forms.{of_form, of_form_some}
-
--- what the facts' equations solve a variable for
-abbrev pub solved : List Fact → ℕ → Exp
-solved [] x = Var x
-solved (Eq (Var y) right ∷ facts) x = if y == x then right else solved facts x
-solved (Eq (Const n) right ∷ facts) x = solved facts x
-solved (Ne left right ∷ facts) x = solved facts x
-
--- an expression, read through the facts' equations
-abbrev pub read_through : List Fact → Exp → Exp
-read_through facts (Var x) = solved facts x
-read_through facts (Const n) = Const n
 
 -- the expression is a variable that is no parameter
 abbrev pub is_no_param : ℕ → Exp → Bool

@@ -2,29 +2,15 @@
 ghost use Rattle.std.specs.Prelude.{◌≡◌, IfOk, not, filter};
 ghost use Rattle.std.specs.declared.option.Option.TheVariants.{Some};
 ghost use Rattle.sym_laws.specs.Mapped.{on_state};
-ghost use Rattle.sym_canon.specs.Canonical.{without_locals as without_locals_of};
-ghost use Rattle.sym_forms.specs.PairForms.{is_further_equation as is_further_equation_of, pair_form as pair_form_of, pair_of as pair_of_parts, read_through, solved as solved_of, with_missing as with_missing_of, without_facts};
+ghost use Rattle.sym_pure.specs.Equations.{read_through as read_through_of};
+ghost use Rattle.sym_forms.specs.PairForms.{is_further_equation as is_further_equation_of, pair_form as pair_form_of, pair_of as pair_of_parts, with_missing as with_missing_of, without_facts};
 
+use shape_data::Row;
 use shape_data::symbolic::{Exp, Fact, SymHeap, SymState};
-use shape_data::{Row, copy_of};
 use std::alloc::{AllocError, Global};
-use sym_canon::Pair;
+use sym_canon::{Pair, without_locals};
 use sym_parts::{Mapping, map_state};
-use sym_pure::{Normal, normal};
-
-/// What the facts' equations solve a variable for.
-fn solved(facts: &[Fact], x: u32) -> Exp
-    ensures { result ≡ solved_of facts.now x }
-{
-    for fact in facts {
-        if let Fact::Eq(Exp::Var(y), right) = *fact {
-            if y == x {
-                return right;
-            }
-        }
-    }
-    Exp::Var(x)
-}
+use sym_pure::{Normal, normal, read_through};
 
 /// Reading through the equations of these facts.
 #[derive(Clone, Copy)]
@@ -33,33 +19,20 @@ struct Through<'a> {
 }
 
 impl Mapping for Through<'_> {
-    ghost use Rattle.sym_forms.specs.PairForms.{read_through};
+    ghost use Rattle.sym_pure.specs.Equations.{read_through};
 
     ghost image = { λ through e. read_through through.facts.now e };
 
     fn image_of(&self, e: Exp) -> Exp {
-        match e {
-            Exp::Var(x) => solved(self.facts, x),
-            Exp::Const(_) => e,
-        }
+        read_through(self.facts, e)
     }
 }
 
 /// The state, read through the facts' equations.
 fn read_state(alloc: Global, facts: &[Fact], state: &SymState) -> Result<SymState, AllocError>
-    ensures { IfOk result (λ read. read ≡ on_state (read_through facts.now) state.now) }
+    ensures { IfOk result (λ read. read ≡ on_state (read_through_of facts.now) state.now) }
 {
     map_state(alloc, &Through { facts }, state)
-}
-
-/// A heap as a state without locals.
-fn without_locals(alloc: Global, heap: &SymHeap) -> Result<SymState, AllocError>
-    ensures { IfOk result (λ state. state ≡ without_locals_of heap.now) }
-{
-    Ok(SymState {
-        locals: Row::new(alloc),
-        heap: copy_of(heap)?,
-    })
 }
 
 /// Whether the fact is an equation of a variable that is no parameter.

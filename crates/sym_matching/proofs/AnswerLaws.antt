@@ -5,7 +5,7 @@ use Rattle.std.specs.declared.option.Option.{Option}
 use Rattle.std.specs.declared.option.Option.TheVariants.{None, Some}
 use Rattle.std.proofs.Common.{refl, sym, ap, subst, ◌∙◌, arith, ⊎_elim}
 use Rattle.std.proofs.lemmas.Bool.{lt-ltb}
-use Rattle.std.proofs.lemmas.List.{append-nil}
+use Rattle.std.proofs.lemmas.List.{append-nil, length_push}
 use Rattle.std.proofs.lemmas.List.Edits.{length-remove}
 use Rattle.std.proofs.lemmas.List.Elements.{All-append, All-cons, All-head, All-nil, All-tail}
 use Rattle.std.proofs.lemmas.Option.{slice_get_within}
@@ -14,6 +14,7 @@ use Rattle.shape_data.specs.declared.symbolic.Atom.{Atom}
 use Rattle.shape_data.specs.declared.symbolic.Atom.TheVariants.{Points, Seg, Junk}
 use Rattle.shape_data.specs.declared.symbolic.SymHeap.{SymHeap}
 use Rattle.shape_data.specs.WellFormed.{AreStructs, IsAtom, IsExp, IsFact, IsSymHeap, Limits, widest}
+use Rattle.sym_pure.proofs.EachLaws.{All-get, All-remove}
 use Rattle.sym_matching.specs.declared.matching.Abd.TheVariants as abd
 use Rattle.sym_matching.specs.declared.matching.Matching.{Matching}
 use Rattle.sym_matching.specs.declared.matching.Mode.TheVariants.{Subtract, Abduce}
@@ -31,10 +32,10 @@ use Rattle.sym_matching.specs.Steps.{Rules, and_then}
 use Rattle.sym_matching.specs.WantedAtoms.{first_number, next_place, want_at, want_atom, want_atoms, want_one, wanted_from}
 use Rattle.sym_matching.specs.WantedFacts.{want_all_owed, want_facts}
 use Rattle.sym_matching.proofs.AnswerSteps.{Fine, read-fine, want_all_owed-fine, want_cell-fine, want_facts-fine, want_segment-fine}
-use Rattle.sym_matching.proofs.KeptLaws.{All-at, All-left, All-remove, All-right}
-use Rattle.sym_matching.proofs.NextSteps.{atom_names}
-use Rattle.sym_matching.proofs.RoomLaws.{few_fields, free_near, length-one_more, variables-append}
-use Rattle.sym_matching.proofs.RoomSteps.{want_cell-grown, want_segment-used}
+use Rattle.sym_matching.proofs.KeptLaws.{All-left, All-right}
+use Rattle.sym_matching.proofs.NextSteps.{atom_names, names-removed}
+use Rattle.sym_matching.proofs.RoomLaws.{few_fields, free_near, variables-append}
+use Rattle.sym_matching.proofs.RoomSteps.{fields-removed, want_cell-grown, want_segment-used}
 use Rattle.sym_matching.proofs.SizeLaws.{well_formed_is_within_sizes}
 use Rattle.sym_matching.proofs.MissingLaws.{subtract_misses_nothing}
 
@@ -58,25 +59,11 @@ fields-from number (Points at kind fields ∷ atoms) = ap (λ count. length fiel
 fields-from number (Seg kind link from to ∷ atoms) = ap (λ count. 0 + count) (fields-from (number + 1) atoms)
 fields-from number (Junk ∷ atoms) = let later : fields_wanted (wanted_from (number + 1) atoms) ≡ fields_of_all atoms = fields-from (number + 1) atoms in omega arith
 
-names-from : (number : ℕ) (atoms : List Atom) → names_wanted (wanted_from number atoms) ≡ names_of_all atoms
+pub names-from : (number : ℕ) (atoms : List Atom) → names_wanted (wanted_from number atoms) ≡ names_of_all atoms
 names-from number [] = refl
 names-from number (Points at kind fields ∷ atoms) = ap (λ count. length fields + count) (names-from (number + 1) atoms)
 names-from number (Seg kind link from to ∷ atoms) = ap (λ count. 1 + count) (names-from (number + 1) atoms)
 names-from number (Junk ∷ atoms) = let later : names_wanted (wanted_from (number + 1) atoms) ≡ names_of_all atoms = names-from (number + 1) atoms in omega arith
-
-pub fields-removed : (wanted : List Wanted) (place : ℕ) (w : Wanted) → slice_get wanted place ≡ Some w → fields_wanted wanted ≡ fields_of w.atom + fields_wanted (remove wanted place)
-fields-removed [] place w is = cc
-fields-removed (first ∷ others) zero w is = let same : first ≡ w = cc in rw same refl
-fields-removed (first ∷ others) (suc place) w is =
-    let later : fields_wanted others ≡ fields_of w.atom + fields_wanted (remove others place) = fields-removed others place w is in
-    omega arith
-
-names-removed : (wanted : List Wanted) (place : ℕ) (w : Wanted) → slice_get wanted place ≡ Some w → names_wanted wanted ≡ names_of w.atom + names_wanted (remove wanted place)
-names-removed [] place w is = cc
-names-removed (first ∷ others) zero w is = let same : first ≡ w = cc in rw same refl
-names-removed (first ∷ others) (suc place) w is =
-    let later : names_wanted others ≡ names_of w.atom + names_wanted (remove others place) = names-removed others place w is in
-    omega arith
 
 module _ (limits : Limits) (structs : List StructDef) (params : ℕ) where
   abbrev IsWanted : Wanted → Type 0
@@ -132,7 +119,7 @@ module _ (limits : Limits) (structs : List StructDef) (params : ℕ) where
           let shorter : length (remove wanted place) + 1 ≡ length wanted = length-remove wanted place (slice_get_within wanted place w is) in
           let fewer : length (remove wanted place) ≡ turns = omega arith in
           let lower : MayBe (names_of w.atom + names_wanted (remove wanted place)) m = λ x high. low x (omega arith) in
-          let one = atom-fine w.number w.atom m k (fields_wanted (remove wanted place)) (names_wanted (remove wanted place)) (All-at IsWanted wanted place w is each)
+          let one = atom-fine w.number w.atom m k (fields_wanted (remove wanted place)) (names_wanted (remove wanted place)) (All-get IsWanted wanted place w is each)
           (subst (λ c. All (MayOccur limits params) (fresh_variables c m.used)) fields may) lower fine f in
           let near : k.next ≤ m.next + names_of w.atom = atom_names rules w.number w.atom m k f in
           go_on place k fewer g (All-remove IsWanted wanted place each) one.1 (λ x high. lower x (omega arith)) one.0
@@ -192,7 +179,7 @@ fresh_low : (params count : ℕ) (used : List ℕ) → 65536 + length used + cou
 fresh_low params zero used room = All-nil (MayOccur widest params)
 fresh_low params (suc count) used room =
     let near : fresh used ≤ 65536 + length used = free_near (length used) 65536 used in
-    let more : length (used ++ fresh used ∷ []) ≡ length used + 1 = length-one_more used (fresh used) in
+    let more : length (used ++ fresh used ∷ []) ≡ length used + 1 = length_push used (fresh used) in
     All-cons (MayOccur widest params) (fresh used) (fresh_variables count (used ++ fresh used ∷ [])) (lt-ltb (fresh used) 2147483648 (omega arith)) (fresh_low params count (used ++ fresh used ∷ []) (omega arith))
 
 parts_of : (structs : List StructDef) (params : ℕ) (heap : SymHeap) → IsSymHeap widest structs params heap → HasParts widest structs params heap

@@ -9,7 +9,7 @@ use Rattle.std.proofs.Common.{refl, sym, ap, subst, ◌∙◌, arith}
 use Rattle.std.proofs.lemmas.Bool.{and_parts, eqb-true}
 use Rattle.std.proofs.lemmas.List.{length-map}
 use Rattle.std.proofs.lemmas.List.Edits.{length-remove}
-use Rattle.std.proofs.lemmas.List.Elements.{All-head, All-map, All-tail, All-weaker}
+use Rattle.std.proofs.lemmas.List.Elements.{All-head, All-map, All-push, All-tail, All-weaker}
 use Rattle.std.proofs.lemmas.Option.{slice_get_within}
 use Rattle.shape_data.specs.declared.program.StructDef.{StructDef}
 use Rattle.shape_data.specs.declared.symbolic.Atom.{Atom}
@@ -20,10 +20,15 @@ use Rattle.shape_data.specs.declared.symbolic.Fact.{Fact}
 use Rattle.shape_data.specs.declared.symbolic.Fact.TheVariants.{Eq, Ne}
 use Rattle.shape_data.specs.Heap.{struct_named}
 use Rattle.shape_data.specs.WellFormed.{IsAtom, IsExp, IsFact, IsField, Limits}
+use Rattle.sym_laws.specs.Each.{EachInFact}
 use Rattle.sym_laws.specs.Expressions.{same_exp}
 use Rattle.sym_laws.specs.Fresh.{is_one_of}
-use Rattle.sym_canon.specs.Placing.{is_cell_at}
+use Rattle.sym_pure.specs.Equations.{read_through}
 use Rattle.sym_pure.specs.Sources.{differs}
+use Rattle.sym_pure.proofs.EachLaws.{All-get, All-remove}
+use Rattle.sym_pure.proofs.ReadThrough.{read_through-each}
+use Rattle.sym_pure.proofs.WellFormedLaws.{to_each}
+use Rattle.sym_canon.specs.Placing.{is_cell_at}
 use Rattle.sym_matching.specs.declared.matching.Matching.{Matching}
 use Rattle.sym_matching.specs.declared.matching.Mode.{Mode}
 use Rattle.sym_matching.specs.declared.matching.Mode.TheVariants.{Subtract, Abduce}
@@ -32,18 +37,14 @@ use Rattle.sym_matching.specs.declared.matching.Turned.{Turned}
 use Rattle.sym_matching.specs.declared.matching.Turned.TheVariants.{On, Stuck}
 use Rattle.sym_matching.specs.Answers.{HasParts, IsBound, MayOccur}
 use Rattle.sym_matching.specs.NewVariables.{fresh_variables}
-use Rattle.sym_matching.specs.Reading.{bound_exp, bound_to, is_logical, is_logical_variable, is_none, is_unbound, or_itself, read, solved, solved_exp}
+use Rattle.sym_matching.specs.Reading.{bound_exp, bound_to, is_logical, is_logical_variable, is_none, is_unbound, or_itself, read}
 use Rattle.sym_matching.specs.Steps.{Rules, and_then, bind, bind_new, miss_atom, miss_fact, owe, take_atom, unfold_at, whole, with_missing_atom, with_missing_fact}
 use Rattle.sym_matching.specs.WantedCells.{cell_place, is_atom_from, is_to_unfold, miss_cell, miss_named, name_fields, part_at, place_to_part, take_cell, take_field, take_fields, take_parted, take_unfolded, unfold_place, want_cell}
 use Rattle.sym_matching.specs.WantedFacts.{miss_disequality, miss_equation, want_all_owed, want_apart, want_equal, want_fact, want_facts, want_owed, want_same}
 use Rattle.sym_matching.specs.WantedSegments.{bind_end, miss_segment, next_of, piece, piece_at, reach, take_piece, walk, want_segment}
-use Rattle.sym_matching.proofs.KeptLaws.{All-at, All-insert, All-or, All-push_one, All-remove}
+use Rattle.sym_matching.proofs.KeptLaws.{All-insert, All-or}
 use Rattle.sym_matching.proofs.RoomSteps.{on_then}
 use Rattle.sym_matching.proofs.SettleLaws.{unless-on}
-
-either : {A : Type 0} (b : Bool) (x y : A) (P : A → Type 0) → P x → P y → P (if b then x else y)
-either true x y P one other = one
-either false x y P one other = other
 
 module _ (limits : Limits) (structs : List StructDef) (params : ℕ) where
   abbrev P : Exp → Type 0
@@ -52,16 +53,8 @@ module _ (limits : Limits) (structs : List StructDef) (params : ℕ) where
   abbrev IsOwed : Owed → Type 0
   IsOwed owed = P owed.want × P owed.have
 
-  solved-fine : (facts : List Fact) (x : ℕ) → All (IsFact limits params) facts → P (Var x) → P (solved facts x)
-  solved-fine [] x each fine = fine
-  solved-fine (Eq (Var y) right ∷ facts) x each fine =
-      either (y == x) right (solved facts x) P (All-head (IsFact limits params) (Eq (Var y) right) facts each).1 (solved-fine facts x (All-tail (IsFact limits params) (Eq (Var y) right) facts each) fine)
-  solved-fine (Eq (Const n) right ∷ facts) x each fine = solved-fine facts x (All-tail (IsFact limits params) (Eq (Const n) right) facts each) fine
-  solved-fine (Ne left right ∷ facts) x each fine = solved-fine facts x (All-tail (IsFact limits params) (Ne left right) facts each) fine
-
-  pub solved_exp-fine : (facts : List Fact) (e : Exp) → All (IsFact limits params) facts → P e → P (solved_exp facts e)
-  solved_exp-fine facts (Var x) each fine = solved-fine facts x each fine
-  solved_exp-fine facts (Const n) each fine = fine
+  pub read_through-fine : (facts : List Fact) (e : Exp) → All (IsFact limits params) facts → P e → P (read_through facts e)
+  read_through-fine facts e each fine = read_through-each (IsExp limits params) facts (All-weaker (IsFact limits params) (EachInFact (IsExp limits params)) (to_each limits structs params) facts each) e fine
 
   bound_to-fine : (binding : List (ℕ × Exp)) (x : ℕ) → All (IsBound limits params) binding → P (Var x) → P (or_itself x (bound_to binding x))
   bound_to-fine [] x each fine = fine
@@ -85,7 +78,7 @@ module _ (limits : Limits) (structs : List StructDef) (params : ℕ) where
       pub owed : All IsOwed m.owed
 
     pub read-fine : (m : Matching) → Fine m → (e : Exp) → P e → P (read rules.facts m.binding e)
-    read-fine m fine e is = solved_exp-fine rules.facts (bound_exp m.binding e) facts_fine (bound_exp-fine m.binding e fine.binding is)
+    read-fine m fine e is = read_through-fine rules.facts (bound_exp m.binding e) facts_fine (bound_exp-fine m.binding e fine.binding is)
 
     reads-fine : (m : Matching) → Fine m → (es : List Exp) → All P es → All P (map (read rules.facts m.binding) es)
     reads-fine m fine es each = All-map P (read rules.facts m.binding) es (All-weaker P (λ e. P (read rules.facts m.binding e)) (read-fine m fine) es each)
@@ -106,7 +99,7 @@ module _ (limits : Limits) (structs : List StructDef) (params : ℕ) where
           left = fine.left;
           fewer = fine.fewer;
           missing = fine.missing;
-          binding = All-push_one (IsBound limits params) m.binding (x, f) fine.binding (one_fine rules.flexible x flexible_fine flexible, is);
+          binding = All-push (IsBound limits params) m.binding (x, f) fine.binding (one_fine rules.flexible x flexible_fine flexible, is);
           owed = fine.owed;
         }
     bind-fine m (Const n) f fine unbound is = fine
@@ -117,7 +110,7 @@ module _ (limits : Limits) (structs : List StructDef) (params : ℕ) where
       fewer = fine.fewer;
       missing = fine.missing;
       binding = fine.binding;
-      owed = All-push_one IsOwed m.owed (record { number = number; want = want; have = have }) fine.owed (one, other);
+      owed = All-push IsOwed m.owed (record { number = number; want = want; have = have }) fine.owed (one, other);
     }
 
     take_atom-fine : (m : Matching) (place : ℕ) (atom : Atom) → slice_get m.left place ≡ Some atom → Fine m → Fine (take_atom m place atom)
@@ -133,7 +126,7 @@ module _ (limits : Limits) (structs : List StructDef) (params : ℕ) where
 
     unfold-fine : (m : Matching) (place : ℕ) (kind : List ℕ) (link : ℕ) (from to : Exp) (names : List ℕ) → slice_get m.left place ≡ Some (Seg kind link from to) → All (MayOccur limits params) names → Fine m → Fine (unfold_at m place kind link from to names)
     unfold-fine m place kind link from to names is named fine =
-        let seg : IsAtom limits structs params (Seg kind link from to) = All-at (IsAtom limits structs params) m.left place (Seg kind link from to) is fine.left in
+        let seg : IsAtom limits structs params (Seg kind link from to) = All-get (IsAtom limits structs params) m.left place (Seg kind link from to) is fine.left in
         let next : P (slice_index_or (map Var names) link (Const (pos 0))) = All-or P (map Var names) link (Const (pos 0)) tt (All-map P Var names named) in
         let shorter : length (remove m.left place) + 1 ≡ length m.left = length-remove m.left place (slice_get_within m.left place (Seg kind link from to) is) in
         let longer : length (insert (remove m.left place) place (Seg kind link (slice_index_or (map Var names) link (Const (pos 0))) to)) ≤ length (remove m.left place) + 1 =
@@ -157,7 +150,7 @@ module _ (limits : Limits) (structs : List StructDef) (params : ℕ) where
         subst (λ (k : Matching). Fine k) (sym (unless-on rules number (with_missing_fact m fact) n h)) (record {
           left = fine.left;
           fewer = fine.fewer;
-          missing = record { facts = All-push_one (IsFact limits params) m.missing.pure fact fine.missing.facts is; atoms = fine.missing.atoms };
+          missing = record { facts = All-push (IsFact limits params) m.missing.pure fact fine.missing.facts is; atoms = fine.missing.atoms };
           binding = fine.binding;
           owed = fine.owed;
         })
@@ -167,7 +160,7 @@ module _ (limits : Limits) (structs : List StructDef) (params : ℕ) where
         subst (λ (k : Matching). Fine k) (sym (unless-on rules number (with_missing_atom m atom) n h)) (record {
           left = fine.left;
           fewer = fine.fewer;
-          missing = record { facts = fine.missing.facts; atoms = All-push_one (IsAtom limits structs params) m.missing.spatial atom fine.missing.atoms is };
+          missing = record { facts = fine.missing.facts; atoms = All-push (IsAtom limits structs params) m.missing.spatial atom fine.missing.atoms is };
           binding = fine.binding;
           owed = fine.owed;
         })
@@ -249,7 +242,7 @@ module _ (limits : Limits) (structs : List StructDef) (params : ℕ) where
         parted-fine m n place (Some (Seg kind' link from to)) is may fine h = by_turn (miss_fact rules number (Ne from to) m) refl h
           where
             seg : IsAtom limits structs params (Seg kind' link from to)
-            seg = All-at (IsAtom limits structs params) m.left place (Seg kind' link from to) is fine.left
+            seg = All-get (IsAtom limits structs params) m.left place (Seg kind' link from to) is fine.left
 
             by_turn : (r : Turned) → miss_fact rules number (Ne from to) m ≡ r → and_then (λ k. take_unfolded rules number wants k place (Some (Seg kind' link from to))) r ≡ On n → Fine n
             by_turn (On k) f g =
@@ -272,7 +265,7 @@ module _ (limits : Limits) (structs : List StructDef) (params : ℕ) where
         take_cell-fine m n place None is fine h = cc
         take_cell-fine m n place (Some (Points at kind' haves)) is fine h =
             let next : Matching = take_atom m place (Points at kind' haves) in
-            let cell : IsAtom limits structs params (Points at kind' haves) = All-at (IsAtom limits structs params) m.left place (Points at kind' haves) is fine.left in
+            let cell : IsAtom limits structs params (Points at kind' haves) = All-get (IsAtom limits structs params) m.left place (Points at kind' haves) is fine.left in
             let taken : On (take_fields rules number wants haves next) ≡ On n = on_then (bytes_eq kind' kind) (On (take_fields rules number wants haves next)) number n h in
             same-fine (take_fields rules number wants haves next) n (take_fields-fine wants haves next wants_fine cell.2 (take_atom-fine m place (Points at kind' haves) is fine)) taken
         take_cell-fine m n place (Some (Seg kind' link from to)) is fine h = cc
@@ -305,7 +298,7 @@ module _ (limits : Limits) (structs : List StructDef) (params : ℕ) where
         piece-fine : (go_on : Exp → Matching → Turned) (m n : Matching) → GoesOn go_on n → (place : ℕ) (o : Option Atom) → slice_get m.left place ≡ o → Fine m → take_piece number link m go_on place o ≡ On n → Fine n
         piece-fine go_on m n later place None is fine h = cc
         piece-fine go_on m n later place (Some atom) is fine h =
-            later (next_of link atom) (take_atom m place atom) (next-fine atom (All-at (IsAtom limits structs params) m.left place atom is fine.left)) (take_atom-fine m place atom is fine) h
+            later (next_of link atom) (take_atom m place atom) (next-fine atom (All-get (IsAtom limits structs params) m.left place atom is fine.left)) (take_atom-fine m place atom is fine) h
 
         piece_at-fine : (go_on : Exp → Matching → Turned) (otherwise : Turned) (m n : Matching) → GoesOn go_on n → Fine m → (otherwise ≡ On n → Fine n) → (p : Option ℕ) → piece_at number link m go_on otherwise p ≡ On n → Fine n
         piece_at-fine go_on otherwise m n later fine other None h = other h
@@ -342,7 +335,7 @@ module _ (limits : Limits) (structs : List StructDef) (params : ℕ) where
                   by_atom : (place : ℕ) (o : Option Atom) → slice_get m.left place ≡ o → take_piece number link m (λ next k. On (bind k to next)) place o ≡ On n → Fine n
                   by_atom place None there j = cc
                   by_atom place (Some atom) there j =
-                      bound-fine (next_of link atom) (take_atom m place atom) n unbound (next-fine atom (All-at (IsAtom limits structs params) m.left place atom there fine.left)) (take_atom-fine m place atom there fine) j
+                      bound-fine (next_of link atom) (take_atom m place atom) n unbound (next-fine atom (All-get (IsAtom limits structs params) m.left place atom there fine.left)) (take_atom-fine m place atom there fine) j
 
                   by_place : (p : Option ℕ) → piece_at number link m (λ next k. On (bind k to next)) (bind_end rules number kind link to e m rules.mode) p ≡ On n → Fine n
                   by_place None j = bind_end-fine e m n rules.mode unbound may is fine j
@@ -405,11 +398,11 @@ module _ (limits : Limits) (structs : List StructDef) (params : ℕ) where
     want_owed-fine owed m n is fine h = by_test (is_unbound rules.flexible m.binding owed.want) refl h
       where
         by_test : (b : Bool) → is_unbound rules.flexible m.binding owed.want ≡ b →
-            (if b then On (bind m owed.want (solved_exp rules.facts owed.have)) else want_same rules owed.number (read rules.facts m.binding owed.want) (solved_exp rules.facts owed.have) m) ≡ On n → Fine n
+            (if b then On (bind m owed.want (read_through rules.facts owed.have)) else want_same rules owed.number (read rules.facts m.binding owed.want) (read_through rules.facts owed.have) m) ≡ On n → Fine n
         by_test true f g =
-            same-fine (bind m owed.want (solved_exp rules.facts owed.have)) n (bind-fine m owed.want (solved_exp rules.facts owed.have) fine f (solved_exp-fine rules.facts owed.have facts_fine is.1)) g
+            same-fine (bind m owed.want (read_through rules.facts owed.have)) n (bind-fine m owed.want (read_through rules.facts owed.have) fine f (read_through-fine rules.facts owed.have facts_fine is.1)) g
         by_test false f g =
-            want_same-fine owed.number (read rules.facts m.binding owed.want) (solved_exp rules.facts owed.have) m n (read-fine m fine owed.want is.0) (solved_exp-fine rules.facts owed.have facts_fine is.1) fine g
+            want_same-fine owed.number (read rules.facts m.binding owed.want) (read_through rules.facts owed.have) m n (read-fine m fine owed.want is.0) (read_through-fine rules.facts owed.have facts_fine is.1) fine g
 
     pub want_all_owed-fine : (all : List Owed) (m n : Matching) → All IsOwed all → Fine m → want_all_owed rules all m ≡ On n → Fine n
     want_all_owed-fine [] m n each fine h = same-fine m n fine h

@@ -15,6 +15,7 @@ use Rattle.shape_data.specs.declared.symbolic.Exp.{Exp}
 use Rattle.shape_data.specs.Meaning.{value, HoldsAtom, HoldsAtoms}
 use Rattle.shape_laws.proofs.Atoms.{HoldsAtoms-restore}
 use Rattle.shape_laws.proofs.Chains.{IsSegment}
+use Rattle.sym_pure.proofs.EachLaws.{All-get, All-remove}
 use Rattle.sym_matching.specs.declared.matching.Matching.{Matching}
 use Rattle.sym_matching.specs.declared.matching.Turned.{Turned}
 use Rattle.sym_matching.specs.declared.matching.Turned.TheVariants.{On, Stuck}
@@ -26,7 +27,6 @@ use Rattle.sym_matching.specs.WantedAtoms.{want_atom, has_source, has_end, or_el
 use Rattle.sym_matching.specs.WantedSegments.{reach, walk}
 use Rattle.sym_matching.proofs.CellLaws.{IsWantedCell, found, want_cell-step}
 use Rattle.sym_matching.proofs.FactLaws.{now_later}
-use Rattle.sym_matching.proofs.KeptLaws.{All-at, All-remove}
 use Rattle.sym_matching.proofs.SegmentLaws.{IsChainTo, IsChainToWanted, reach-step, walk-step}
 use Rattle.sym_matching.proofs.StandLaws.{Passes-none}
 use Rattle.sym_matching.proofs.StepLaws.{Both, Part, Step, Step-from_pass, Step-like, Step-then}
@@ -111,7 +111,7 @@ module _ (structs : List StructDef) (rules : Rules) where
     after_one : (place : ℕ) (w : Wanted) → next_place rules m wanted ≡ Some place → slice_get wanted place ≡ Some w → (k : Matching) → want_atom rules w.number w.atom m ≡ On k → want_atoms turns rules (remove wanted place) k ≡ On n →
         Step structs rules m n (HoldWanted structs wanted)
     after_one place w is there k e f =
-        let fits : FitsAtom structs w.atom = All-at (λ (v : Wanted). FitsAtom structs v.atom) wanted place w there fit in
+        let fits : FitsAtom structs w.atom = All-get (λ (v : Wanted). FitsAtom structs v.atom) wanted place w there fit in
         let step = want_atom-step w.number w.atom m k fits (next_known m wanted place w is there) e in
         let within : place < length wanted = slice_get_within wanted place w there in
         let shorter : length (remove wanted place) + 1 ≡ length wanted = length-remove wanted place within in

@@ -23,9 +23,10 @@ use Rattle.sym_matching.specs.Rooms.{fields_of, fields_of_all, fields_wanted}
 use Rattle.sym_matching.specs.Steps.{Rules, and_then}
 use Rattle.sym_matching.specs.WantedAtoms.{first_number, next_place, want_at, want_atom, want_atoms, want_one, wanted_from}
 use Rattle.sym_matching.specs.WantedFacts.{want_all_owed, want_facts}
-use Rattle.sym_matching.proofs.AnswerLaws.{fields-from, fields-removed}
+use Rattle.sym_matching.proofs.AnswerLaws.{fields-from}
 use Rattle.sym_matching.proofs.CountSteps.{Makes, makes-both, makes-none, unbound-few, unbound_of, want_all_owed-makes, want_atom-makes, want_facts-makes}
 use Rattle.sym_matching.proofs.MissingLaws.{subtract_misses_nothing}
+use Rattle.sym_matching.proofs.RoomSteps.{fields-removed}
 
 -- ---- the wanted atoms
 

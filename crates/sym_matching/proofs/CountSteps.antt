@@ -6,6 +6,7 @@ use Rattle.std.specs.declared.option.Option.{Option}
 use Rattle.std.specs.declared.option.Option.TheVariants.{None, Some}
 use Rattle.std.proofs.Common.{refl, sym, ap, subst, ◌∙◌, arith}
 use Rattle.std.proofs.lemmas.Bool.{and_parts, eq-eqb, eqb-true}
+use Rattle.std.proofs.lemmas.List.{length_push}
 use Rattle.std.proofs.lemmas.List.Edits.{length-remove}
 use Rattle.std.proofs.lemmas.Option.{slice_get_within}
 use Rattle.shape_data.specs.declared.symbolic.Atom.{Atom}
@@ -17,6 +18,7 @@ use Rattle.shape_data.specs.declared.symbolic.Fact.TheVariants.{Eq, Ne}
 use Rattle.sym_laws.specs.Expressions.{same_exp}
 use Rattle.sym_laws.specs.Fresh.{is_one_of}
 use Rattle.sym_canon.specs.Placing.{is_cell_at}
+use Rattle.sym_pure.specs.Equations.{read_through}
 use Rattle.sym_pure.specs.Sources.{differs}
 use Rattle.sym_matching.specs.declared.matching.Matching.{Matching}
 use Rattle.sym_matching.specs.declared.matching.Mode.{Mode}
@@ -25,7 +27,7 @@ use Rattle.sym_matching.specs.declared.matching.Owed.{Owed}
 use Rattle.sym_matching.specs.declared.matching.Turned.{Turned}
 use Rattle.sym_matching.specs.declared.matching.Turned.TheVariants.{On, Stuck}
 use Rattle.sym_matching.specs.NewVariables.{fresh_variables}
-use Rattle.sym_matching.specs.Reading.{bound_to, is_logical, is_logical_variable, is_none, is_unbound, read, solved_exp}
+use Rattle.sym_matching.specs.Reading.{bound_to, is_logical, is_logical_variable, is_none, is_unbound, read}
 use Rattle.sym_matching.specs.Rooms.{fields_of}
 use Rattle.sym_matching.specs.Steps.{Rules, and_then, bind, bind_new, miss_atom, miss_fact, owe, take_atom, unfold_at, whole, with_missing_atom, with_missing_fact}
 use Rattle.sym_matching.specs.WantedAtoms.{want_atom}
@@ -35,10 +37,6 @@ use Rattle.sym_matching.specs.WantedSegments.{bind_end, miss_segment, next_of, p
 use Rattle.sym_matching.proofs.ReadingLaws.{bound_to-new, bound_to-push, none_of}
 use Rattle.sym_matching.proofs.RoomSteps.{on_then}
 use Rattle.sym_matching.proofs.SettleLaws.{unless-on}
-
-pub longer : {A : Type 0} (xs : List A) (x : A) → length (xs ++ x ∷ []) ≡ length xs + 1
-longer [] x = refl
-longer (first ∷ xs) x = let more : length (xs ++ x ∷ []) ≡ length xs + 1 = longer xs x in omega arith
 
 -- ---- the flexible variables that are unbound
 
@@ -142,14 +140,14 @@ module _ (rules : Rules) where
   bind-makes : (m : Matching) (e f : Exp) → is_unbound rules.flexible m.binding e ≡ true → Makes rules 0 0 0 m (bind m e f)
   bind-makes m (Var x) f unbound =
       let parts = and_parts (is_one_of rules.flexible x) (is_none (bound_to m.binding x)) unbound in
-      let more : length (m.binding ++ (x, f) ∷ []) ≡ length m.binding + 1 = longer m.binding (x, f) in
+      let more : length (m.binding ++ (x, f) ∷ []) ≡ length m.binding + 1 = length_push m.binding (x, f) in
       let less : unbound_of rules.flexible (m.binding ++ (x, f) ∷ []) + 1 ≤ unbound_of rules.flexible m.binding = unbound-less rules.flexible m.binding x f parts.0 parts.1 in
       record { bindings = omega arith; left = omega arith; missing_atoms = omega arith; missing_parts = omega arith; owed = omega arith }
   bind-makes m (Const n) f unbound = cc
 
   owe-makes : (m : Matching) (number : ℕ) (want have : Exp) → Makes rules 0 0 1 m (owe m number want have)
   owe-makes m number want have =
-      let more : length (m.owed ++ record { number = number; want = want; have = have } ∷ []) ≡ length m.owed + 1 = longer m.owed (record { number = number; want = want; have = have }) in
+      let more : length (m.owed ++ record { number = number; want = want; have = have } ∷ []) ≡ length m.owed + 1 = length_push m.owed (record { number = number; want = want; have = have }) in
       record { bindings = omega arith; left = omega arith; missing_atoms = omega arith; missing_parts = omega arith; owed = omega arith }
 
   take_atom-makes : (m : Matching) (place : ℕ) (atom : Atom) → slice_get m.left place ≡ Some atom → Makes rules 0 0 0 m (take_atom m place atom)
@@ -177,13 +175,13 @@ module _ (rules : Rules) where
 
   miss_fact-makes : (m n : Matching) (number : ℕ) (fact : Fact) → miss_fact rules number fact m ≡ On n → Makes rules 0 1 0 m n
   miss_fact-makes m n number fact h =
-      let more : length (m.missing.pure ++ fact ∷ []) ≡ length m.missing.pure + 1 = longer m.missing.pure fact in
+      let more : length (m.missing.pure ++ fact ∷ []) ≡ length m.missing.pure + 1 = length_push m.missing.pure fact in
       let made : Makes rules 0 1 0 m (with_missing_fact m fact) = record { bindings = omega arith; left = omega arith; missing_atoms = omega arith; missing_parts = omega arith; owed = omega arith } in
       subst (λ (k : Matching). Makes rules 0 1 0 m k) (sym (unless-on rules number (with_missing_fact m fact) n h)) made
 
   miss_atom-makes : (m n : Matching) (number : ℕ) (atom : Atom) → miss_atom rules number atom m ≡ On n → Makes rules 1 1 0 m n
   miss_atom-makes m n number atom h =
-      let more : length (m.missing.spatial ++ atom ∷ []) ≡ length m.missing.spatial + 1 = longer m.missing.spatial atom in
+      let more : length (m.missing.spatial ++ atom ∷ []) ≡ length m.missing.spatial + 1 = length_push m.missing.spatial atom in
       let made : Makes rules 1 1 0 m (with_missing_atom m atom) = record { bindings = omega arith; left = omega arith; missing_atoms = omega arith; missing_parts = omega arith; owed = omega arith } in
       subst (λ (k : Matching). Makes rules 1 1 0 m k) (sym (unless-on rules number (with_missing_atom m atom) n h)) made
 
@@ -393,9 +391,9 @@ module _ (rules : Rules) where
   want_owed-makes owed m n h = by_test (is_unbound rules.flexible m.binding owed.want) refl h
     where
       by_test : (b : Bool) → is_unbound rules.flexible m.binding owed.want ≡ b →
-          (if b then On (bind m owed.want (solved_exp rules.facts owed.have)) else want_same rules owed.number (read rules.facts m.binding owed.want) (solved_exp rules.facts owed.have) m) ≡ On n → Makes rules 0 1 0 m n
-      by_test true f g = bind_one-makes owed.number owed.want (solved_exp rules.facts owed.have) m n f g
-      by_test false f g = want_same-makes owed.number (read rules.facts m.binding owed.want) (solved_exp rules.facts owed.have) m n g
+          (if b then On (bind m owed.want (read_through rules.facts owed.have)) else want_same rules owed.number (read rules.facts m.binding owed.want) (read_through rules.facts owed.have) m) ≡ On n → Makes rules 0 1 0 m n
+      by_test true f g = bind_one-makes owed.number owed.want (read_through rules.facts owed.have) m n f g
+      by_test false f g = want_same-makes owed.number (read rules.facts m.binding owed.want) (read_through rules.facts owed.have) m n g
 
   pub want_all_owed-makes : (all : List Owed) (m n : Matching) → want_all_owed rules all m ≡ On n → Makes rules 0 (length all) 0 m n
   want_all_owed-makes [] m n h = same-makes 0 0 0 m n h

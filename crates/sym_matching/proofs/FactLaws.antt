@@ -9,6 +9,7 @@ use Rattle.shape_data.specs.declared.symbolic.Fact.TheVariants.{Eq, Ne}
 use Rattle.shape_data.specs.Meaning.{value, IsTrueFact, AreTrueFacts}
 use Rattle.sym_laws.specs.Expressions.{same_exp}
 use Rattle.sym_laws.proofs.ExpressionLemmas.{same_exp-equal}
+use Rattle.sym_pure.specs.Equations.{read_through}
 use Rattle.sym_pure.specs.Sources.{differs}
 use Rattle.sym_matching.specs.declared.matching.Matching.{Matching}
 use Rattle.sym_matching.specs.declared.matching.Mode.{Mode}
@@ -17,10 +18,10 @@ use Rattle.sym_matching.specs.declared.matching.Owed.{Owed}
 use Rattle.sym_matching.specs.declared.matching.Turned.{Turned}
 use Rattle.sym_matching.specs.declared.matching.Turned.TheVariants.{On, Stuck}
 use Rattle.sym_matching.specs.Laws.{Keeps}
-use Rattle.sym_matching.specs.Reading.{read, solved_exp, is_unbound, is_logical, through}
+use Rattle.sym_matching.specs.Reading.{read, is_unbound, is_logical, through}
 use Rattle.sym_matching.specs.Steps.{Rules, whole, bind, and_then, unless_contradiction, with_missing_fact}
 use Rattle.sym_matching.specs.WantedFacts.{miss_equation, want_same, want_equal, miss_disequality, want_apart, want_fact, want_facts, want_owed, want_all_owed}
-use Rattle.sym_matching.proofs.ReadingLaws.{read_later, value-solved_exp}
+use Rattle.sym_matching.proofs.ReadingLaws.{read_later, value-read_through}
 use Rattle.sym_matching.proofs.SettleLaws.{Settles, Settles-bind, Settles-like, Settles-miss, Settles-none, Settles-then, differs-apart, unless-on}
 use Rattle.sym_matching.proofs.StandLaws.{AreTrueOwed}
 
@@ -60,15 +61,15 @@ module _ (structs : List StructDef) (rules : Rules) where
     where
       by_unbound : (b : Bool) → is_unbound rules.flexible m.binding one.want ≡ b → Settles structs rules m n (λ s later. value (through later s) one.want ≡ value s one.have)
       by_unbound true e =
-          let is_on : On (bind m one.want (solved_exp rules.facts one.have)) ≡ On n = rw e at h in
-          let is_n : n ≡ bind m one.want (solved_exp rules.facts one.have) = cc in
-          rw is_n (Settles-like structs rules m (bind m one.want (solved_exp rules.facts one.have)) (λ s later. value (through later s) one.want ≡ value s (solved_exp rules.facts one.have)) (λ s later. value (through later s) one.want ≡ value s one.have)
-          (λ s later facts keeps same. same ∙ value-solved_exp rules.facts s one.have facts) (Settles-bind structs rules m one.want (solved_exp rules.facts one.have) e))
+          let is_on : On (bind m one.want (read_through rules.facts one.have)) ≡ On n = rw e at h in
+          let is_n : n ≡ bind m one.want (read_through rules.facts one.have) = cc in
+          rw is_n (Settles-like structs rules m (bind m one.want (read_through rules.facts one.have)) (λ s later. value (through later s) one.want ≡ value s (read_through rules.facts one.have)) (λ s later. value (through later s) one.want ≡ value s one.have)
+          (λ s later facts keeps same. same ∙ value-read_through rules.facts s one.have facts) (Settles-bind structs rules m one.want (read_through rules.facts one.have) e))
       by_unbound false e =
-          let is_on : want_same rules one.number (read rules.facts m.binding one.want) (solved_exp rules.facts one.have) m ≡ On n = rw e at h in
-          let step = want_same-settles one.number (read rules.facts m.binding one.want) (solved_exp rules.facts one.have) m n is_on in
-          Settles-like structs rules m n (λ s later. value s (read rules.facts m.binding one.want) ≡ value s (solved_exp rules.facts one.have)) (λ s later. value (through later s) one.want ≡ value s one.have)
-          (λ s later facts keeps same. sym (now_later m n s later one.want e step.keeps keeps facts) ∙ same ∙ value-solved_exp rules.facts s one.have facts) step
+          let is_on : want_same rules one.number (read rules.facts m.binding one.want) (read_through rules.facts one.have) m ≡ On n = rw e at h in
+          let step = want_same-settles one.number (read rules.facts m.binding one.want) (read_through rules.facts one.have) m n is_on in
+          Settles-like structs rules m n (λ s later. value s (read rules.facts m.binding one.want) ≡ value s (read_through rules.facts one.have)) (λ s later. value (through later s) one.want ≡ value s one.have)
+          (λ s later facts keeps same. sym (now_later m n s later one.want e step.keeps keeps facts) ∙ same ∙ value-read_through rules.facts s one.have facts) step
 
   pub want_all_owed-settles : (owed : List Owed) (m n : Matching) → want_all_owed rules owed m ≡ On n → Settles structs rules m n (λ s later. AreTrueOwed s later owed)
   want_all_owed-settles [] m n h = let is_n : n ≡ m = cc in rw is_n (Settles-none structs rules m (λ s later. Unit {0}) (λ last s all left gone stands later keeps. tt))

@@ -1,7 +1,6 @@
 -- What keeps its value: the expressions whose variables are logical or in use.
-use Rattle.std.specs.Prelude.{◌≡◌, ℕ, zero, suc, ◌==◌, ltb, ℤ, Bool, true, List, [], ◌∷◌, ◌++◌, map, take, drop, All, slice_get, slice_index_or}
-use Rattle.std.specs.List.{remove, insert}
-use Rattle.std.specs.declared.option.Option.TheVariants.{Some}
+use Rattle.std.specs.Prelude.{◌≡◌, ℕ, zero, suc, ◌==◌, ltb, ℤ, Bool, true, List, [], ◌∷◌, ◌++◌, map, take, drop, All, slice_index_or}
+use Rattle.std.specs.List.{insert}
 use Rattle.std.proofs.Common.{refl, sym, ap₂, ◌∙◌, ⊎_elim}
 use Rattle.std.proofs.lemmas.Bool.{eq-eqb, lt-ltb, or_cases, or_left, or_right}
 use Rattle.std.proofs.lemmas.List.Elements.{All-nil, All-cons, All-head, All-tail, All-append, All-take, All-drop, All-weaker}
@@ -22,19 +21,8 @@ use Rattle.sym_matching.specs.Reading.{is_logical}
 
 -- ---- lists
 
-pub All-remove : {X : Type 0} (P : X → Type 0) (xs : List X) (place : ℕ) → All P xs → All P (remove xs place)
-All-remove P xs place h = All-append P (take place xs) (drop (suc place) xs) (All-take P place xs h) (All-drop P (suc place) xs h)
-
 pub All-insert : {X : Type 0} (P : X → Type 0) (xs : List X) (place : ℕ) (x : X) → P x → All P xs → All P (insert xs place x)
 All-insert P xs place x one h = All-append P (take place xs) (x ∷ drop place xs) (All-take P place xs h) (All-cons P x (drop place xs) one (All-drop P place xs h))
-
-pub All-push_one : {X : Type 0} (P : X → Type 0) (xs : List X) (x : X) → All P xs → P x → All P (xs ++ x ∷ [])
-All-push_one P xs x h one = All-append P xs (x ∷ []) h (All-cons P x [] one (All-nil P))
-
-pub All-at : {X : Type 0} (P : X → Type 0) (xs : List X) (place : ℕ) (x : X) → slice_get xs place ≡ Some x → All P xs → P x
-All-at P [] place x is h = cc
-All-at P (first ∷ xs) zero x is h = let same : first ≡ x = cc in rw (← same) (All-head P first xs h)
-All-at P (first ∷ xs) (suc place) x is h = All-at P xs place x is (All-tail P first xs h)
 
 pub All-or : {X : Type 0} (P : X → Type 0) (xs : List X) (place : ℕ) (other : X) → P other → All P xs → P (slice_index_or xs place other)
 All-or P [] place other none h = none

@@ -184,7 +184,8 @@ atom_names rules number (Points at kind fields) m n h = cell_place-next rules nu
 atom_names rules number (Seg kind link from to) m n h = want_segment-next rules number kind link (read rules.facts m.binding from) to m n h
 atom_names rules number Junk m n h = let is_n : n ≡ m = cc in same-next 0 m n (ap (λ (j : Matching). j.next) is_n)
 
-names-removed : (wanted : List Wanted) (place : ℕ) (w : Wanted) → slice_get wanted place ≡ Some w → names_wanted wanted ≡ names_of w.atom + names_wanted (remove wanted place)
+-- the wanted atoms may take as many new logical variables as one of them, and the others
+pub names-removed : (wanted : List Wanted) (place : ℕ) (w : Wanted) → slice_get wanted place ≡ Some w → names_wanted wanted ≡ names_of w.atom + names_wanted (remove wanted place)
 names-removed [] place w is = cc
 names-removed (first ∷ others) zero w is = let same : first ≡ w = cc in rw same refl
 names-removed (first ∷ others) (suc place) w is =

@@ -10,8 +10,9 @@ use Rattle.shape_data.specs.declared.symbolic.Fact.{Fact}
 use Rattle.shape_data.specs.declared.symbolic.Fact.TheVariants.{Eq, Ne}
 use Rattle.shape_data.specs.Meaning.{value, AreTrueFacts}
 use Rattle.sym_laws.specs.Fresh.{is_one_of}
+use Rattle.sym_pure.specs.Equations.{read_through, solved}
 use Rattle.sym_matching.specs.Laws.{Keeps, StaysBound}
-use Rattle.sym_matching.specs.Reading.{bound_to, bound_exp, solved, solved_exp, read, is_none, is_unbound, through}
+use Rattle.sym_matching.specs.Reading.{bound_to, bound_exp, read, is_none, is_unbound, through}
 
 pub value-through : (binding : List (ℕ × Exp)) (s : ℕ → ℤ) (e : Exp) → value (through binding s) e ≡ value s (bound_exp binding e)
 value-through binding s (Var x) = refl
@@ -29,9 +30,9 @@ value-solved (Eq (Var y) e ∷ facts) s x holds = by_test (value-solved facts s 
 value-solved (Eq (Const n) e ∷ facts) s x holds = value-solved facts s x holds.1
 value-solved (Ne e f ∷ facts) s x holds = value-solved facts s x holds.1
 
-pub value-solved_exp : (facts : List Fact) (s : ℕ → ℤ) (e : Exp) → AreTrueFacts s facts → value s (solved_exp facts e) ≡ value s e
-value-solved_exp facts s (Var x) holds = value-solved facts s x holds
-value-solved_exp facts s (Const n) holds = refl
+pub value-read_through : (facts : List Fact) (s : ℕ → ℤ) (e : Exp) → AreTrueFacts s facts → value s (read_through facts e) ≡ value s e
+value-read_through facts s (Var x) holds = value-solved facts s x holds
+value-read_through facts s (Const n) holds = refl
 
 pub Keeps-refl : (flexible : List ℕ) (now : List (ℕ × Exp)) → Keeps flexible now now
 Keeps-refl flexible now e h = (h, refl)
@@ -56,7 +57,7 @@ Keeps-stays flexible bound binding keeps x e is =
 pub read_later : (facts : List Fact) (flexible : List ℕ) (now later : List (ℕ × Exp)) (u : ℕ → ℤ) (e : Exp) → is_unbound flexible now e ≡ false → Keeps flexible now later → AreTrueFacts u facts →
     value u (read facts now e) ≡ value (through later u) e
 read_later facts flexible now later u e known keeps true_facts =
-    value-solved_exp facts u (bound_exp now e) true_facts ∙ ap (value u) (sym (keeps e known).1) ∙ sym (value-through later u e)
+    value-read_through facts u (bound_exp now e) true_facts ∙ ap (value u) (sym (keeps e known).1) ∙ sym (value-through later u e)
 
 -- ---- one more variable
 

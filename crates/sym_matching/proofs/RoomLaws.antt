@@ -2,7 +2,7 @@
 use Rattle.std.specs.Prelude.{◌≡◌, ℕ, zero, suc, ◌+◌, ◌*◌, ◌<◌, ◌≤◌, ◌==◌, Bool, true, false, List, [], ◌∷◌, ◌++◌, length, All}
 use Rattle.std.proofs.Common.{refl, sym, ap, ◌∙◌, arith, append_assoc, ⊎_elim}
 use Rattle.std.proofs.lemmas.Bool.{eqb-true, or_cases}
-use Rattle.std.proofs.lemmas.List.{append-nil}
+use Rattle.std.proofs.lemmas.List.{append-nil, length_push}
 use Rattle.std.proofs.lemmas.List.Elements.{All-append, All-cons, All-head, All-nil, All-tail, All-weaker}
 use Rattle.shape_data.specs.declared.symbolic.Atom.{Atom}
 use Rattle.sym_laws.specs.Fresh.{is_one_of}
@@ -50,16 +50,12 @@ room_below limit (suc count) used low room all =
     All-append (λ y. y < limit + 1) used (fresh used ∷ []) (All-weaker (λ y. y < limit) (λ y. y < limit + 1) (λ y h. let more : y < limit + 1 = omega arith in more) used all) (All-cons (λ y. y < limit + 1) (fresh used) [] (omega arith) (All-nil (λ y. y < limit + 1))) in
     All-cons (λ x. x < 4294967296) (fresh used) (fresh_variables count (used ++ fresh used ∷ [])) under (room_below (limit + 1) count (used ++ fresh used ∷ []) (omega arith) (omega arith) grown)
 
-pub length-one_more : (used : List ℕ) (x : ℕ) → length (used ++ x ∷ []) ≡ length used + 1
-length-one_more [] x = refl
-length-one_more (y ∷ used) x = let later : length (used ++ x ∷ []) ≡ length used + 1 = length-one_more used x in omega arith
-
 pub room_of_few : RoomOfFew
 room_of_few zero used room = All-nil (λ x. x < 4294967296)
 room_of_few (suc count) used room =
     let near : fresh used ≤ 65536 + length used = free_near (length used) 65536 used in
     let under : fresh used < 4294967296 = omega arith in
-    let more : length (used ++ fresh used ∷ []) ≡ length used + 1 = length-one_more used (fresh used) in
+    let more : length (used ++ fresh used ∷ []) ≡ length used + 1 = length_push used (fresh used) in
     All-cons (λ x. x < 4294967296) (fresh used) (fresh_variables count (used ++ fresh used ∷ [])) under (room_of_few count (used ++ fresh used ∷ []) (omega arith))
 
 pub variables-append : (one other : ℕ) (used : List ℕ) → fresh_variables (one + other) used ≡ fresh_variables one used ++ fresh_variables other (used ++ fresh_variables one used)

@@ -180,7 +180,8 @@ atom_takes_room rules number Junk m n more h room =
     let is_n : n ≡ m = cc in
     subst (λ (k : Matching). HasRoom more k.used) (sym is_n) (room_less 0 more m.used room)
 
-fields-removed : (wanted : List Wanted) (place : ℕ) (w : Wanted) → slice_get wanted place ≡ Some w → fields_wanted wanted ≡ fields_of w.atom + fields_wanted (remove wanted place)
+-- the wanted atoms have the fields of one of them, and of the others
+pub fields-removed : (wanted : List Wanted) (place : ℕ) (w : Wanted) → slice_get wanted place ≡ Some w → fields_wanted wanted ≡ fields_of w.atom + fields_wanted (remove wanted place)
 fields-removed [] place w is = cc
 fields-removed (first ∷ others) zero w is = let same : first ≡ w = cc in rw same refl
 fields-removed (first ∷ others) (suc place) w is =

@@ -2,6 +2,7 @@
 use Rattle.std.specs.Prelude.{◌≡◌, ℕ, ℤ, Bool, true, false, ◌||◌, List, [], ◌∷◌, ◌++◌}
 use Rattle.std.proofs.Common.{refl, sym, ap, subst, ◌∙◌}
 use Rattle.std.proofs.lemmas.List.{append-nil}
+use Rattle.std.proofs.lemmas.List.Elements.{All-push}
 use Rattle.shape_data.specs.declared.machine.Cell.{Cell}
 use Rattle.shape_data.specs.declared.program.StructDef.{StructDef}
 use Rattle.shape_data.specs.declared.symbolic.Exp.{Exp}
@@ -22,7 +23,7 @@ use Rattle.sym_matching.specs.declared.matching.Turned.TheVariants.{On, Stuck}
 use Rattle.sym_matching.specs.Laws.{Keeps}
 use Rattle.sym_matching.specs.Reading.{is_unbound, through}
 use Rattle.sym_matching.specs.Steps.{Rules, bind, contradicts, unless_contradiction, whole, with_missing_fact}
-use Rattle.sym_matching.proofs.KeptLaws.{IsLogical, AgreesOn-refl, All-push_one}
+use Rattle.sym_matching.proofs.KeptLaws.{IsLogical, AgreesOn-refl}
 use Rattle.sym_matching.proofs.ReadingLaws.{Keeps-refl, Keeps-trans, Keeps-bind, value-through}
 use Rattle.sym_matching.proofs.StandLaws.{Leads, Leads-trans, Misses, Misses-refl, Misses-trans, Stands, Stands-same}
 use Rattle.sym_matching.proofs.StepLaws.{Apart, Both, Goes, Part, Step, Step-like, Step-then}
@@ -126,7 +127,7 @@ module _ (structs : List StructDef) (rules : Rules) where
     keeps = Keeps-refl rules.flexible m.binding;
     misses = record {
       grows = record { facts = fact ∷ []; facts_are = refl; atoms = []; atoms_are = sym (append-nil m.missing.spatial) };
-      logical = λ h. record { facts = All-push_one (EachInFact IsLogical) m.missing.pure fact h.facts logical; atoms = h.atoms };
+      logical = λ h. record { facts = All-push (EachInFact IsLogical) m.missing.pure fact h.facts logical; atoms = h.atoms };
       nothing = λ other. cc;
     };
     told = λ last s all left gone leads stands later keeps. missing_true m.missing last fact s leads stands.missing;

@@ -6,7 +6,7 @@ use Rattle.std.specs.Option.{IsSomeAnd}
 use Rattle.std.specs.declared.option.Option.{Option}
 use Rattle.std.specs.declared.option.Option.TheVariants.{None, Some}
 use Rattle.std.proofs.lemmas.List.{append_cancel_left, append-nil}
-use Rattle.std.proofs.lemmas.List.Elements.{All-append}
+use Rattle.std.proofs.lemmas.List.Elements.{All-append, All-push}
 use Rattle.shape_data.specs.declared.machine.Cell.{Cell}
 use Rattle.shape_data.specs.declared.program.StructDef.{StructDef}
 use Rattle.shape_data.specs.declared.symbolic.Atom.{Atom}
@@ -21,12 +21,13 @@ use Rattle.shape_laws.proofs.Chains.{IsSegment-first, link-value}
 use Rattle.shape_laws.proofs.Sums.{IsSum-sym, IsSum-unit, IsSum-rebuild, IsSum-to_left, IsSum-to_right}
 use Rattle.sym_laws.specs.Each.{EachInAtom}
 use Rattle.sym_laws.proofs.OrderLemmas.{same-middle}
+use Rattle.sym_pure.proofs.EachLaws.{All-get, All-remove}
 use Rattle.sym_matching.specs.declared.matching.Matching.{Matching}
 use Rattle.sym_matching.specs.declared.matching.Mode.TheVariants.{Abduce}
 use Rattle.sym_matching.specs.Laws.{AgreesOn, FitsKind, Keeps}
 use Rattle.sym_matching.specs.NewVariables.{fresh_variables}
 use Rattle.sym_matching.specs.Steps.{Rules, take_atom, unfold_at, with_missing_atom}
-use Rattle.sym_matching.proofs.KeptLaws.{IsKept, IsKept-more, IsLogical, Within, AgreesOn-refl, AgreesOn-trans, AreTrueFacts-alike, HoldsAtom-alike, HoldsAtoms-alike, All-at, All-insert, All-or, All-push_one, All-remove, each-atom, each-atoms, each-facts, kept-names, logical-kept, one_of-left, one_of-right, value-kept}
+use Rattle.sym_matching.proofs.KeptLaws.{IsKept, IsKept-more, IsLogical, Within, AgreesOn-refl, AgreesOn-trans, AreTrueFacts-alike, HoldsAtom-alike, HoldsAtoms-alike, All-insert, All-or, each-atom, each-atoms, each-facts, kept-names, logical-kept, one_of-left, one_of-right, value-kept}
 use Rattle.sym_matching.proofs.NewVariableLaws.{fresh_values, with_values}
 use Rattle.sym_matching.proofs.ReadingLaws.{Keeps-refl, Keeps-trans}
 use Rattle.sym_matching.proofs.StandLaws.{AreTrueOwed, Leads, Leads-trans, Misses, Misses-refl, Misses-trans, Passes, Stands, Stands-agree, Stands-pass, come_logical}
@@ -111,7 +112,7 @@ module _ (structs : List StructDef) (rules : Rules) where
       goes last s all left gone leads stands =
           let split = HoldsAtoms-take structs s m.left stands.leads.atoms place atom is stands.left_holds in
           let turned = IsSum-to_right stands.sum (IsSum-sym split.2) in
-          let kept : EachInAtom (IsKept m.used) atom = All-at (EachInAtom (IsKept m.used)) m.left place atom is stands.left_kept in
+          let kept : EachInAtom (IsKept m.used) atom = All-get (EachInAtom (IsKept m.used)) m.left place atom is stands.left_kept in
           record {
             t = s;
             own = split.0;
@@ -128,7 +129,7 @@ module _ (structs : List StructDef) (rules : Rules) where
               gone_holds = pushed structs s m.gone atom turned.2 stands.gone_holds split.3;
               facts_kept = stands.facts_kept;
               left_kept = All-remove (EachInAtom (IsKept m.used)) m.left place stands.left_kept;
-              gone_kept = All-push_one (EachInAtom (IsKept m.used)) m.gone atom stands.gone_kept kept;
+              gone_kept = All-push (EachInAtom (IsKept m.used)) m.gone atom stands.gone_kept kept;
               last_logical = stands.last_logical;
             };
             wanted = λ u later agree keeps h. HoldsAtom-alike (IsKept m.used) s u (value-kept m.used s u agree) structs atom split.0 kept split.3;
@@ -143,7 +144,7 @@ module _ (structs : List StructDef) (rules : Rules) where
     owes = λ u later h. h;
     misses = record {
       grows = record { facts = []; facts_are = sym (append-nil m.missing.pure); atoms = atom ∷ []; atoms_are = refl };
-      logical = λ h. record { facts = h.facts; atoms = All-push_one (EachInAtom IsLogical) m.missing.spatial atom h.atoms logical };
+      logical = λ h. record { facts = h.facts; atoms = All-push (EachInAtom IsLogical) m.missing.spatial atom h.atoms logical };
       nothing = λ other. cc;
     };
     goes = goes;
@@ -175,7 +176,7 @@ module _ (structs : List StructDef) (rules : Rules) where
               gone_holds = pushed structs s m.gone atom turned.2 stands.gone_holds split.3;
               facts_kept = stands.facts_kept;
               left_kept = stands.left_kept;
-              gone_kept = All-push_one (EachInAtom (IsKept m.used)) m.gone atom stands.gone_kept kept;
+              gone_kept = All-push (EachInAtom (IsKept m.used)) m.gone atom stands.gone_kept kept;
               last_logical = stands.last_logical;
             };
             wanted = λ u later agree keeps h. HoldsAtom-alike (IsKept m.used) s u (value-kept m.used s u agree) structs atom split.0 kept split.3;
@@ -216,7 +217,7 @@ module _ (structs : List StructDef) (rules : Rules) where
         let again = Stands-agree structs rules last s t m all left gone agrees stands in
         let parts = IsSum-to_right split.2 first.2 in
         let turned = IsSum-to_right stands.sum (IsSum-sym parts.1) in
-        let seg_kept : EachInAtom (IsKept m.used) (Seg kind link from to) = All-at (EachInAtom (IsKept m.used)) m.left place (Seg kind link from to) is stands.left_kept in
+        let seg_kept : EachInAtom (IsKept m.used) (Seg kind link from to) = All-get (EachInAtom (IsKept m.used)) m.left place (Seg kind link from to) is stands.left_kept in
         let from_is : value t from ≡ value s from = value-kept m.used s t agrees from seg_kept.0 in
         let to_is : value t to ≡ value s to = value-kept m.used s t agrees to seg_kept.1 in
         let next_is : slice_index_or cell.fields link (pos 0) ≡ value t (slice_index_or (map Var xs) link (Const (pos 0))) = ap (λ fs. slice_index_or fs link (pos 0)) (sym fields_are) ∙ link-value t (map Var xs) link in
@@ -243,7 +244,7 @@ module _ (structs : List StructDef) (rules : Rules) where
             facts_kept = each-facts (IsKept m.used) (IsKept (m.used ++ xs)) (IsKept-more m.used (m.used ++ xs) old) rules.facts stands.facts_kept;
             left_kept = All-insert (EachInAtom (IsKept (m.used ++ xs))) (remove m.left place) place (Seg kind link (slice_index_or (map Var xs) link (Const (pos 0))) to) seg_again
                 (atoms-more (remove m.left place) (All-remove (EachInAtom (IsKept m.used)) m.left place stands.left_kept));
-            gone_kept = All-push_one (EachInAtom (IsKept (m.used ++ xs))) m.gone (Points from kind (map Var xs)) (atoms-more m.gone stands.gone_kept) cell_kept;
+            gone_kept = All-push (EachInAtom (IsKept (m.used ++ xs))) m.gone (Points from kind (map Var xs)) (atoms-more m.gone stands.gone_kept) cell_kept;
             last_logical = stands.last_logical;
           };
           wanted = λ u later agree keeps h. HoldsAtom-alike (IsKept (m.used ++ xs)) t u (value-kept (m.used ++ xs) t u agree) structs (Points from kind (map Var xs)) (cell ∷ []) cell_kept cell_holds;

@@ -5,9 +5,9 @@ use Rattle.std.specs.declared.option.Option.TheVariants.{None, Some}
 use Rattle.shape_data.specs.declared.symbolic.Exp.{Exp}
 use Rattle.shape_data.specs.declared.symbolic.Exp.TheVariants.{Var, Const}
 use Rattle.shape_data.specs.declared.symbolic.Fact.{Fact}
-use Rattle.shape_data.specs.declared.symbolic.Fact.TheVariants.{Eq, Ne}
 use Rattle.shape_data.specs.Meaning.{value}
 use Rattle.sym_laws.specs.Fresh.{is_one_of}
+use Rattle.sym_pure.specs.Equations.{read_through}
 
 -- the expression that a variable is bound to, if any
 abbrev pub bound_to : List (ℕ × Exp) → ℕ → Option Exp
@@ -24,21 +24,9 @@ abbrev pub bound_exp : List (ℕ × Exp) → Exp → Exp
 bound_exp binding (Var x) = or_itself x (bound_to binding x)
 bound_exp binding (Const n) = Const n
 
--- what the facts' equations solve a variable for
-abbrev pub solved : List Fact → ℕ → Exp
-solved [] x = Var x
-solved (Eq (Var y) right ∷ facts) x = if y == x then right else solved facts x
-solved (Eq (Const n) right ∷ facts) x = solved facts x
-solved (Ne left right ∷ facts) x = solved facts x
-
--- an expression, read through the facts' equations
-abbrev pub solved_exp : List Fact → Exp → Exp
-solved_exp facts (Var x) = solved facts x
-solved_exp facts (Const n) = Const n
-
 -- an expression of the wanted heap, read through the binding and the heap's equations
 abbrev pub read : List Fact → List (ℕ × Exp) → Exp → Exp
-read facts binding e = solved_exp facts (bound_exp binding e)
+read facts binding e = read_through facts (bound_exp binding e)
 
 -- there is no expression
 abbrev pub is_none : Option Exp → Bool

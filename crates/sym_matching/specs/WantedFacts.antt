@@ -8,6 +8,7 @@ use Rattle.shape_data.specs.declared.symbolic.Exp.{Exp}
 use Rattle.shape_data.specs.declared.symbolic.Fact.{Fact}
 use Rattle.shape_data.specs.declared.symbolic.Fact.TheVariants.{Eq, Ne}
 use Rattle.sym_laws.specs.Expressions.{same_exp}
+use Rattle.sym_pure.specs.Equations.{read_through}
 use Rattle.sym_pure.specs.Sources.{differs}
 use Rattle.sym_matching.specs.declared.matching.Matching.{Matching}
 use Rattle.sym_matching.specs.declared.matching.Mode.{Mode}
@@ -15,7 +16,7 @@ use Rattle.sym_matching.specs.declared.matching.Mode.TheVariants.{Subtract, Abdu
 use Rattle.sym_matching.specs.declared.matching.Owed.{Owed}
 use Rattle.sym_matching.specs.declared.matching.Turned.{Turned}
 use Rattle.sym_matching.specs.declared.matching.Turned.TheVariants.{On, Stuck}
-use Rattle.sym_matching.specs.Reading.{solved_exp, read, is_unbound, is_logical}
+use Rattle.sym_matching.specs.Reading.{read, is_unbound, is_logical}
 use Rattle.sym_matching.specs.Steps.{Rules, whole, bind, miss_fact, and_then}
 
 -- RULE 3 for e = f: both are logical and not known to differ: the equation is missing
@@ -63,8 +64,8 @@ want_facts rules number (fact ∷ facts) m = and_then (want_facts rules (number 
 abbrev pub want_owed : Rules → Owed → Matching → Turned
 want_owed rules owed m =
     if is_unbound rules.flexible m.binding owed.want
-    then On (bind m owed.want (solved_exp rules.facts owed.have))
-    else want_same rules owed.number (read rules.facts m.binding owed.want) (solved_exp rules.facts owed.have) m
+    then On (bind m owed.want (read_through rules.facts owed.have))
+    else want_same rules owed.number (read rules.facts m.binding owed.want) (read_through rules.facts owed.have) m
 
 -- the facts that were left over, in order
 abbrev pub want_all_owed : Rules → List Owed → Matching → Turned

@@ -12,4 +12,6 @@ pub use expressions::{has_double, is_among, is_same_exp};
 pub use mapping::{
     Mapping, map_atom, map_atoms, map_exps, map_fact, map_facts, map_heap, map_post, map_state,
 };
-pub use occurs::{occurs_in, occurs_in_atom, occurs_in_exp, occurs_in_exps, occurs_in_fact};
+pub use occurs::{
+    is_one_of, occurs_in, occurs_in_atom, occurs_in_exp, occurs_in_exps, occurs_in_fact,
+};

@@ -1,9 +1,17 @@
 //! Whether a variable occurs.
 ghost use Rattle.std.specs.Prelude.{◌≡◌};
 ghost use Rattle.std.specs.List.{list_any};
+ghost use Rattle.sym_laws.specs.Fresh.{is_one_of as is_one_of_list};
 ghost use Rattle.shape_laws.specs.Symbolic.{is_variable, occurs_in as occurs_in_heap_of, occurs_in_atom as occurs_in_atom_of, occurs_in_fact as occurs_in_fact_of};
 
 use shape_data::symbolic::{Atom, Exp, Fact, SymHeap};
+
+/// Whether the number, of a variable or of a slot, is in the list.
+pub fn is_one_of(list: &[u32], x: u32) -> bool
+    ensures { result ≡ is_one_of_list list.now x }
+{
+    list.iter().any(|y| x == *y)
+}
 
 /// Whether the expression is the variable.
 pub fn occurs_in_exp(variable: u32, e: Exp) -> bool

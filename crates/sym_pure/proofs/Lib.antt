@@ -8,6 +8,7 @@ pub mod ItselfLaws
 pub mod JunkSteps
 pub mod MeaningLaws
 pub mod PartsLaws
+pub mod ReadThrough
 pub mod RedundancyLaws
 pub mod SolutionLaws
 pub mod SolvingLaws

@@ -1,6 +1,6 @@
--- A form has no more parts than its state: each solved equation comes from an equation or from a segment that went.
+-- A form has no more parts than its state, and no more atoms: each solved equation comes from an equation or from a segment that went.
 use Rattle.std.specs.Prelude.{◌≡◌, ℕ, zero, suc, ◌+◌, ◌≤◌, Bool, true, false, ◌==◌, ltb, List, [], ◌∷◌, map, length, filter, slice_get, MatchOption}
-use Rattle.std.proofs.Common.{refl, ap, arith, length-append}
+use Rattle.std.proofs.Common.{refl, ap, subst, arith, length-append}
 use Rattle.std.proofs.lemmas.List.{length-map}
 use Rattle.std.specs.List.{remove}
 use Rattle.std.specs.Ordering.{int_eq}
@@ -23,7 +23,7 @@ use Rattle.sym_pure.specs.declared.parts.Solved.{Solved}
 use Rattle.sym_pure.specs.Contradictions.{has_clash}
 use Rattle.sym_pure.specs.Emptying.{place_of_empty, settle_at, settle}
 use Rattle.sym_pure.specs.Laws.{HasNoMoreParts, FormHasNoMoreParts}
-use Rattle.sym_pure.specs.Normal.{disequalities, normal_of, normal_settled, normal_solved, normal}
+use Rattle.sym_pure.specs.Normal.{disequalities, form_of, normal_of, normal_settled, normal_solved, normal}
 use Rattle.sym_pure.specs.Redundancy.{is_redundant, with_needed, needed, one_junk}
 use Rattle.sym_pure.specs.Solving.{read, with_solved, with_read, with_equation, solve, stands_behind, with_equation_of, equations}
 use Rattle.sym_pure.proofs.EmptyingLaws.{IsEmptied, place_of_empty-is}
@@ -35,9 +35,9 @@ remove-shorter [] place x is = cc
 remove-shorter (y ∷ ys) zero x is = refl
 remove-shorter (y ∷ ys) (suc place) x is = ap (λ n. suc n) (remove-shorter ys place x is)
 
-filter-shorter : {A : Type 0} (test : A → Bool) (xs : List A) → length (filter test xs) ≤ length xs
-filter-shorter test [] = omega arith
-filter-shorter test (x ∷ xs) = by_test (test x) refl (filter-shorter test xs)
+pub filter-fewer : {A : Type 0} (test : A → Bool) (xs : List A) → length (filter test xs) ≤ length xs
+filter-fewer test [] = omega arith
+filter-fewer test (x ∷ xs) = by_test (test x) refl (filter-fewer test xs)
   where
     by_test : (b : Bool) → test x ≡ b → length (filter test xs) ≤ length xs → length (filter test (x ∷ xs)) ≤ length (x ∷ xs)
     by_test true e k = rw e (omega arith)
@@ -87,23 +87,28 @@ solve-within (Ne left right ∷ facts) solved = stronger (solve facts solved) (s
     stronger None l = tt
     stronger (Some last) l = λ any. omega (arith, l any)
 
--- a segment that goes brings one equation at most
-abbrev IsWithin : List Solved → List Atom → Settled → Type 0
-IsWithin solved atoms settled = length settled.solved + length settled.atoms ≤ length solved + length atoms
+-- a segment that goes brings one equation at most, and no atom comes
+record IsWithin (solved : List Solved) (atoms : List Atom) (settled : Settled) : Type 0 where
+  both : length settled.solved + length settled.atoms ≤ length solved + length atoms
+  fewer : length settled.atoms ≤ length atoms
 
 settle-within : (turns : ℕ) (solved : List Solved) (atoms : List Atom) → MatchOption (settle turns solved atoms) (Unit {0}) (IsWithin solved atoms)
-settle-within zero solved atoms = omega arith
+settle-within zero solved atoms = record { both = omega arith; fewer = omega arith }
 settle-within (suc turns) solved atoms = by_place (place_of_empty solved atoms) (place_of_empty-is solved atoms) (λ more others. settle-within turns more others)
   where
     stronger : (place : ℕ) (atom : Atom) → slice_get atoms place ≡ Some atom → (more : List Solved) → AtMostOneMore solved more →
         (o : Option Settled) → MatchOption o (Unit {0}) (IsWithin more (remove atoms place)) → MatchOption o (Unit {0}) (IsWithin solved atoms)
     stronger place atom is more k None l = tt
-    stronger place atom is more k (Some settled) l = let shorter = remove-shorter atoms place atom is in omega arith
+    stronger place atom is more k (Some settled) l =
+        let shorter = remove-shorter atoms place atom is in
+        let both = l.both in
+        let fewer = l.fewer in
+        record { both = omega (arith, k, shorter, both); fewer = omega (arith, shorter, fewer) }
 
     by_place : (o : Option ℕ) → ((place : ℕ) → o ≡ Some place → IsEmptied solved atoms place) →
         ((more : List Solved) (others : List Atom) → MatchOption (settle turns more others) (Unit {0}) (IsWithin more others)) →
         MatchOption (settle_at (λ more others. settle turns more others) solved atoms o) (Unit {0}) (IsWithin solved atoms)
-    by_place None is again = omega arith
+    by_place None is again = record { both = omega arith; fewer = omega arith }
     by_place (Some place) is again =
         let emptied : IsEmptied solved atoms place = is place refl in
         rw emptied.is (unless_clash-goes (Unit {0}) (AtMostOneMore solved) (IsWithin solved atoms) (λ more. settle turns more (remove atoms place)) (with_equation solved emptied.from emptied.to)
@@ -145,10 +150,14 @@ junk-within : (atoms : List Atom) → length (one_junk atoms) ≤ length atoms
 junk-within [] = omega arith
 junk-within (Points at kind fields ∷ atoms) = omega (arith, junk-within atoms)
 junk-within (Seg kind link from to ∷ atoms) = omega (arith, junk-within atoms)
-junk-within (Junk ∷ atoms) = omega (arith, filter-shorter is_other atoms)
+junk-within (Junk ∷ atoms) = omega (arith, filter-fewer is_other atoms)
+
+record IsSmallForm (state form : SymState) : Type 0 where
+  parts : HasNoMoreParts state form
+  fewer : length form.heap.spatial ≤ length state.heap.spatial
 
 abbrev IsSmall : SymState → Normal → Type 0
-IsSmall state (Is form) = HasNoMoreParts state form
+IsSmall state (Is form) = IsSmallForm state form
 IsSmall state Contradiction = Unit {0}
 
 settled-small : (state : SymState) (solved : List Solved) (o : Option Settled) → AreWithin state.heap.pure [] solved → MatchOption o (Unit {0}) (IsWithin solved state.heap.spatial) → IsSmall state (normal_settled state o)
@@ -163,23 +172,54 @@ settled-small state solved (Some settled) h k = by_test (has_clash facts atoms) 
 
     by_test : (b : Bool) → has_clash facts atoms ≡ b → IsSmall state (normal_of state settled.solved facts atoms)
     by_test true e = rw e tt
-    by_test false e = rw e (record { parts = parts; locals = length-map state.locals (read settled.solved) })
+    by_test false e = rw e small
       where
         equal : List Fact
         equal = equations settled.solved settled.solved []
+
+        atoms-alike : length atoms ≡ length settled.atoms
+        atoms-alike = length-map settled.atoms (on_atom (read settled.solved))
 
         parts : length (needed (addresses atoms) facts equal) + length (one_junk atoms) ≤ length state.heap.pure + length state.heap.spatial
         parts =
             let on_facts = needed-within (addresses atoms) facts equal in
             let on_equations = equations-within settled.solved settled.solved [] in
             let on_junk = junk-within atoms in
-            let on_atoms : length atoms ≡ length settled.atoms = length-map settled.atoms (on_atom (read settled.solved)) in
+            let on_atoms : length atoms ≡ length settled.atoms = atoms-alike in
             let on_state = h settled.solved in
+            let on_settled = k.both in
             omega arith
+
+        small : IsSmallForm state (form_of state settled.solved facts atoms)
+        small = record {
+          parts = record { parts = parts; locals = length-map state.locals (read settled.solved) };
+          fewer = omega (arith, junk-within atoms, atoms-alike, k.fewer);
+        }
 
 solved-small : (state : SymState) (o : Option (List Solved)) → MatchOption o (Unit {0}) (AreWithin state.heap.pure []) → IsSmall state (normal_solved state o)
 solved-small state None h = tt
 solved-small state (Some solved) h = settled-small state solved (settle (length state.heap.spatial) solved state.heap.spatial) h (settle-within (length state.heap.spatial) solved state.heap.spatial)
 
+any-small : (state : SymState) → IsSmall state (normal state)
+any-small state = solved-small state (solve state.heap.pure []) (solve-within state.heap.pure [])
+
+form-small : (state form : SymState) → normal state ≡ Is form → IsSmallForm state form
+form-small state form is = subst (IsSmall state) is (any-small state)
+
 pub form_has_no_more_parts : FormHasNoMoreParts
-form_has_no_more_parts state form is = let small : IsSmall state (normal state) = solved-small state (solve state.heap.pure []) (solve-within state.heap.pure []) in rw is at small
+form_has_no_more_parts state form is = (form-small state form is).parts
+
+pub form_has_no_more_atoms : (state form : SymState) → normal state ≡ Is form → length form.heap.spatial ≤ length state.heap.spatial
+form_has_no_more_atoms state form is = (form-small state form is).fewer
+
+-- the form, if there is one, has no more atoms
+abbrev pub FormHasNoMore : SymState → Normal → Type 0
+FormHasNoMore state (Is form) = length form.heap.spatial ≤ length state.heap.spatial
+FormHasNoMore state Contradiction = Unit {0}
+
+pub form-fewer : (state : SymState) → FormHasNoMore state (normal state)
+form-fewer state = by_form (normal state) (any-small state)
+  where
+    by_form : (n : Normal) → IsSmall state n → FormHasNoMore state n
+    by_form (Is form) small = small.fewer
+    by_form Contradiction small = tt

@@ -22,15 +22,18 @@ use Rattle.sym_pure.proofs.EachLaws.{normal-each}
 use Rattle.sym_pure.proofs.PartsLaws.{form_has_no_more_parts}
 
 module _ (limits : Limits) (structs : List StructDef) (params : ℕ) where
-  to_each : (fact : Fact) → IsFact limits params fact → EachInFact (IsExp limits params) fact
+  -- a well-formed fact has well-formed expressions
+  pub to_each : (fact : Fact) → IsFact limits params fact → EachInFact (IsExp limits params) fact
   to_each (Eq left right) h = h
   to_each (Ne left right) h = h
 
-  from_each : (fact : Fact) → EachInFact (IsExp limits params) fact → IsFact limits params fact
+  -- and a fact of well-formed expressions is well formed
+  pub from_each : (fact : Fact) → EachInFact (IsExp limits params) fact → IsFact limits params fact
   from_each (Eq left right) h = h
   from_each (Ne left right) h = h
 
-  atom_each : (atom : Atom) → IsAtom limits structs params atom → EachInAtom (IsExp limits params) atom
+  -- a well-formed atom has well-formed expressions
+  pub atom_each : (atom : Atom) → IsAtom limits structs params atom → EachInAtom (IsExp limits params) atom
   atom_each (Points at kind fields) h = (h.0, h.2)
   atom_each (Seg kind link from to) h = (h.1, h.2)
   atom_each Junk h = tt

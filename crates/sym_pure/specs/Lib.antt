@@ -1,5 +1,6 @@
 pub mod Contradictions
 pub mod Emptying
+pub mod Equations
 pub mod IsNormal
 pub mod Laws
 pub mod Normal

@@ -5,6 +5,7 @@
 
 mod contradictions;
 mod emptying;
+mod equations;
 pub mod laws;
 mod normality;
 mod normals;
@@ -13,7 +14,9 @@ mod redundancy;
 mod solving;
 mod sources;
 
+pub use equations::read_through;
 pub use normality::{is_normal, is_normal_heap};
 pub use normals::normal;
 pub use parts::{Normal, Settled, Solved};
+pub use redundancy::has_junk;
 pub use sources::differs;

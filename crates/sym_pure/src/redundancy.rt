@@ -1,5 +1,6 @@
 //! What says nothing new goes.
 ghost use Rattle.std.specs.Prelude.{◌≡◌, ◌&&◌, ◌||◌, IfOk};
+ghost use Rattle.std.specs.List.{list_any};
 ghost use Rattle.sym_laws.specs.Addresses.{addresses};
 ghost use Rattle.sym_laws.specs.Junks.{is_junk as is_junk_of};
 ghost use Rattle.sym_pure.specs.Emptying.{is_plain as is_plain_of};
@@ -65,6 +66,13 @@ pub fn is_junk(atom: &Atom) -> bool
         Atom::Junk => true,
         _ => false,
     }
+}
+
+/// Whether Junk is among the atoms.
+pub fn has_junk(atoms: &[Atom]) -> bool
+    ensures { result ≡ list_any is_junk_of atoms.now }
+{
+    atoms.iter().any(|atom| is_junk(atom))
 }
 
 /// Puts an atom behind the others, unless it is Junk and Junk was seen; whether Junk was seen then.

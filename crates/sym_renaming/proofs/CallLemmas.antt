@@ -48,8 +48,8 @@ pre_in_caller structs apart binding pre t heap =
 
 -- ---- the arguments
 
--- the parameters are among the variables that get numbers
-listed_from : (k count x : ℕ) → k ≤ x → x < k + count → is_one_of (variables_from k count) x ≡ true
+-- the variables from a number on are listed, so the parameters are among those that get numbers
+pub listed_from : (k count x : ℕ) → k ≤ x → x < k + count → is_one_of (variables_from k count) x ≡ true
 listed_from k zero x low high = absurd (omega arith)
 listed_from k (suc count) x low high = by_test (listed_from (k + 1) count x) (x == k) refl
   where

@@ -2,26 +2,23 @@
 use Rattle.std.specs.Prelude.{◌≡◌, ℕ, zero, suc, ◌+◌, ◌<◌, ◌≤◌, ◌==◌, ℤ, Bool, true, false, not, ◌&&◌, List, [], ◌∷◌, ◌++◌, length, map}
 use Rattle.std.proofs.Common.{refl, sym, subst, ◌∙◌, arith, ⊎_elim}
 use Rattle.std.proofs.lemmas.Bool.{and_parts, eqb-true, eq-eqb, not-true, or_cases, or_right}
-use Rattle.std.proofs.lemmas.List.{length-map}
+use Rattle.std.proofs.lemmas.List.{length-map, length_push}
 use Rattle.std.proofs.lemmas.List.Elements.{All-cons, All-nil}
 use Rattle.shape_data.specs.declared.symbolic.Exp.TheVariants.{Var}
 use Rattle.shape_data.specs.Meaning.{value}
 use Rattle.sym_laws.specs.Fresh.{are_different, is_one_of}
 use Rattle.sym_matching.specs.Laws.{AgreesOn}
-use Rattle.sym_matching.specs.NewVariables.{at_its_place, distinct, distinct_behind, first_free, fresh, fresh_variables}
+use Rattle.sym_matching.specs.NewVariables.{at_its_place, distinct, distinct_behind, fresh, fresh_variables}
 use Rattle.sym_matching.proofs.KeptLaws.{one_of-first, one_of-left, one_of-right}
 use Rattle.sym_matching.proofs.NewNumberLaws.{distinct-has, place-none}
 use Rattle.sym_matching.proofs.NewVariableLaws.{fresh_existential, fresh_free, fresh_values, length-fresh_variables, with_values}
+use Rattle.sym_matching.proofs.RoomLaws.{free_near}
 use Rattle.sym_renaming.specs.declared.parts.Numbers.{Numbers}
 use Rattle.sym_renaming.specs.Apart.{number_of, numbers_apart}
 use Rattle.sym_renaming.specs.Laws.{NumbersAreApart}
 use Rattle.sym_renaming.specs.Sizes.{AreSmall}
 
 -- ---- each once
-
-pub length-one_more : (names : List ℕ) (x : ℕ) → length (names ++ x ∷ []) ≡ length names + 1
-length-one_more [] x = refl
-length-one_more (y ∷ names) x = let later : length (names ++ x ∷ []) ≡ length names + 1 = length-one_more names x in omega arith
 
 few_behind : (xs names : List ℕ) → length (distinct_behind names xs) ≤ length names + length xs
 few_behind [] names = omega arith
@@ -30,7 +27,7 @@ few_behind (x ∷ xs) names = by_test (is_one_of names x) refl (few_behind xs na
     by_test : (b : Bool) → is_one_of names x ≡ b → length (distinct_behind names xs) ≤ length names + length xs →
         length (distinct_behind (names ++ x ∷ []) xs) ≤ length (names ++ x ∷ []) + length xs → length (distinct_behind names (x ∷ xs)) ≤ length names + length (x ∷ xs)
     by_test true e there new = rw e (omega arith)
-    by_test false e there new = let more : length (names ++ x ∷ []) ≡ length names + 1 = length-one_more names x in rw e (omega arith)
+    by_test false e there new = let more : length (names ++ x ∷ []) ≡ length names + 1 = length_push names x in rw e (omega arith)
 
 pub few_distinct : (xs : List ℕ) → length (distinct xs) ≤ length xs
 few_distinct xs = let all : length (distinct_behind [] xs) ≤ 0 + length xs = few_behind xs [] in omega arith
@@ -64,14 +61,6 @@ fresh_different (suc count) used = by_test (is_one_of (fresh_variables count (us
         cc
     by_test false e later = later
 
-free_near : (turns x : ℕ) (used : List ℕ) → first_free turns x used ≤ x + turns
-free_near zero x used = omega arith
-free_near (suc turns) x used = by_test (is_one_of used x) refl (free_near turns (x + 1) used)
-  where
-    by_test : (b : Bool) → is_one_of used x ≡ b → first_free turns (x + 1) used ≤ x + 1 + turns → first_free (suc turns) x used ≤ x + suc turns
-    by_test true e later = rw e (omega arith)
-    by_test false e later = rw e (omega arith)
-
 -- a new variable is below 65,536 plus how many there are and are in use
 pub fresh_near : (count : ℕ) (used : List ℕ) (x : ℕ) → is_one_of (fresh_variables count used) x ≡ true → x < 65536 + length used + count
 fresh_near zero used x is = cc
@@ -84,14 +73,14 @@ fresh_near (suc count) used x is = ⊎_elim here (λ h. after (fresh_near count 
         omega arith
 
     after : x < 65536 + length (used ++ fresh used ∷ []) + count → x < 65536 + length used + suc count
-    after later = let more : length (used ++ fresh used ∷ []) ≡ length used + 1 = length-one_more used (fresh used) in omega arith
+    after later = let more : length (used ++ fresh used ∷ []) ≡ length used + 1 = length_push used (fresh used) in omega arith
 
 -- so new numbers are small where few are in use
 pub fresh_small : (count : ℕ) (used : List ℕ) → 65536 + length used + count ≤ 2147483648 → AreSmall (fresh_variables count used)
 fresh_small zero used room = All-nil (λ x. x < 2147483648)
 fresh_small (suc count) used room =
     let near : fresh used ≤ 65536 + length used = free_near (length used) 65536 used in
-    let more : length (used ++ fresh used ∷ []) ≡ length used + 1 = length-one_more used (fresh used) in
+    let more : length (used ++ fresh used ∷ []) ≡ length used + 1 = length_push used (fresh used) in
     All-cons (λ x. x < 2147483648) (fresh used) (fresh_variables count (used ++ fresh used ∷ [])) (omega arith) (fresh_small count (used ++ fresh used ∷ []) (omega arith))
 
 -- ---- places

@@ -5,7 +5,7 @@ use Rattle.std.proofs.Common.{refl, sym, ap, subst, ◌∙◌, arith}
 use Rattle.std.specs.declared.option.Option.{Option}
 use Rattle.std.specs.declared.option.Option.TheVariants.{None, Some}
 use Rattle.std.proofs.lemmas.Bool.{or_right}
-use Rattle.std.proofs.lemmas.List.{length-map}
+use Rattle.std.proofs.lemmas.List.{length-map, length_push}
 use Rattle.std.proofs.lemmas.List.Elements.{All-cons, All-head, All-map, All-nil, All-tail, All-weaker}
 use Rattle.shape_data.specs.declared.program.StructDef.{StructDef}
 use Rattle.shape_data.specs.declared.symbolic.Atom.{Atom}
@@ -34,12 +34,12 @@ use Rattle.sym_renaming.specs.declared.parts.Numbers.{Numbers}
 use Rattle.sym_renaming.specs.Apart.{number_of, numbers_apart}
 use Rattle.sym_renaming.specs.Calls.{bound_in, bound_or_new, in_caller, new_in_post, parameters_bound, post_numbers, post_variables, variables_from}
 use Rattle.sym_renaming.specs.Sizes.{AreSmall, CalledIsWithinSizes, FewBindingVariables, FewHeapVariables, FewStateVariables, IsSmallBinding, MappedHeapIsWellFormed, MappedIsWithinSizes, MappedPostIsWellFormed, MappedStateIsWellFormed, PostIsWithinSizes}
-use Rattle.sym_renaming.proofs.NumberLemmas.{few_distinct, fresh_small, length-one_more, numbers_are_apart}
+use Rattle.sym_renaming.proofs.NumberLemmas.{few_distinct, fresh_small, numbers_are_apart}
 
 -- ---- how many variables
 
 few_variable : (names : List ℕ) (e : Exp) → length (with_variable names e) ≤ length names + 1
-few_variable names (Var x) = let more : length (names ++ x ∷ []) ≡ length names + 1 = length-one_more names x in omega arith
+few_variable names (Var x) = let more : length (names ++ x ∷ []) ≡ length names + 1 = length_push names x in omega arith
 few_variable names (Const n) = omega arith
 
 pub few_exps : (es : List Exp) (names : List ℕ) → length (with_exps names es) ≤ length names + length es
@@ -91,7 +91,7 @@ few_state_variables names state sizes =
 pub few_binding_variables : FewBindingVariables
 few_binding_variables names [] = omega arith
 few_binding_variables names (bound ∷ binding) =
-    let one : length (names ++ bound.0 ∷ []) ≡ length names + 1 = length-one_more names bound.0 in
+    let one : length (names ++ bound.0 ∷ []) ≡ length names + 1 = length_push names bound.0 in
     let first : length (with_variable (names ++ bound.0 ∷ []) bound.1) ≤ length (names ++ bound.0 ∷ []) + 1 = few_variable (names ++ bound.0 ∷ []) bound.1 in
     let later : length (with_binding (with_variable (names ++ bound.0 ∷ []) bound.1) binding) ≤ length (with_variable (names ++ bound.0 ∷ []) bound.1) + 2 * length binding =
     few_binding_variables (with_variable (names ++ bound.0 ∷ []) bound.1) binding in

@@ -6,11 +6,10 @@ ghost use Rattle.sym_renaming.specs.Sizes.{AreSmall};
 
 use crate::new_variables::fresh_variables;
 use crate::parts::Numbers;
-use crate::reading::is_in;
 use shape_data::Row;
 use shape_data::symbolic::Exp;
 use std::alloc::{AllocError, Global};
-use sym_parts::Mapping;
+use sym_parts::{Mapping, is_one_of};
 
 impl Numbers {
     /// The new number of a variable; one that got none keeps its own.
@@ -56,7 +55,7 @@ fn distinct(alloc: Global, list: &[u32]) -> Result<Vec<u32>, AllocError>
 {
     let mut names = Vec::new(alloc);
     for x in list {
-        if !is_in(names.as_slice(), *x) {
+        if !is_one_of(names.as_slice(), *x) {
             names.push(*x)?;
         }
     }

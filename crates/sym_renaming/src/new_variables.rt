@@ -3,10 +3,10 @@ ghost use Rattle.std.specs.Prelude.{◌≡◌, ◌++◌, ◌<◌, IfOk, length, 
 ghost use Rattle.shape_data.specs.declared.symbolic.Exp.TheVariants.{Var};
 ghost use Rattle.sym_matching.specs.NewVariables.{HasRoom, first_free as first_free_of, fresh as fresh_of, fresh_variables as fresh_variables_of};
 
-use crate::reading::is_in;
 use shape_data::Row;
 use shape_data::symbolic::{Exp, FIRST_EXISTENTIAL};
 use std::alloc::{AllocError, Global};
+use sym_parts::is_one_of;
 
 /// The least number from one on that is not in use.
 fn first_free(used: &[u32], first: u32) -> u32
@@ -15,7 +15,7 @@ fn first_free(used: &[u32], first: u32) -> u32
 {
     let mut x = first;
     for turn in 0..used.len() {
-        if !is_in(used, x) {
+        if !is_one_of(used, x) {
             return x;
         }
         x += 1;

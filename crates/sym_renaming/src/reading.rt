@@ -1,17 +1,9 @@
 //! Reading expressions through a binding.
 ghost use Rattle.std.specs.Prelude.{◌≡◌};
-ghost use Rattle.sym_laws.specs.Fresh.{is_one_of};
 ghost use Rattle.sym_matching.specs.Reading.{bound_exp as bound_exp_of, bound_to as bound_to_of};
 
 use shape_data::symbolic::Exp;
 use sym_parts::Mapping;
-
-/// Whether the variable is in the list.
-pub fn is_in(list: &[u32], x: u32) -> bool
-    ensures { result ≡ is_one_of list.now x }
-{
-    list.iter().any(|y| x == *y)
-}
 
 /// The expression that a variable is bound to, if any.
 pub fn bound_to(binding: &[(u32, Exp)], x: u32) -> Option<Exp>

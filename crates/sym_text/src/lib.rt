@@ -19,4 +19,4 @@ mod words;
 
 pub use fault::BadSpec;
 pub use heaps::{read_heap, read_post};
-pub use printing::{print_heap, print_post, push_exp, push_heap, push_post};
+pub use printing::{print_heap, print_post, push_decimal, push_exp, push_heap, push_post};

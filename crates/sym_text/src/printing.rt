@@ -14,7 +14,11 @@ use shape_data::{Name, struct_of};
 use std::alloc::{AllocError, Global};
 
 /// Appends a number in decimal.
-fn push_decimal(text: &mut Vec<u8>, number: u64) -> Result<(), AllocError>
+///
+/// # Errors
+///
+/// Only want of memory; what the text then is, is not said.
+pub fn push_decimal(text: &mut Vec<u8>, number: u64) -> Result<(), AllocError>
     ensures { OnOk result (text.new.items ≡ text.old.items ++ decimal number) }
 {
     text.extend_from_slice(Buffer::new().format(number).as_bytes())

@@ -6,6 +6,7 @@ use Rattle.std.specs.List.{AllZip, cons_option, filter, filter_map, list_any, ra
 use Rattle.shape_data.specs.declared.answer.Answer.{Answer}
 use Rattle.shape_data.specs.declared.answer.Callee.{Callee}
 use Rattle.shape_data.specs.declared.answer.Key.{Key}
+use Rattle.shape_laws.proofs.StepsStacks.{within-some}
 use Rattle.component_keys.specs.Keys.{Outer, key_over, names_of, program_components}
 use Rattle.component_keys.specs.Tests.{key_test}
 use Rattle.component_keys.proofs.Basics.{mapped_some, not_none, some_same}
@@ -21,7 +22,6 @@ use Rattle.summary_book.specs.Next.{IsSettled, slots_by}
 use Rattle.summary_book.specs.Views.{slot_solution}
 use Rattle.summary_book.proofs.Components.{aims_are}
 use Rattle.summary_book.proofs.Here.{settled_of, settled_stands, standings_length}
-use Rattle.summary_book.proofs.Lists.{there_is}
 use Rattle.worker_pool.specs.Composed.{AreComposed, EntriesAreComposed, IsComposed, answer_among, callee_among, callee_by}
 
 -- ---- lists
@@ -91,8 +91,8 @@ module _ (world : World) (aim : Aim) (all : IsSettled world (aimed world.program
 
   -- each that the aim reaches is settled
   is_settled : (number : ℕ) → number < count → aims number ≡ true → (slot : Slot) × (settled_at world number ≡ Some slot)
-  is_settled number lt reached = by_settled (there_is (standings world) number lt).0 (there_is (standings world) number lt).1
-      (there_is (standings world) number lt).0.settled refl
+  is_settled number lt reached = by_settled (within-some (standings world) number lt).0 (within-some (standings world) number lt).1
+      (within-some (standings world) number lt).0.settled refl
     where
       by_settled : (standing : Standing) → standing_at world number ≡ Some standing → (o : Option Slot) → standing.settled ≡ o →
           (slot : Slot) × (settled_at world number ≡ Some slot)

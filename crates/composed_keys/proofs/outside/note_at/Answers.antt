@@ -3,9 +3,10 @@ use Rattle.std.proofs.Common.{◌≡◌, ◌∙◌, [], set, sym, ap}
 use Rattle.std.specs.Prelude.{slice_index_or}
 use Rattle.std.proofs.lemmas.List.{get_or-map, map-set}
 use Rattle.std.proofs.Math.Seq.{map-set_same}
+use Rattle.call_components.proofs.Looked.{on_ok}
 use Rattle.composed_keys.specs.declared.rows.Component.{Component as Row}
 use Rattle.composed_keys.specs.Outside.{noted_once, outers}
-use Rattle.composed_keys.proofs.Called.{on_ok, put_else}
+use Rattle.composed_keys.proofs.Called.{put_else}
 use Rattle.composed_keys.proofs.outside.note_at.Goals as goal
 
 pub returns-clause-members : goal.returns-clause-members

@@ -2,13 +2,13 @@
 use Rattle.std.proofs.Common.{◌≡◌, ◌<◌, ◌∙◌, Bool, All, length, slice_get, sym, ap, subst, refl, arith}
 use Rattle.shape_data.specs.declared.answer.Key.{Key}
 use Rattle.component_keys.specs.Tests.{key_test}
+use Rattle.component_keys.proofs.Whole.{same_answers}
 use Rattle.composed_keys.specs.declared.rows.Outer.{Outer as OuterRow}
 use Rattle.summary_book.specs.Places.{key_at}
 use Rattle.summary_book.specs.Settled.{HasKnown}
 use Rattle.summary_book.proofs.Components.{components_small}
 use Rattle.summary_book.proofs.Due.{holds_out, out_holds}
 use Rattle.summary_book.proofs.Events.{not_both}
-use Rattle.summary_book.proofs.Looked.{same_bit}
 use Rattle.summary_book.proofs.Rowed.{row_at, there_row}
 use Rattle.summary_book.proofs.turns.holds_due.Goals as goal
 
@@ -21,7 +21,7 @@ overflow_cast-here c =
 pub returns-then-not-is_same : goal.returns-then-not-is_same
 returns-then-not-is_same c = λ key claim due is.
     let row = there_row c.args.parts.now.components.items c.args.place c.requires.place in
-    same_bit _ (key_test.0 claim.key key) (λ t. cc)
+    same_answers _ (key_test.0 claim.key key) (λ t. cc)
     (λ t.
     let has = holds_out c.args.log.now c.args.parts.now c.args.slots.now c.requires.sight c.args.place row.0 row.1 key c.args.row.now claim due is ((key_test.1 claim.key key).0 t) in
     not_both (c.is_same.ensures.1 has.0) c.if-not-is_same.true)
@@ -29,7 +29,7 @@ returns-then-not-is_same c = λ key claim due is.
 pub returns-then-not-row : goal.returns-then-not-row
 returns-then-not-row c = λ key claim due is.
     let row = there_row c.args.parts.now.components.items c.args.place c.requires.place in
-    same_bit _ (key_test.0 claim.key key) (λ t. cc)
+    same_answers _ (key_test.0 claim.key key) (λ t. cc)
     (λ t.
     let has = holds_out c.args.log.now c.args.parts.now c.args.slots.now c.requires.sight c.args.place row.0 row.1 key c.args.row.now claim due is ((key_test.1 claim.key key).0 t) in
     not_both has.1 c.if-not-row.true)
@@ -45,7 +45,7 @@ returns c = λ key claim due is.
     let items = c.args.parts.now.components.items in
     let row = c.index-component.result.now in
     let at = row_at items items c.args.place row refl c.requires.place c.index-component.ensures in
-    same_bit c.has_known.result (key_test.0 claim.key key)
+    same_answers c.has_known.result (key_test.0 claim.key key)
     (λ t.
     (key_test.1 claim.key key).1
     (out_holds c.args.log.now c.args.parts.now c.args.slots.now c.requires.sight c.args.place row at key c.args.row.now claim due is (c.is_same.ensures.0 c.if-not-is_same.false) c.if-not-row.false

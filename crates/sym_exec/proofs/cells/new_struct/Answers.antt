@@ -1,5 +1,5 @@
 use Rattle.std.proofs.Common.{sym}
-use Rattle.sym_exec.proofs.Listed.{few_fields}
+use Rattle.exec_laws.proofs.RoomLemmas.{few_fields}
 use Rattle.sym_exec.proofs.cells.new_struct.Goals as goal
 
 pub new_of_def-requires-clause-few : goal.new_of_def-requires-clause-few

@@ -1,5 +1,5 @@
 use Rattle.std.proofs.Common.{sym}
-use Rattle.sym_exec.proofs.Listed.{few_fields}
+use Rattle.exec_laws.proofs.RoomLemmas.{few_fields}
 use Rattle.sym_exec.proofs.exposing.unfolded.Goals as goal
 
 pub unfolded_of_def-requires-clause-few : goal.unfolded_of_def-requires-clause-few

@@ -2,9 +2,10 @@ use Rattle.std.proofs.Common.{◌≡◌, ◌∙◌, ap, sym}
 use Rattle.std.specs.declared.option.Option.TheVariants.{Some}
 use Rattle.sym_laws.specs.Mapped.{on_state}
 use Rattle.sym_pure.specs.declared.parts.Normal.TheVariants.{Is}
+use Rattle.sym_pure.specs.Equations.{read_through}
 use Rattle.sym_pure.specs.Normal.{normal}
 use Rattle.sym_forms.specs.Forms.{of_form}
-use Rattle.sym_forms.specs.PairForms.{pair_of, read_through}
+use Rattle.sym_forms.specs.PairForms.{pair_of}
 use Rattle.sym_forms.proofs.pairs.with_missing.Goals as goal
 
 pub returns-in_ok-pair_of-in-Is : goal.returns-in_ok-pair_of-in-Is

@@ -3,6 +3,7 @@ use Rattle.std.proofs.Common.{◌≡◌, ◌≤◌, ◌+◌, ◌∙◌, ◌++◌
 use Rattle.std.specs.List.{AllZip, filter}
 use Rattle.std.specs.Vec.{vec_len, vec_capacity}
 use Rattle.std.proofs.lemmas.List.{length-replicate}
+use Rattle.call_components.proofs.Walk.{unmarked_at}
 use Rattle.claim_core.specs.Views.{IsSolution}
 use Rattle.call_components.specs.Reaching.{marked}
 use Rattle.component_keys.specs.Keys.{program_components}
@@ -13,7 +14,7 @@ use Rattle.claim_laws.specs.World.{Event, is_present}
 use Rattle.summary_book.specs.Book.{met_by}
 use Rattle.summary_book.specs.Moved.{IsMoved}
 use Rattle.summary_book.specs.Rows.{AreSlots}
-use Rattle.summary_book.proofs.Booked.{all_unmarked, met_other, met_same, revised_book, revision_small}
+use Rattle.summary_book.proofs.Booked.{met_other, met_same, revised_book, revision_small}
 use Rattle.summary_book.proofs.Components.{components_length}
 use Rattle.summary_book.proofs.Events.{may_revise, not_both}
 use Rattle.summary_book.proofs.book.Book.meet.Goals as goal
@@ -59,4 +60,4 @@ invariant_of-self-2 g c =
     (let ok = c.in_ok-reserve.ensures.ok in let len = c.push_reserved.ensures.len in let capacity = c.push_reserved.ensures.capacity in let own = c.len-2.ensures in omega (arith, ok, len, capacity, own)) in
     revised_book (IsSolution g.J.Meaning.solves) inside.log c.push_reserved.new.self inside.parts inside.slots inside.marks inside.out inside.revision inside.made c.self.invariant last later_is new c.in_ok-slots.slots c.in_ok-marks.marks
     c.in_ok-out.out (inside.revision + 1) program (ap (λ p. Event.Revise (inside.revision + 1) p) same_program) may refl c.in_ok-parts.ensures.parts slots_are lengths
-    (λ place. ap (λ m. marked m place) marks_are ∙ all_unmarked c.len.result place) moved_are room
+    (λ place. ap (λ m. marked m place) marks_are ∙ unmarked_at c.len.result place) moved_are room

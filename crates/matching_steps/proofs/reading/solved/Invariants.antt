@@ -1,6 +1,0 @@
-use Rattle.std.proofs.Common.{◌≡◌, drop}
-use Rattle.sym_matching.specs.Reading.{solved}
-use Rattle.matching_steps.proofs.reading.solved.Given as goal
-
-abbrev pub invariant-loop-fact : goal.invariant-loop-fact
-invariant-loop-fact l = solved l.facts l.x ≡ solved (drop l.fact-index l.facts) l.x
