@@ -11,8 +11,7 @@ use shape_data::answer::Callee;
 use shape_data::names::is_c_name;
 use shape_data::program::{Cmd, Flow, StructDef};
 use shape_data::symbolic::{Atom, Exp, Fact, Post, Spec, SymHeap, SymState};
-use shape_data::{Name, struct_of};
-use worked_scopes::names::are_params;
+use shape_data::{Name, are_params, struct_of};
 
 /// The most parts of a heap.
 const MOST_PARTS: usize = 4_000;

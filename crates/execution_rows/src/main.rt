@@ -12,7 +12,7 @@ mod tables;
 
 use std::alloc::Global;
 use std::io;
-use worked_rows::parts::first_word;
+use worked_rows::parts::{first_word, has_only};
 use worked_rows::{Fault, count_rows};
 use worked_scopes::Scope;
 
@@ -21,8 +21,16 @@ const STRUCTS: &[&[&str]] = &[&["node", "data", "next"], &["q", "head", "tail", 
 
 const PARAMS: &[&str] = &["x", "y"];
 
+/// The words of parts.
+const WORDS: &[&str] = &[
+    "strict", "search", "state", "slots", "missing", "own", "outer", "cut", "on", "leaves", "drops",
+];
+
 /// Whether the row's answer is the one found; where it is not, it is printed.
 fn agrees(rt: &impl Print, alloc: Global, scope: &Scope, row: &str) -> Result<bool, Fault> {
+    if !has_only(row, WORDS) {
+        return Err(Fault::Row);
+    }
     let (word, _) = first_word(row);
     match word {
         "strict" => executions::steps(rt, alloc, scope, row),
@@ -35,6 +43,6 @@ fn main(rt: HostRuntime) -> io::Result<()> {
     let alloc = rt.alloc();
     match Scope::new(alloc, PARAMS, STRUCTS) {
         Ok(scope) => count_rows(&rt, |row| agrees(&rt, alloc, &scope, row).map(Some)),
-        Err(_) => println!(rt; "no scope"),
+        Err(fault) => println!(rt; "no scope: {fault:?}"),
     }
 }

@@ -11,8 +11,6 @@ pub mod new_variables;
 mod parts;
 pub mod reading;
 pub mod sizes;
-#[cfg(test)]
-mod tests;
 pub mod variables;
 
 pub use apart::numbers_apart;

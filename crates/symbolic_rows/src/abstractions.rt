@@ -1,9 +1,11 @@
 //! Rows of abstraction.
+ghost use Rattle.std.specs.Prelude.{◌<◌, length, IsTrue};
+
 use crate::rows::{PARAMS, state_of};
 use crate::told::is_given;
 use shape_data::program::{Flow, HeadMark};
 use shape_data::symbolic::{Post, SymHeap, SymState};
-use shape_data::{Row, copy_of};
+use shape_data::{Name, Row, copy_of};
 use std::alloc::Global;
 use sym_abstract::{
     abstract_exit, abstract_head, abstract_pair, abstract_pre, have_few_fields, is_within_room,
@@ -44,6 +46,13 @@ fn flow(alloc: Global, scope: &Scope, pointed: Option<&str>) -> Result<Flow, Fau
     })
 }
 
+/// Whether a 32-bit number can count the names, as abstraction asks of parameters.
+fn are_countable(names: &[Name]) -> bool
+    ensures { IsTrue result → length names.now < 4294967296 }
+{
+    names.len() < 4_294_967_296
+}
+
 /// The abstraction of a state at the head of a loop that has this mark.
 fn head_with(
     alloc: Global,
@@ -52,7 +61,9 @@ fn head_with(
     mark: &HeadMark,
 ) -> Result<Option<SymState>, Fault> {
     let flow = flow(alloc, scope, None)?;
-    if !is_within_room(state.locals.as_slice(), &state.heap) || flow.params.len() > 4 {
+    if !is_within_room(state.locals.as_slice(), &state.heap)
+        || !are_countable(flow.params.as_slice())
+    {
         return Err(Fault::Row);
     }
     Ok(abstract_head(alloc, state, &flow, mark, scope.program.structs.as_slice())?)
@@ -84,7 +95,7 @@ fn exit_of(
     flow: &Flow,
     recursive: bool,
 ) -> Result<Option<Post>, Fault> {
-    if !is_within_room(&[post.ret], &post.heap) || flow.params.len() > 4 {
+    if !is_within_room(&[post.ret], &post.heap) || !are_countable(flow.params.as_slice()) {
         return Err(Fault::Row);
     }
     Ok(abstract_exit(
@@ -124,7 +135,7 @@ fn pair_with(
     let flow = flow(alloc, scope, None)?;
     if !have_few_fields(pair.missing.spatial.as_slice())
         || !is_within_room(pair.state.locals.as_slice(), &pair.state.heap)
-        || flow.params.len() > 4
+        || !are_countable(flow.params.as_slice())
     {
         return Err(Fault::Row);
     }

@@ -1,4 +1,4 @@
-//! Worked rows of matching, of samples, of abstraction, and of the normal and the canonical form. Each line of standard input is a row: a
+//! Worked rows of matching, of coverings, of samples, of abstraction, and of the normal and the canonical form. Each line of standard input is a row: a
 //! question, and the answer that was worked for it by hand from the rules (or by a second program that shares nothing with this one). Rows
 //! with another answer are printed with what was found, and at the end how many rows agree. Lines that are empty or begin with `#` are no
 //! rows. [`rows`] says what a row is.
@@ -14,7 +14,7 @@ mod told;
 
 use std::alloc::Global;
 use std::io;
-use worked_rows::parts::first_word;
+use worked_rows::parts::{first_word, has_only};
 use worked_rows::{Fault, count_rows};
 use worked_scopes::Scope;
 
@@ -26,10 +26,51 @@ const STRUCTS: &[&[&str]] = &[
     &["tree", "l tree", "k", "r tree"],
 ];
 
-const NAMES: &[&str] = &["a", "b", "c"];
+/// The words of parts.
+const WORDS: &[&str] = &[
+    "subtract",
+    "abduce",
+    "both",
+    "state",
+    "post",
+    "normal",
+    "differ",
+    "canonical",
+    "canonical-post",
+    "canonical-pair",
+    "head",
+    "exit",
+    "pair",
+    "candidate",
+    "sample",
+    "wanted",
+    "bound",
+    "avoid",
+    "fresh",
+    "missing",
+    "frame",
+    "binds",
+    "stuck",
+    "locals",
+    "by",
+    "slots",
+    "sides",
+    "gives",
+    "misses",
+    "ints",
+    "dead",
+    "pointer",
+    "recursive",
+    "none",
+    "yes",
+    "no",
+];
 
 /// Whether the row's answer is the one found; where it is not, it is printed.
 fn agrees(rt: &impl Print, alloc: Global, scope: &Scope, row: &str) -> Result<bool, Fault> {
+    if !has_only(row, WORDS) {
+        return Err(Fault::Row);
+    }
     let (word, _) = first_word(row);
     match word {
         "subtract" => matches::subtracts(rt, alloc, scope, row, "subtract"),
@@ -53,8 +94,8 @@ fn agrees(rt: &impl Print, alloc: Global, scope: &Scope, row: &str) -> Result<bo
 
 fn main(rt: HostRuntime) -> io::Result<()> {
     let alloc = rt.alloc();
-    match Scope::new(alloc, NAMES, STRUCTS) {
+    match Scope::new(alloc, rows::NAMES.as_slice(), STRUCTS) {
         Ok(scope) => count_rows(&rt, |row| agrees(&rt, alloc, &scope, row).map(Some)),
-        Err(_) => println!(rt; "no scope"),
+        Err(fault) => println!(rt; "no scope: {fault:?}"),
     }
 }

@@ -28,8 +28,9 @@ fn binding(alloc: Global, scope: &Scope, text: &str) -> Result<Row<(u32, Exp)>, 
     let heap = scope.heap(alloc, text)?;
     let mut all = Row::new(alloc);
     for fact in heap.pure.as_slice() {
-        if let Fact::Eq(Exp::Var(x), e) = *fact {
-            all.push((x, e))?;
+        match *fact {
+            Fact::Eq(Exp::Var(x), e) => all.push((x, e))?,
+            _ => return Err(Fault::Row),
         }
     }
     Ok(all)
@@ -49,8 +50,9 @@ fn avoided(alloc: Global, scope: &Scope, row: &str) -> Result<Row<u32>, Fault> {
     let list = scope.exps(alloc, part(row, "avoid").unwrap_or(""))?;
     let mut all = Row::new(alloc);
     for e in list.as_slice() {
-        if let Exp::Var(x) = *e {
-            all.push(x)?;
+        match *e {
+            Exp::Var(x) => all.push(x)?,
+            Exp::Const(_) => return Err(Fault::Row),
         }
     }
     Ok(all)

@@ -33,6 +33,9 @@ use worked_scopes::Scope;
 /// How many parameters texts are over.
 pub const PARAMS: u32 = 3;
 
+/// Their names.
+pub const NAMES: &[&str; PARAMS as usize] = &["a", "b", "c"];
+
 /// The number behind a word, or another.
 pub fn number(row: &str, word: &str, otherwise: u32) -> Result<u32, Fault> {
     match part(row, word) {

@@ -1,6 +1,5 @@
 //! Runs of small programs, written in flow form by hand: what each command does, and each fault and bad choice. The
 //! programs, heaps and ends are tables of plain values, made into the machine's types by [`made`].
-ghost use Rattle.std.specs.Prelude.{IfOk, OnOk};
 ghost use Rattle.shape_data.specs.WellFormed.{IsConfig, IsProgram};
 
 mod made;
@@ -15,7 +14,6 @@ use shape_data::program::{ArithOp, Operand, Program, TestOp};
 use shape_data::well_formed_program;
 use std::alloc::Global;
 use std::process::Abort;
-use std::test::Fail;
 
 const MIN: Value = -2_147_483_648;
 
@@ -32,14 +30,14 @@ fn begun(
     program: &Program,
     args: [Value; 2],
     live: &[Live],
-) -> Result<Config, Fail>
-    ensures program { OnOk result (IsProgram program.now) }
-    ensures config { IfOk result (IsConfig program.now) }
+) -> Config
+    ensures program { IsProgram program.now }
+    ensures config { IsConfig program.now result }
 {
-    let heap = cells(alloc, live)?;
+    let heap = cells(alloc, live).expect(rt, "cells");
     assert!(rt; well_formed_program(program));
     assert!(rt; can_start(program, 0, &args, &heap));
-    Ok(start(alloc, program, 0, &args, &heap)?)
+    start(alloc, program, 0, &args, &heap).expect(rt, "memory")
 }
 
 /// Where a run of `f` leads.
@@ -50,46 +48,37 @@ fn led(
     args: [Value; 2],
     live: &[Live],
     picks: &[Pick],
-) -> Result<Outcome, Fail> {
-    let choices = choices(alloc, picks)?;
-    let config = begun(rt, alloc, program, args, live)?;
+) -> Outcome {
+    let choices = choices(alloc, picks).expect(rt, "choices");
+    let config = begun(rt, alloc, program, args, live);
     assert!(rt; choices.len() < 1000);
-    Ok(run(alloc, program, config, &choices)?)
+    run(alloc, program, config, &choices).expect(rt, "memory")
 }
 
 /// A run of `f` leads to its end.
-fn leads(rt: &impl Abort, alloc: Global, program: &Program, row: Run) -> Result<(), Fail> {
+fn leads(rt: &impl Abort, alloc: Global, program: &Program, row: Run) {
     let Run(args, live, picks, end) = row;
-    let wanted = outcome(alloc, end)?;
-    let last = led(rt, alloc, program, args, live, picks)?;
+    let wanted = outcome(alloc, end).expect(rt, "an end");
+    let last = led(rt, alloc, program, args, live, picks);
     assert!(rt; last == wanted, "{last:?}");
-    Ok(())
 }
 
 /// Each run of the procedure leads to its end.
-fn all_lead(rt: &impl Abort, alloc: Global, source: &Source, runs: &[Run]) -> Result<(), Fail> {
-    let program = program(alloc, source)?;
+fn all_lead(rt: &impl Abort, alloc: Global, source: &Source, runs: &[Run]) {
+    let program = program(alloc, source).expect(rt, "a program");
     for row in runs {
-        leads(rt, alloc, &program, *row)?;
+        leads(rt, alloc, &program, *row);
     }
-    Ok(())
 }
 
 /// A step of `f` from (1, 5) over [`NODE`], which uses one choice, leads to its end.
-fn steps(
-    rt: &impl Abort,
-    alloc: Global,
-    source: &Source,
-    pick: Pick,
-    end: End,
-) -> Result<(), Fail> {
-    let program = program(alloc, source)?;
-    let choice = choice(alloc, pick)?;
-    let wanted = stepped(outcome(alloc, end)?);
-    let first = begun(rt, alloc, &program, [1, 5], &[NODE])?;
-    let last = step(alloc, &program, first, &choice)?;
+fn steps(rt: &impl Abort, alloc: Global, source: &Source, pick: Pick, end: End) {
+    let program = program(alloc, source).expect(rt, "a program");
+    let choice = choice(alloc, pick).expect(rt, "a choice");
+    let wanted = stepped(outcome(alloc, end).expect(rt, "an end"));
+    let first = begun(rt, alloc, &program, [1, 5], &[NODE]);
+    let last = step(alloc, &program, first, &choice).expect(rt, "memory");
     assert!(rt; last == wanted, "{last:?}");
-    Ok(())
 }
 
 const GO: &[Pick] = &[Pick::Go; 2];
@@ -127,8 +116,8 @@ const GET_RUNS: &[Run] = &[
 ];
 
 #[test]
-fn get_reads_its_cell(rt: HostRuntime) -> Result<(), Fail> {
-    all_lead(&rt, rt.alloc(), &GET, GET_RUNS)
+fn get_reads_its_cell(rt: HostRuntime) {
+    all_lead(&rt, rt.alloc(), &GET, GET_RUNS);
 }
 
 /// `int f(int a, int b) { return b; }` on line 2.
@@ -139,11 +128,11 @@ const GIVE: Source = Source {
 };
 
 #[test]
-fn a_step_uses_one_choice(rt: HostRuntime) -> Result<(), Fail> {
+fn a_step_uses_one_choice(rt: HostRuntime) {
     let alloc = rt.alloc();
     let second = [Called(1, &[1, 5, 7], None)];
-    steps(&rt, alloc, &GET, Pick::Go, End::Running(&second, &[NODE]))?;
-    steps(&rt, alloc, &GIVE, Pick::Null, End::Returned(5, &[NODE]))
+    steps(&rt, alloc, &GET, Pick::Go, End::Running(&second, &[NODE]));
+    steps(&rt, alloc, &GIVE, Pick::Null, End::Returned(5, &[NODE]));
 }
 
 /// `struct node *f(int a, int b) {` on line 2, and `struct node *n = malloc(sizeof(struct node));`, `n->data = a;`,
@@ -183,8 +172,8 @@ const MAKE_RUNS: &[Run] = &[
 ];
 
 #[test]
-fn make_takes_the_chosen_cell(rt: HostRuntime) -> Result<(), Fail> {
-    all_lead(&rt, rt.alloc(), &MAKE, MAKE_RUNS)
+fn make_takes_the_chosen_cell(rt: HostRuntime) {
+    all_lead(&rt, rt.alloc(), &MAKE, MAKE_RUNS);
 }
 
 const MISFITS: &[Pick] = &[
@@ -201,7 +190,7 @@ const MISFITS: &[Pick] = &[
 ];
 
 #[test]
-fn a_new_cell_fits_its_structure_and_the_heap(rt: HostRuntime) -> Result<(), Fail> {
+fn a_new_cell_fits_its_structure_and_the_heap(rt: HostRuntime) {
     let alloc = rt.alloc();
     for pick in MISFITS {
         let run = Run(
@@ -210,9 +199,8 @@ fn a_new_cell_fits_its_structure_and_the_heap(rt: HostRuntime) -> Result<(), Fai
             &[*pick],
             End::BadChoice(0),
         );
-        all_lead(&rt, alloc, &MAKE, &[run])?;
+        all_lead(&rt, alloc, &MAKE, &[run]);
     }
-    Ok(())
 }
 
 /// `int f(struct node *a, int b) { free(a); return a->data; }` on line 2.
@@ -229,9 +217,9 @@ const FREED: Source = Source {
 const ZEROS: Live = Live(1, "node", &[0, 0]);
 
 #[test]
-fn a_freed_cell_is_gone(rt: HostRuntime) -> Result<(), Fail> {
+fn a_freed_cell_is_gone(rt: HostRuntime) {
     let run = Run([1, 0], &[ZEROS], GO, End::Fault(2, Fault::Unowned));
-    all_lead(&rt, rt.alloc(), &FREED, &[run])
+    all_lead(&rt, rt.alloc(), &FREED, &[run]);
 }
 
 /// `int f(struct node *a, int b) { free(a);` on line 2, and `free(a); return 0; }` on line 3.
@@ -262,8 +250,8 @@ const TWICE_RUNS: &[Run] = &[
 ];
 
 #[test]
-fn null_may_be_freed_and_nothing_twice(rt: HostRuntime) -> Result<(), Fail> {
-    all_lead(&rt, rt.alloc(), &TWICE, TWICE_RUNS)
+fn null_may_be_freed_and_nothing_twice(rt: HostRuntime) {
+    all_lead(&rt, rt.alloc(), &TWICE, TWICE_RUNS);
 }
 
 const SUMS: &[(ArithOp, Value, Value, Value)] = &[
@@ -278,7 +266,7 @@ const SUMS: &[(ArithOp, Value, Value, Value)] = &[
 ];
 
 #[test]
-fn arithmetic_wraps_at_both_ends(rt: HostRuntime) -> Result<(), Fail> {
+fn arithmetic_wraps_at_both_ends(rt: HostRuntime) {
     let alloc = rt.alloc();
     for (op, left, right, wanted) in SUMS {
         let arith = Code::Arith(2, *op, Operand::Slot(0), Operand::Slot(1), 1);
@@ -288,9 +276,8 @@ fn arithmetic_wraps_at_both_ends(rt: HostRuntime) -> Result<(), Fail> {
             slots: 3,
             nodes: &[(0, arith), (0, give)],
         };
-        all_lead(&rt, alloc, &source, &[returns([*left, *right], *wanted)])?;
+        all_lead(&rt, alloc, &source, &[returns([*left, *right], *wanted)]);
     }
-    Ok(())
 }
 
 /// What each gives at (-1, 1), (1, 1) and (1, -1).
@@ -304,7 +291,7 @@ const COMPARISONS: &[(TestOp, [Value; 3])] = &[
 ];
 
 #[test]
-fn comparisons_are_of_whole_numbers(rt: HostRuntime) -> Result<(), Fail> {
+fn comparisons_are_of_whole_numbers(rt: HostRuntime) {
     let alloc = rt.alloc();
     for (op, [below, same, above]) in COMPARISONS {
         let branch = Code::Branch(*op, Operand::Slot(0), Operand::Slot(1), 1, 2);
@@ -320,9 +307,8 @@ fn comparisons_are_of_whole_numbers(rt: HostRuntime) -> Result<(), Fail> {
             returns([1, 1], *same),
             returns([1, -1], *above),
         ];
-        all_lead(&rt, alloc, &source, &runs)?;
+        all_lead(&rt, alloc, &source, &runs);
     }
-    Ok(())
 }
 
 /// `int f(int a, int b) { int c; return c; }` on line 1.
@@ -394,10 +380,10 @@ const UNSET_POINTER_RUNS: &[Run] = &[
 ];
 
 #[test]
-fn what_was_never_set_is_of_its_type(rt: HostRuntime) -> Result<(), Fail> {
+fn what_was_never_set_is_of_its_type(rt: HostRuntime) {
     let alloc = rt.alloc();
-    all_lead(&rt, alloc, &UNSET_INT, UNSET_INT_RUNS)?;
-    all_lead(&rt, alloc, &UNSET_POINTER, UNSET_POINTER_RUNS)
+    all_lead(&rt, alloc, &UNSET_INT, UNSET_INT_RUNS);
+    all_lead(&rt, alloc, &UNSET_POINTER, UNSET_POINTER_RUNS);
 }
 
 const IS_ZERO: Code = Code::Branch(TestOp::Eq, Operand::Slot(0), Operand::Num(0), 1, 2);
@@ -458,9 +444,9 @@ const OWN_RUNS: &[Run] = &[
 ];
 
 #[test]
-fn calls_return_to_their_callers(rt: HostRuntime) -> Result<(), Fail> {
+fn calls_return_to_their_callers(rt: HostRuntime) {
     let alloc = rt.alloc();
-    all_lead(&rt, alloc, &OWN, OWN_RUNS)?;
+    all_lead(&rt, alloc, &OWN, OWN_RUNS);
     let run = Run([3, 0], &[], &[Pick::Go; 20], End::Fault(3, Fault::Callee));
-    all_lead(&rt, alloc, &OUTER, &[run])
+    all_lead(&rt, alloc, &OUTER, &[run]);
 }

@@ -1,4 +1,4 @@
-//! Tests of the machine, of what symbolic crates share, and of texts. Tests alone: beside the libraries they would have these proved a
+//! Tests of the machine, of what symbolic crates share, of renamings, and of texts. Tests alone: beside the libraries they would have these proved a
 //! second time.
 #![tactic(auto)]
 
@@ -8,5 +8,7 @@ mod heap_run_tests;
 mod report_text_tests;
 #[cfg(test)]
 mod sym_parts_tests;
+#[cfg(test)]
+mod sym_renaming_tests;
 #[cfg(test)]
 mod sym_text_tests;

@@ -11,7 +11,6 @@ use shape_data::{Name, Row};
 use std::alloc::{AllocError, Global};
 use std::process::Abort;
 use std::sync::Arc;
-use std::test::Fail;
 
 /// The procedure `f` of the file `a.c`, which begins on line 7 and returns an int.
 fn proc_of(alloc: Global) -> Result<Proc, AllocError>
@@ -190,17 +189,20 @@ const REASONS: [(Reason, &str); 20] = [
     ),
 ];
 
+/// The block of the procedure without a spec ends with the reason.
+fn tells_why(rt: &impl Abort, alloc: Global, reason: Reason, want: &str) {
+    let proc = proc_of(alloc).expect(rt, "memory");
+    let summary = summary_of(alloc, Row::new(alloc), reason).expect(rt, "memory");
+    let text = block(alloc, &proc, &summary, &[]).expect(rt, "memory");
+    let line = format!(in alloc; "f a.c 7\n none {want}\n").expect(rt, "memory");
+    assert_eq!(rt; text.as_slice(), line.as_bytes());
+}
+
 #[test]
-fn a_block_without_a_spec_says_why(rt: HostRuntime) -> Result<(), Fail> {
-    let alloc = rt.alloc();
-    let proc = proc_of(alloc)?;
+fn a_block_without_a_spec_says_why(rt: HostRuntime) {
     for (reason, want) in REASONS {
-        let summary = summary_of(alloc, Row::new(alloc), reason)?;
-        let text = block(alloc, &proc, &summary, &[])?;
-        let line = format!(in alloc; "f a.c 7\n none {want}\n")?;
-        assert_eq!(&rt; text.as_slice(), line.as_bytes());
+        tells_why(&rt, rt.alloc(), reason, want);
     }
-    Ok(())
 }
 
 /// A heap with `junk`, or with nothing.
@@ -251,23 +253,27 @@ fn specs_of(alloc: Global, some: bool, ret: i32, junk: bool) -> Result<Row<Spec>
     Ok(specs)
 }
 
-/// The block of the procedure with such a spec is this text.
-fn has_block(rt: &impl Abort, alloc: Global, ret: i32, junk: bool, want: &str) -> Result<(), Fail> {
+/// The block of the procedure with such a spec.
+fn block_of(alloc: Global, ret: i32, junk: bool) -> Result<Vec<u8>, AllocError> {
     let proc = proc_of(alloc)?;
     let specs = specs_of(alloc, true, ret, junk)?;
     let summary = summary_of(alloc, specs, Reason::Endless)?;
-    let text = block(alloc, &proc, &summary, &[])?;
+    block(alloc, &proc, &summary, &[])
+}
+
+/// That block is this text.
+fn has_block(rt: &impl Abort, alloc: Global, ret: i32, junk: bool, want: &str) {
+    let text = block_of(alloc, ret, junk).expect(rt, "memory");
     assert_eq!(rt; text.as_slice(), want.as_bytes());
-    Ok(())
 }
 
 #[test]
-fn a_block_has_its_specs(rt: HostRuntime) -> Result<(), Fail> {
+fn a_block_has_its_specs(rt: HostRuntime) {
     let alloc = rt.alloc();
     let plain = "f a.c 7\n pre emp\n post emp ret=0\n";
-    has_block(&rt, alloc, 0, false, plain)?;
+    has_block(&rt, alloc, 0, false, plain);
     let leak = "f a.c 7\n pre emp\n post junk ret=-2147483648 leak\n";
-    has_block(&rt, alloc, -2_147_483_648, true, leak)
+    has_block(&rt, alloc, -2_147_483_648, true, leak);
 }
 
 /// An answer on one procedure, with a spec or without.
@@ -284,14 +290,18 @@ fn answer_of(alloc: Global, some: bool) -> Result<Answer, AllocError>
     })
 }
 
+/// The total line of one answer, on one procedure, with a spec or without.
+fn total_of_one(alloc: Global, some: bool) -> Result<Vec<u8>, AllocError> {
+    let answer = Arc::new(alloc, answer_of(alloc, some)?)?;
+    total(alloc, &[answer])
+}
+
 #[test]
-fn a_total_line_counts_procedures_and_specs(rt: HostRuntime) -> Result<(), Fail> {
-    let alloc = rt.alloc();
-    assert_eq!(&rt; total(alloc, &[])?.as_slice(), b"total 0 0 0\n".as_slice());
+fn a_total_line_counts_procedures_and_specs(rt: HostRuntime) {
+    let none = total(rt.alloc(), &[]).expect(&rt, "memory");
+    assert_eq!(&rt; none.as_slice(), b"total 0 0 0\n".as_slice());
     for (some, want) in [(true, "total 1 1 0\n"), (false, "total 1 0 1\n")] {
-        let answer = Arc::new(alloc, answer_of(alloc, some)?)?;
-        let text = total(alloc, &[answer])?;
+        let text = total_of_one(rt.alloc(), some).expect(&rt, "memory");
         assert_eq!(&rt; text.as_slice(), want.as_bytes());
     }
-    Ok(())
 }

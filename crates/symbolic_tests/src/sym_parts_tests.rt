@@ -1,13 +1,12 @@
-//! Each shared function once, on one state.
-use shape_data::Row;
-use shape_data::symbolic::{Atom, Exp, Fact, Post, SymHeap, SymState};
+//! Each shared function once, on one heap.
+use shape_data::symbolic::{Atom, Exp, Post};
 use std::alloc::Global;
-use std::test::Fail;
 use sym_parts::{
     Mapping, cell_address, cell_addresses, has_cell_at, has_double, is_among, is_same_exp,
     map_post, map_state, occurs_in, occurs_in_exps,
 };
-use worked_scopes::names::name_of;
+use worked_rows::Fault;
+use worked_scopes::Scope;
 
 const A: Exp = Exp::Var(0);
 
@@ -35,67 +34,36 @@ impl Mapping for ToSeven {
     }
 }
 
-fn cell_of(alloc: Global, x: Exp, y: Exp) -> Result<Atom, Fail> {
-    let fields = Row::from_vec(Vec::from_array(alloc, [y, SEVEN])?);
-    Ok(Atom::Points {
-        at: x,
-        kind: name_of(alloc, "node")?,
-        fields,
-    })
-}
+/// One fact of each kind and one atom of each kind.
+const HEAP: &str = "a=7 * 7!=b * a|->node(data:b,next:7) * ls[node.next](b,7) * junk";
 
-fn segment_of(alloc: Global, y: Exp) -> Result<Atom, Fail> {
-    Ok(Atom::Seg {
-        kind: name_of(alloc, "node")?,
-        link: 1,
-        from: y,
-        to: SEVEN,
-    })
-}
+/// The same with 7 for each variable.
+const SEVENS: &str = "7=7 * 7!=7 * 7|->node(data:7,next:7) * ls[node.next](7,7) * junk";
 
-/// One atom of each kind over two expressions.
-fn atoms_of(alloc: Global, x: Exp, y: Exp) -> Result<Row<Atom>, Fail> {
-    let mut atoms = Row::new(alloc);
-    atoms.push(cell_of(alloc, x, y)?)?;
-    atoms.push(segment_of(alloc, y)?)?;
-    atoms.push(Atom::Junk)?;
-    Ok(atoms)
-}
-
-/// One fact of each kind and one atom of each kind over two expressions.
-fn heap_of(alloc: Global, x: Exp, y: Exp) -> Result<SymHeap, Fail> {
-    let facts = [Fact::Eq(x, SEVEN), Fact::Ne(SEVEN, y)];
-    Ok(SymHeap {
-        pure: Row::from_vec(Vec::from_array(alloc, facts)?),
-        spatial: atoms_of(alloc, x, y)?,
-    })
-}
-
-fn state_of(alloc: Global) -> Result<SymState, Fail> {
-    Ok(SymState {
-        locals: Row::from_vec(Vec::from_array(alloc, [A, SEVEN])?),
-        heap: heap_of(alloc, A, B)?,
-    })
-}
-
-fn post_of(alloc: Global) -> Result<Post, Fail> {
-    Ok(Post {
-        ret: B,
-        heap: heap_of(alloc, A, B)?,
-    })
+/// What texts are over.
+fn scope_of(alloc: Global) -> Result<Scope, Fault> {
+    Scope::new(alloc, &["a", "b"], &[&["node", "data", "next node"]])
 }
 
 #[test]
-fn a_mapping_is_used_on_each_expression(rt: HostRuntime) -> Result<(), Fail> {
-    let alloc = rt.alloc();
-    let wanted = heap_of(alloc, SEVEN, SEVEN)?;
-    let mapped = map_state(alloc, &ToSeven, &state_of(alloc)?)?;
-    assert!(rt; mapped.locals.as_slice() == &[SEVEN, SEVEN][..]);
-    assert!(rt; mapped.heap == wanted);
-    let mapped = map_post(alloc, &ToSeven, &post_of(alloc)?)?;
+fn a_mapping_is_used_on_each_expression_of_a_state(rt: HostRuntime) {
+    let scope = scope_of(rt.alloc()).expect(&rt, "a scope");
+    let state = scope.state(rt.alloc(), HEAP, "a 7").expect(&rt, "a state");
+    let wanted = scope
+        .state(rt.alloc(), SEVENS, "7 7")
+        .expect(&rt, "a state");
+    let mapped = map_state(rt.alloc(), &ToSeven, &state).expect(&rt, "memory");
+    assert!(rt; mapped == wanted);
+}
+
+#[test]
+fn a_mapping_is_used_on_each_expression_of_a_post(rt: HostRuntime) {
+    let scope = scope_of(rt.alloc()).expect(&rt, "a scope");
+    let heap = scope.heap(rt.alloc(), HEAP).expect(&rt, "a heap");
+    let wanted = scope.heap(rt.alloc(), SEVENS).expect(&rt, "a heap");
+    let mapped = map_post(rt.alloc(), &ToSeven, &Post { ret: B, heap }).expect(&rt, "memory");
     assert!(rt; mapped.ret == SEVEN);
     assert!(rt; mapped.heap == wanted);
-    Ok(())
 }
 
 #[test]
@@ -113,15 +81,15 @@ fn expressions_are_found(rt: HostRuntime) {
 }
 
 #[test]
-fn variables_and_addresses_are_found_in_a_heap(rt: HostRuntime) -> Result<(), Fail> {
-    let alloc = rt.alloc();
-    let heap = heap_of(alloc, A, B)?;
+fn variables_and_addresses_are_found_in_a_heap(rt: HostRuntime) {
+    let scope = scope_of(rt.alloc()).expect(&rt, "a scope");
+    let heap = scope.heap(rt.alloc(), HEAP).expect(&rt, "a heap");
     let atoms = heap.spatial.as_slice();
-    assert!(rt; cell_addresses(alloc, atoms)?.as_slice() == &[A][..]);
+    let addresses = cell_addresses(rt.alloc(), atoms).expect(&rt, "memory");
+    assert!(rt; addresses.as_slice() == &[A][..]);
     assert!(rt; occurs_in(0, &heap));
     assert!(rt; occurs_in(1, &heap));
     assert!(rt; !occurs_in(7, &heap));
     assert!(rt; has_cell_at(atoms, A));
     assert!(rt; !has_cell_at(atoms, B));
-    Ok(())
 }

@@ -33,3 +33,14 @@ pub fn first_word(text: &str) -> (&str, &str) {
         None => (text, ""),
     }
 }
+
+/// Whether each part of the row begins with one of these words.
+pub fn has_only(row: &str, words: &[&str]) -> bool {
+    for part in row.split(';') {
+        let (word, _) = first_word(part);
+        if !words.iter().any(|one| *one == word) {
+            return false;
+        }
+    }
+    true
+}

@@ -3,11 +3,11 @@ ghost use Rattle.std.specs.Prelude.{◌<◌, length, IfOk, IsTrue};
 ghost use Rattle.shape_data.specs.WellFormed.{AreParams, AreStructs};
 ghost use Rattle.sym_text.specs.Grammar.{IsWritten};
 
-use crate::names::{are_params, names_of};
+use crate::names::names_of;
 use crate::structures::structs_of;
 use shape_data::program::Program;
 use shape_data::symbolic::{Exp, Fact, Post, SymHeap, SymState};
-use shape_data::{Name, Row, well_formed_program};
+use shape_data::{Name, Row, are_params, well_formed_program};
 use std::alloc::Global;
 use sym_text::{BadSpec, read_heap, read_post};
 use worked_rows::Fault;
@@ -97,19 +97,17 @@ impl Scope {
         self.post_over(alloc, self.params.as_slice(), text)
     }
 
-    /// The expression of a text, if it has one.
-    fn exp(&self, alloc: Global, text: &str) -> Result<Option<Exp>, Fault> {
+    /// The expression of a text.
+    fn exp(&self, alloc: Global, text: &str) -> Result<Exp, Fault> {
         let same = format!(in alloc; "{text}={text}")?;
-        Ok(left_side(&self.heap(alloc, same.as_str())?))
+        left_side(&self.heap(alloc, same.as_str())?).ok_or(Fault::Row)
     }
 
     /// The expressions of a text, with blanks between them.
     pub fn exps(&self, alloc: Global, text: &str) -> Result<Row<Exp>, Fault> {
         let mut all = Row::new(alloc);
         for word in text.split_whitespace() {
-            if let Some(e) = self.exp(alloc, word)? {
-                all.push(e)?;
-            }
+            all.push(self.exp(alloc, word)?)?;
         }
         Ok(all)
     }

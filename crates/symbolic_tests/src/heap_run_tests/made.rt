@@ -3,8 +3,8 @@ use shape_data::Row;
 use shape_data::answer::Fault;
 use shape_data::machine::{Cell, Choice, Config, Frame, Outcome, Stepped, Value};
 use shape_data::program::{ArithOp, Cmd, Flow, Node, Operand, Proc, Program, TestOp, Ty};
-use std::alloc::Global;
-use std::test::Fail;
+use std::alloc::{AllocError, Global};
+use worked_rows::Fault as RowFault;
 use worked_scopes::names::{name_of, names_of};
 use worked_scopes::structures::structs_of;
 
@@ -62,13 +62,23 @@ pub enum End<'a> {
 /// `struct node { int data; struct node *next; };` and `struct tree { int data; };`
 const STRUCTS: &[&[&str]] = &[&["node", "data", "next node"], &["tree", "data"]];
 
-fn numbers(alloc: Global, values: &[Value]) -> Result<Row<Value>, Fail> {
+fn numbers(alloc: Global, values: &[Value]) -> Result<Row<Value>, RowFault> {
     Ok(Row::from_vec(values.to_vec(alloc)?))
 }
 
-fn call(alloc: Global, to: u32, callee: &str, args: [Operand; 2], next: u32) -> Result<Cmd, Fail> {
+fn operands(alloc: Global, pair: [Operand; 2]) -> Result<Row<Operand>, AllocError> {
+    Ok(Row::from_vec(Vec::from_array(alloc, pair)?))
+}
+
+fn call(
+    alloc: Global,
+    to: u32,
+    callee: &str,
+    args: [Operand; 2],
+    next: u32,
+) -> Result<Cmd, RowFault> {
     let callee = name_of(alloc, callee)?;
-    let args = Row::from_vec(Vec::from_array(alloc, args)?);
+    let args = operands(alloc, args)?;
     Ok(Cmd::Call {
         to: Some(to),
         callee,
@@ -77,7 +87,7 @@ fn call(alloc: Global, to: u32, callee: &str, args: [Operand; 2], next: u32) -> 
     })
 }
 
-fn command(alloc: Global, code: Code) -> Result<Cmd, Fail> {
+fn command(alloc: Global, code: Code) -> Result<Cmd, RowFault> {
     match code {
         Code::Arith(to, op, left, right, next) => Ok(Cmd::Arith {
             to,
@@ -133,7 +143,7 @@ fn command(alloc: Global, code: Code) -> Result<Cmd, Fail> {
     }
 }
 
-fn nodes(alloc: Global, codes: &[(u32, Code)]) -> Result<Row<Node>, Fail> {
+fn nodes(alloc: Global, codes: &[(u32, Code)]) -> Result<Row<Node>, RowFault> {
     let mut nodes = Row::new(alloc);
     for (line, code) in codes {
         nodes.push(Node {
@@ -145,7 +155,7 @@ fn nodes(alloc: Global, codes: &[(u32, Code)]) -> Result<Row<Node>, Fail> {
     Ok(nodes)
 }
 
-fn slots(alloc: Global, count: usize) -> Result<Row<Ty>, Fail> {
+fn slots(alloc: Global, count: usize) -> Result<Row<Ty>, RowFault> {
     let mut slots = Row::new(alloc);
     for _ in 0..count {
         slots.push(Ty::Int)?;
@@ -153,7 +163,7 @@ fn slots(alloc: Global, count: usize) -> Result<Row<Ty>, Fail> {
     Ok(slots)
 }
 
-fn flow(alloc: Global, source: &Source) -> Result<Flow, Fail> {
+fn flow(alloc: Global, source: &Source) -> Result<Flow, RowFault> {
     Ok(Flow {
         name: name_of(alloc, "f")?,
         params: names_of(alloc, &["a", "b"])?,
@@ -163,7 +173,7 @@ fn flow(alloc: Global, source: &Source) -> Result<Flow, Fail> {
     })
 }
 
-fn procs(alloc: Global, source: &Source) -> Result<Row<Proc>, Fail> {
+fn procs(alloc: Global, source: &Source) -> Result<Row<Proc>, RowFault> {
     let mut procs = Row::new(alloc);
     procs.push(Proc {
         flow: flow(alloc, source)?,
@@ -174,14 +184,14 @@ fn procs(alloc: Global, source: &Source) -> Result<Row<Proc>, Fail> {
 }
 
 /// The program of one procedure, in the file `a.c`.
-pub fn program(alloc: Global, source: &Source) -> Result<Program, Fail> {
+pub fn program(alloc: Global, source: &Source) -> Result<Program, RowFault> {
     Ok(Program {
         structs: structs_of(alloc, STRUCTS)?,
         procs: procs(alloc, source)?,
     })
 }
 
-pub fn cells(alloc: Global, live: &[Live]) -> Result<Row<Cell>, Fail> {
+pub fn cells(alloc: Global, live: &[Live]) -> Result<Row<Cell>, RowFault> {
     let mut cells = Row::new(alloc);
     for Live(at, kind, fields) in live {
         cells.push(Cell {
@@ -193,7 +203,7 @@ pub fn cells(alloc: Global, live: &[Live]) -> Result<Row<Cell>, Fail> {
     Ok(cells)
 }
 
-pub fn choice(alloc: Global, pick: Pick) -> Result<Choice, Fail> {
+pub fn choice(alloc: Global, pick: Pick) -> Result<Choice, RowFault> {
     match pick {
         Pick::Null => Ok(Choice::Null),
         Pick::Cell(at, fields) => Ok(Choice::Cell {
@@ -205,15 +215,20 @@ pub fn choice(alloc: Global, pick: Pick) -> Result<Choice, Fail> {
     }
 }
 
-pub fn choices(alloc: Global, picks: &[Pick]) -> Result<Vec<Choice>, Fail> {
+fn add(choices: &mut Vec<Choice>, choice: Choice) -> Result<(), AllocError> {
+    choices.push(choice)?;
+    Ok(())
+}
+
+pub fn choices(alloc: Global, picks: &[Pick]) -> Result<Vec<Choice>, RowFault> {
     let mut choices = Vec::new(alloc);
     for pick in picks {
-        choices.push(choice(alloc, *pick)?)?;
+        add(&mut choices, choice(alloc, *pick)?)?;
     }
     Ok(choices)
 }
 
-fn stack(alloc: Global, calls: &[Called]) -> Result<Row<Frame>, Fail> {
+fn stack(alloc: Global, calls: &[Called]) -> Result<Row<Frame>, RowFault> {
     let mut stack = Row::new(alloc);
     for Called(node, locals, to) in calls {
         stack.push(Frame {
@@ -226,7 +241,7 @@ fn stack(alloc: Global, calls: &[Called]) -> Result<Row<Frame>, Fail> {
     Ok(stack)
 }
 
-pub fn outcome(alloc: Global, end: End) -> Result<Outcome, Fail> {
+pub fn outcome(alloc: Global, end: End) -> Result<Outcome, RowFault> {
     match end {
         End::Running(calls, live) => Ok(Outcome::Running(Config {
             stack: stack(alloc, calls)?,

@@ -117,7 +117,7 @@ fn key(alloc: Global, number: i32) -> Result<Key, AllocError> {
 }
 
 // A value is the same as its clone, and is not the same as the other.
-fn is_told_apart<T: Exact + Drop>(rt: &impl Abort, value: &T, other: &T) {
+fn tells_apart<T: Exact + Drop>(rt: &impl Abort, value: &T, other: &T) {
     let copied = copy_of(value).expect(rt, "memory");
     assert!(rt; is_same(value, &copied));
     assert!(rt; !is_same(&copied, other));
@@ -127,7 +127,7 @@ fn is_told_apart<T: Exact + Drop>(rt: &impl Abort, value: &T, other: &T) {
 fn programs_are_told_apart(rt: HostRuntime) -> Result<(), Fail> {
     let five = program(rt.alloc(), FIVE)?;
     let six = program(rt.alloc(), SIX)?;
-    is_told_apart(&rt, &five, &six);
+    tells_apart(&rt, &five, &six);
     Ok(())
 }
 
@@ -135,12 +135,12 @@ fn programs_are_told_apart(rt: HostRuntime) -> Result<(), Fail> {
 fn keys_are_told_apart(rt: HostRuntime) {
     let five = key(rt.alloc(), 5).expect(&rt, "memory");
     let six = key(rt.alloc(), 6).expect(&rt, "memory");
-    is_told_apart(&rt, &five, &six);
+    tells_apart(&rt, &five, &six);
 }
 
 #[test]
 fn options_are_told_apart(rt: HostRuntime) {
-    is_told_apart(&rt, &Some(3u32), &None);
+    tells_apart(&rt, &Some(3u32), &None);
 }
 
 // A shared row of one value.
@@ -212,5 +212,5 @@ fn rows_are_compared(rt: HostRuntime) {
     let row = two(rt.alloc(), 4, 7).expect(&rt, "memory");
     let other = two(rt.alloc(), 4, 8).expect(&rt, "memory");
     assert!(rt; row < other && row.cmp(&other) == Ordering::Less);
-    is_told_apart(&rt, &row, &other);
+    tells_apart(&rt, &row, &other);
 }

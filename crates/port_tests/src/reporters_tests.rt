@@ -86,6 +86,9 @@ fn feed_eight(rt: &impl Abort, alloc: Global, reporters: &mut Vec<Box<dyn Report
     }
 }
 
+/// The number of no call here.
+const NEVER: u64 = 99;
+
 /// A reporter whose call of this number fails.
 fn reporter(
     alloc: Global,
@@ -112,8 +115,8 @@ fn add(
 fn one_that_stops_at_its_second_entry_is_dropped(rt: HostRuntime) {
     let alloc = rt.alloc();
     let mut reporters: Vec<Box<dyn Reporter + Send>> = Vec::new(alloc);
-    add(&rt, alloc, &mut reporters, Some(2), 99);
-    add(&rt, alloc, &mut reporters, None, 99);
+    add(&rt, alloc, &mut reporters, Some(2), NEVER);
+    add(&rt, alloc, &mut reporters, None, NEVER);
     for count in [8, 16] {
         feed_eight(&rt, alloc, &mut reporters);
         assert_eq!(rt; reporters.len(), 1);
