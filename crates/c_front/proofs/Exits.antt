@@ -2,11 +2,11 @@
 use Rattle.std.proofs.Common.{inr, ◌≡◌, ℕ, ◌≤◌, List, refl, subst, sym, ap, ◌∙◌}
 use Rattle.std.specs.Prelude.{Result, Ok, Err, IfOk, IfErr, IsErrAnd}
 use Rattle.c_tokens.specs.declared.token.Token.{Token}
-use Rattle.c_tokens.specs.declared.token.TokenFault.{TokenFault}
-use Rattle.c_tokens.specs.declared.token.TokenFault.TheVariants as tokens
 use Rattle.c_tokens.specs.Grammar.{HasTokens, IsTokenFault}
 use Rattle.c_tokens.specs.Laws.{HaveOneReading, HaveNotBoth}
 use Rattle.c_tokens.specs.TokenLists.{IsTokenList}
+use Rattle.c_tokens.specs.declared.fault.ReadFault.{ReadFault}
+use Rattle.c_tokens.specs.declared.fault.ReadFault.TheVariants.{Refused, OutOfMemory}
 use Rattle.c_grammar.specs.Laws.{HaveOneTree, HaveRoundTrip}
 use Rattle.c_grammar.specs.Nesting.{file_nesting}
 use Rattle.c_grammar.specs.Placeless.{placeless}
@@ -15,12 +15,10 @@ use Rattle.c_grammar.specs.Refusals.{MOST_LEVELS}
 use Rattle.c_grammar.specs.Spelling.{Spells}
 use Rattle.c_grammar.specs.Trees.{File}
 use Rattle.c_grammar.specs.Words.{words_of}
-use Rattle.c_parse_exprs.specs.declared.fault.SyntaxFault.{SyntaxFault}
-use Rattle.c_parse_exprs.specs.declared.fault.SyntaxFault.TheVariants as syntax
+use Rattle.c_tree.specs.declared.items.Unit.{Unit as UnitValue}
+use Rattle.c_tree.specs.Syntax.{unit_tree}
 use Rattle.c_parse.specs.Faults.{IsSyntaxFault}
-use Rattle.c_front.specs.declared.fault.ReadFault.{ReadFault}
-use Rattle.c_front.specs.declared.fault.ReadFault.TheVariants.{Refused, OutOfMemory}
-use Rattle.c_front.specs.Units.{IsUnitOf, IsReadFault, of_tokens, of_syntax}
+use Rattle.c_front.specs.Units.{IsUnitOf, IsReadFault}
 
 -- an exit of `?`
 pub err_is : {A E : Type 0} (P : E → Type 0) (r : Result A E) (e : E) → IsErrAnd r (λ y. y ≡ e) → P e → IfErr r P
@@ -32,16 +30,24 @@ ok_never P (Ok x) e exit = absurd exit
 ok_never P (Err y) e exit = tt
 
 -- a text that is a file has tokens
-pub no_tokens : HaveNotBoth → (text : List ℕ) (fault : TokenFault) → IsTokenFault text fault → (file : File) → IsUnitOf text file → of_tokens fault ≡ OutOfMemory
-no_tokens never text (tokens.Refused refusal) h file u = absurd (never text u.tokens refusal u.has h)
-no_tokens never text tokens.OutOfMemory h file u = refl
+pub no_tokens : HaveNotBoth → (text : List ℕ) (fault : ReadFault) → IsTokenFault text fault → (file : File) → IsUnitOf text file → fault ≡ OutOfMemory
+no_tokens never text (Refused refusal) h file u = absurd (never text u.tokens refusal u.has h)
+no_tokens never text OutOfMemory h file u = refl
 
-pub syntax_fault : (text : List ℕ) (found : List Token) (fault : SyntaxFault) → HasTokens text found → IsSyntaxFault (words_of found) fault → IsReadFault text (of_syntax fault)
-syntax_fault text found (syntax.Refused refusal) has h = inr (found, has, h)
-syntax_fault text found syntax.OutOfMemory has h = tt
+-- what is read of the tokens is read of the text
+pub unit_of_text : (text : List ℕ) (found : List Token) → HasTokens text found → (r : Result UnitValue ReadFault) → IfOk r (λ unit. Spells (unit_tree unit) (words_of found))
+    → IfOk r (λ unit. file_nesting (unit_tree unit) ≤ MOST_LEVELS) → IfOk r (λ unit. IsUnitOf text (unit_tree unit))
+unit_of_text text found has (Ok unit) spells levels = record { tokens = found; has = has; spells = spells; levels = levels }
+unit_of_text text found has (Err fault) spells levels = tt
 
-pub memory_only : (fault : SyntaxFault) → fault ≡ syntax.OutOfMemory → of_syntax fault ≡ OutOfMemory
-memory_only fault e = ap of_syntax e
+-- and what is refused of the tokens, of the text
+refused_text : (text : List ℕ) (found : List Token) (fault : ReadFault) → HasTokens text found → IsSyntaxFault (words_of found) fault → IsReadFault text fault
+refused_text text found (Refused refusal) has h = inr (found, has, h)
+refused_text text found OutOfMemory has h = tt
+
+pub fault_of_text : (text : List ℕ) (found : List Token) → HasTokens text found → (r : Result UnitValue ReadFault) → IfErr r (IsSyntaxFault (words_of found)) → IfErr r (IsReadFault text)
+fault_of_text text found has (Ok unit) h = tt
+fault_of_text text found has (Err fault) h = refused_text text found fault has h
 
 -- the file that the tokens spell
 pub spelled : HaveOneReading → (text : List ℕ) (found : List Token) → HasTokens text found → (file : File) → IsUnitOf text file → Spells file (words_of found)
@@ -68,7 +74,9 @@ printed trip text listed file is_list spells fits e =
       alike = alike;
     }
 
-pub same_tree : HaveOneReading → HaveOneTree → (text : List ℕ) (found : List Token) (unit file : File) → HasTokens text found → Spells unit (words_of found) → IsPrinted text file
-    → placeless unit ≡ placeless file
-same_tree one trees text found unit file has spells p =
-    ap placeless (trees (words_of found) unit p.same spells (spelled one text found has p.same p.unit)) ∙ p.alike
+-- what is read of the tokens of a printed text is the file that was printed, up to places
+pub same_tree : HaveOneReading → HaveOneTree → (text : List ℕ) (found : List Token) (file : File) → HasTokens text found → (r : Result UnitValue ReadFault) → IfOk r (λ unit. Spells (unit_tree unit) (words_of found))
+    → IsPrinted text file → IfOk r (λ unit. placeless (unit_tree unit) ≡ placeless file)
+same_tree one trees text found file has (Ok unit) spells p =
+    ap placeless (trees (words_of found) (unit_tree unit) p.same spells (spelled one text found has p.same p.unit)) ∙ p.alike
+same_tree one trees text found file has (Err fault) spells p = tt

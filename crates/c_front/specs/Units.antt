@@ -2,9 +2,9 @@
 use Rattle.std.specs.Prelude.{◌≡◌, ℕ, ◌≤◌, ◌⊎◌, Result, List, IfOk, IfErr}
 use Rattle.c_tokens.specs.declared.places.Refusal.{Refusal}
 use Rattle.c_tokens.specs.declared.token.Token.{Token}
-use Rattle.c_tokens.specs.declared.token.TokenFault.{TokenFault}
-use Rattle.c_tokens.specs.declared.token.TokenFault.TheVariants as tokens
 use Rattle.c_tokens.specs.Grammar.{HasTokens, Refuses}
+use Rattle.c_tokens.specs.declared.fault.ReadFault.{ReadFault}
+use Rattle.c_tokens.specs.declared.fault.ReadFault.TheVariants.{Refused, OutOfMemory}
 use Rattle.c_grammar.specs.Nesting.{file_nesting}
 use Rattle.c_grammar.specs.Placeless.{placeless}
 use Rattle.c_grammar.specs.Refusals.{MOST_LEVELS, RefusedAt}
@@ -13,10 +13,6 @@ use Rattle.c_grammar.specs.Trees.{File}
 use Rattle.c_grammar.specs.Words.{words_of}
 use Rattle.c_tree.specs.declared.items.Unit.{Unit as UnitValue}
 use Rattle.c_tree.specs.Syntax.{unit_tree}
-use Rattle.c_parse_exprs.specs.declared.fault.SyntaxFault.{SyntaxFault}
-use Rattle.c_parse_exprs.specs.declared.fault.SyntaxFault.TheVariants as syntax
-use Rattle.c_front.specs.declared.fault.ReadFault.{ReadFault}
-use Rattle.c_front.specs.declared.fault.ReadFault.TheVariants.{Refused, OutOfMemory}
 
 -- the text has tokens that spell the file, within the levels of nesting
 pub record IsUnitOf (text : List ℕ) (file : File) : Type 0 where
@@ -33,14 +29,6 @@ IsRefusedText text refusal = Refuses text refusal ⊎ ((tokens : List Token) × 
 abbrev pub IsReadFault : List ℕ → ReadFault → Type 0
 IsReadFault text (Refused refusal) = IsRefusedText text refusal
 IsReadFault text OutOfMemory = Unit {0}
-
-abbrev pub of_tokens : TokenFault → ReadFault
-of_tokens (tokens.Refused refusal) = Refused refusal
-of_tokens tokens.OutOfMemory = OutOfMemory
-
-abbrev pub of_syntax : SyntaxFault → ReadFault
-of_syntax (syntax.Refused refusal) = Refused refusal
-of_syntax syntax.OutOfMemory = OutOfMemory
 
 -- the same file is read, up to places, where memory suffices
 pub record ReadsBack (file : File) (result : Result UnitValue ReadFault) : Type 0 where

@@ -2,9 +2,8 @@
 //! file reads back as that file, up to places.
 #![tactic(auto)]
 
-mod fault;
 mod reading;
 
 pub use c_print::print;
-pub use fault::ReadFault;
+pub use c_tokens::ReadFault;
 pub use reading::read_unit;

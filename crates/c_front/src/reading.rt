@@ -1,5 +1,6 @@
 //! Reading: tokens, and then syntax.
 ghost use Rattle.std.specs.Prelude.{◌≡◌, ◌<◌, ◌≤◌, List, length, IfOk, IfErr};
+ghost use Rattle.c_tokens.specs.declared.fault.ReadFault.TheVariants.{OutOfMemory};
 ghost use Rattle.c_tokens.specs.declared.token.Token.{Token as TokenValue};
 ghost use Rattle.c_tokens.specs.Grammar.{HasTokens};
 ghost use Rattle.c_tokens.specs.TokenLists.{IsTokenList};
@@ -10,14 +11,12 @@ ghost use Rattle.c_grammar.specs.Spelling.{Spells};
 ghost use Rattle.c_grammar.specs.Trees.{File};
 ghost use Rattle.c_grammar.specs.Words.{words_of};
 ghost use Rattle.c_tree.specs.Syntax.{unit_tree};
-ghost use Rattle.c_front.specs.declared.fault.ReadFault.TheVariants.{OutOfMemory};
 ghost use Rattle.c_front.specs.Units.{IsUnitOf, IsReadFault, ReadsBack};
 
-use crate::fault::ReadFault;
 use c_grammar::laws::{one_tree, round_trip};
 use c_parse::parse;
 use c_tokens::laws::{one_reading, tokens_or_refusal};
-use c_tokens::tokens;
+use c_tokens::{ReadFault, tokens};
 use c_tree::Unit;
 use std::alloc::Global;
 
@@ -32,7 +31,8 @@ pub fn read_unit(alloc: Global, bytes: &[u8]) -> Result<Unit, ReadFault>
     ensures unit { IfOk result (λ unit. IsUnitOf bytes.now (unit_tree unit)) }
     ensures fault { IfErr result (λ fault. IsReadFault bytes.now fault) }
     ensures complete { (file : File) → IsUnitOf bytes.now file → IfErr result (λ fault. fault ≡ OutOfMemory) }
-    ensures reads_back { (listed : List TokenValue) → (file : File) → IsTokenList listed → Spells file (words_of listed) → file_nesting file ≤ MOST_LEVELS
+    ensures reads_back { (listed : List TokenValue) → (file : File) → IsTokenList listed → Spells file (words_of listed)
+        → file_nesting file ≤ MOST_LEVELS
         → bytes.now ≡ printed_text file → ReadsBack file result }
 {
     one_reading();
@@ -40,5 +40,5 @@ pub fn read_unit(alloc: Global, bytes: &[u8]) -> Result<Unit, ReadFault>
     one_tree();
     round_trip();
     let found = tokens(alloc, bytes)?;
-    Ok(parse(alloc, found.as_slice())?)
+    parse(alloc, found.as_slice())
 }

@@ -3,6 +3,7 @@ use Rattle.std.proofs.Common.{◌≡◌, ℕ, zero, suc, Bool, true, false, refl
 use Rattle.std.specs.Prelude.{◌&&◌}
 use Rattle.grammar_laws.specs.Form.{Form, Word, Closed, Nothing, Both, Either, Many, Nearest, Known}
 use Rattle.grammar_laws.specs.Reading.{Opens, OpensWord, OpensLevel, OpensNothing, OpensBoth, OpensEither, OpensMany, OpensNearest, OpensKnown}
+use Rattle.grammar_laws.proofs.Classes.{and_left, and_right}
 use Rattle.c_grammar.specs.Classes
 use Rattle.c_grammar.specs.Forms
 
@@ -16,14 +17,6 @@ is_open (Either one other) = is_open one && is_open other
 is_open (Many one) = is_open one
 is_open (Nearest class one) = is_open one
 is_open (Known facts one) = is_open one
-
-and_left : (a b : Bool) → (a && b) ≡ true → a ≡ true
-and_left true b e = refl
-and_left false b e = e
-
-and_right : (a b : Bool) → (a && b) ≡ true → b ≡ true
-and_right true b e = e
-and_right false b e = absurd (cc)
 
 -- such a form opens to itself
 itself : (form : Form) → is_open form ≡ true → Opens form form

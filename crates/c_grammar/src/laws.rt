@@ -1,5 +1,15 @@
 //! Laws of the grammar. Each is the contract of a function with an empty body.
-ghost use Rattle.c_grammar.specs.Laws.{HaveOneTree, HaveRoundTrip, HaveOneRefusal, HaveNotBoth, HaveEither, HaveTighterOperands, HaveChains, HaveNearestElse, HaveVoidAlone};
+ghost use Rattle.c_grammar.specs.Laws.{
+  HaveOneTree,
+  HaveRoundTrip,
+  HaveOneRefusal,
+  HaveNotBoth,
+  HaveEither,
+  HaveTighterOperands,
+  HaveChains,
+  HaveNearestElse,
+  HaveVoidAlone,
+};
 
 /// No words have two trees: the grammar is unambiguous.
 pub fn one_tree()

@@ -1,34 +1,27 @@
 -- What is found in one part and then in another.
-use Rattle.std.proofs.Common.{◌≡◌, ℕ, ◌+◌, ◌<◌, List, [], ◌∷◌, ◌++◌, length, drop, get_or, Result, Ok, Err, OnOk, append_assoc, refl, sym, ap, ◌∙◌, subst}
+use Rattle.std.proofs.Common.{◌≡◌, ℕ, ◌+◌, ◌<◌, List, [], ◌∷◌, ◌++◌, length, drop, get_or, Result, Ok, Err, OnOk, append_assoc, sym, ap, ◌∙◌, subst}
 use Rattle.std.proofs.lemmas.List.{append-nil, at_drop_more}
 use Rattle.c_tokens.specs.declared.places.Refusal.{Refusal}
-use Rattle.c_types_names.specs.declared.first.First.{First}
-use Rattle.c_types_names.specs.Lowered.{lowered}
-use Rattle.c_types_names.proofs.Lowering as lowering
+use Rattle.c_types_rules.proofs.KnownTables.{nil_left, nil_right}
+use Rattle.c_types_names.specs.declared.first_refusal.FirstRefusal.{FirstRefusal}
+use Rattle.c_types_names.specs.FirstRefusal.{with_refusals}
+use Rattle.c_types_names.proofs.FirstRefusals as more
 use Rattle.c_lower.specs.declared.building.Building.{Building}
 use Rattle.c_lower.specs.Building.{Part, no_part, ◌⊹◌, Adds, AddsUpTo}
 
-pub nil_left : {X : Type 0} (xs ys : List X) → xs ++ ys ≡ [] → xs ≡ []
-nil_left [] ys e = refl
-nil_left (x ∷ xs) ys e = absurd cc
-
-pub nil_right : {X : Type 0} (xs ys : List X) → xs ++ ys ≡ [] → ys ≡ []
-nil_right [] ys e = e
-nil_right (x ∷ xs) ys e = absurd cc
-
 -- nothing is found
 pub nothing : (b : Building) → Adds no_part b b
-nothing b = record { first = lowering.nothing b.first; procs = λ none. sym (append-nil b.procs) }
+nothing b = record { first = more.nothing b.first; procs = λ none. sym (append-nil b.procs) }
 
 -- something is refused
-pub refused : (all : List Refusal) (b : Building) (first : First) → first ≡ lowered b.first all
+pub refused : (all : List Refusal) (b : Building) (first : FirstRefusal) → first ≡ with_refusals b.first all
     → Adds (record { refusals = all; procs = [] }) b (record { first = first; procs = b.procs })
 refused all b first is = record { first = is; procs = λ none. sym (append-nil b.procs) }
 
 -- one part, and then the other
 pub then : {one other : Part} {a b c : Building} → Adds one a b → Adds other b c → Adds (one ⊹ other) a c
 then {one = one} {other = other} {a = a} {b = b} {c = c} first next = record {
-  first = lowering.then a.first b.first c.first one.refusals other.refusals first.first next.first;
+  first = more.then a.first b.first c.first one.refusals other.refusals first.first next.first;
   procs = λ none.
       next.procs (nil_right one.refusals other.refusals none)
       ∙ ap (λ ps. ps ++ other.procs) (first.procs (nil_left one.refusals other.refusals none))

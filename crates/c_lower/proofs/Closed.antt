@@ -17,8 +17,8 @@ use Rattle.c_types_names.specs.declared.kinds.CType.{CType}
 use Rattle.c_types_names.specs.declared.kinds.CType.TheVariants as ctype
 use Rattle.c_types_names.specs.Seen.{type_seen}
 use Rattle.c_tree.specs.Syntax.{BlockTree}
-use Rattle.c_lower_emit.specs.declared.drafts.Target.{Target}
-use Rattle.c_lower_emit.specs.declared.drafts.Target.TheVariants.{At, Next}
+use Rattle.c_lower_emit.specs.declared.drafts.Label.{Label}
+use Rattle.c_lower_emit.specs.declared.drafts.Label.TheVariants.{At, Next}
 use Rattle.c_lower_emit.specs.declared.uses.Use.TheVariants.{Value}
 use Rattle.c_lower_emit.specs.Drafts.{redirect, next_at}
 use Rattle.c_lower_emit.specs.Emitting.{Out, HasRoom, with_draft, led_out, EmitsCode, EmitsMaking, Emits}
@@ -107,7 +107,7 @@ closed_size result place l =
     omega (arith, size, closing_size result (at_place l.behind.context place) (released l.behind.temps))
 
 -- temporaries are released behind the code
-code_released : (code : Code) (t : List Temp) (begin : Target) (o m : Out) → EmitsCode code t begin o m
+code_released : (code : Code) (t : List Temp) (begin : Label) (o m : Out) → EmitsCode code t begin o m
     → EmitsCode code (released t) begin o (record m { temps = released m.temps })
 code_released code t begin o m h = record {
   drafts = h.drafts;

@@ -1,5 +1,5 @@
 -- Files, one behind another.
-use Rattle.std.proofs.Common.{◌≡◌, ℕ, suc, ◌+◌, ◌<◌, ◌≤◌, List, [], ◌∷◌, ◌++◌, length, map, drop, get_or, append_assoc, refl, sym, ap, ◌∙◌, subst, arith, add-one}
+use Rattle.std.proofs.Common.{◌≡◌, ℕ, suc, ◌+◌, ◌<◌, ◌≤◌, List, ◌∷◌, ◌++◌, length, map, drop, get_or, append_assoc, sym, ap, ◌∙◌, subst, arith, add-one}
 use Rattle.std.specs.Prelude.{All}
 use Rattle.std.proofs.lemmas.List.{at_drop_more, at_drop_all, length-map, get_or-map}
 use Rattle.c_tree.specs.declared.items.Unit.{Unit}
@@ -7,17 +7,14 @@ use Rattle.c_tree.specs.Syntax.{unit_tree}
 use Rattle.c_grammar.specs.Trees.{File}
 use Rattle.c_types_rules.specs.Tables.{Tables}
 use Rattle.c_types_rules.specs.Programs.{in_unit, first_of}
-use Rattle.c_types_names.specs.declared.first.First.{First}
-use Rattle.c_types.specs.Firsts.{first_with}
-use Rattle.c_types.proofs.Firsts.{first_with-append, first_with-nil, first_with-is, lowered-found}
+use Rattle.c_types_rules.proofs.KnownPrograms.{nothing_mapped}
+use Rattle.c_types_rules.proofs.KnownTables.{nil_left, nil_right}
+use Rattle.c_types_names.specs.declared.first_refusal.FirstRefusal.{FirstRefusal}
+use Rattle.c_types.specs.FirstRefusals.{first_with}
+use Rattle.c_types.proofs.FirstRefusals.{first_with-append, first_with-nil, first_with-is, with_refusals-found}
 use Rattle.c_lower_rules.specs.Programs.{items_refusals, items_procs, files_refusals, files_procs}
 use Rattle.c_lower.specs.declared.building.Building.{Building}
 use Rattle.c_lower.specs.Building.{items_part, Adds, IsBuiltUpTo}
-use Rattle.c_lower.proofs.Adding.{nil_left, nil_right}
-
-map_nil : {X Y : Type 0} (f : X → Y) (xs : List X) → map f xs ≡ [] → xs ≡ []
-map_nil f [] e = refl
-map_nil f (x ∷ xs) e = absurd cc
 
 -- what is so of each of some values is so of the one at a place
 pub at_map : {X Y : Type 0} (P : Y → Type 0) (f : X → Y) (xs : List X) (i : ℕ) (x : X) → i < length xs → x ≡ get_or xs i x → All P (map f xs) → P (f x)
@@ -33,14 +30,14 @@ module _ (tables : Tables) (files : List File) (names : List (List ℕ)) where
   file_turn file rest name rest_names unit before now known adds =
       let all = map (in_unit unit) (items_refusals tables file.items) in
       let found_now : now.first.found ≡ first_with before.first.found all =
-      ap (λ (f : First). f.found) adds.first ∙ lowered-found (record { unit = unit; found = before.first.found }) (items_refusals tables file.items) in
+      ap (λ (f : FirstRefusal). f.found) adds.first ∙ with_refusals-found (record { unit = unit; found = before.first.found }) (items_refusals tables file.items) in
       record {
         refusal = ap (λ f. first_with f (files_refusals tables (suc unit) rest)) found_now
             ∙ sym (first_with-append before.first.found all (files_refusals tables (suc unit) rest)) ∙ known.refusal;
         none = λ e. nil_right all (files_refusals tables (suc unit) rest) (known.none e);
         procs = λ e.
             ap (λ ps. ps ++ files_procs tables rest_names rest)
-            (adds.procs (map_nil (in_unit unit) (items_refusals tables file.items) (nil_left all (files_refusals tables (suc unit) rest) (known.none e))))
+            (adds.procs (nothing_mapped (in_unit unit) (items_refusals tables file.items) (nil_left all (files_refusals tables (suc unit) rest) (known.none e))))
             ∙ append_assoc before.procs (items_procs tables name file.items) (files_procs tables rest_names rest)
             ∙ known.procs e;
       }

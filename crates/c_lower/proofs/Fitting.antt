@@ -16,8 +16,8 @@ use Rattle.c_lower_rules.specs.Statements.{Lowered, stmts_kinds}
 use Rattle.c_lower_rules.specs.Programs.{MOST_NODES, MOST_LOCALS, MOST_TEMPORARIES, MOST_PARAMETERS, NODES, SLOTS, PARAMETERS}
 use Rattle.c_lower_rules.specs.Programs.{lowered_body, temp_kind, size_refusals}
 use Rattle.c_types_names.specs.Seen.{type_seen}
-use Rattle.c_types_names.specs.declared.first.First.{First}
-use Rattle.c_types_names.specs.Lowered.{lowered}
+use Rattle.c_types_names.specs.declared.first_refusal.FirstRefusal.{FirstRefusal}
+use Rattle.c_types_names.specs.FirstRefusal.{with_refusals}
 use Rattle.c_lower.specs.declared.body.Body.{Body}
 use Rattle.c_lower.specs.Bodies.{IsBodyOf}
 use Rattle.c_lower.specs.declared.sizes.Sizes.{Sizes}
@@ -93,9 +93,9 @@ module _ (tables : Tables) (head : tree.Head) (body : tree.Stmts) (l : Lowered) 
   are_with_nodes = ap with_nodes (is_more (length (l.code.nodes 0 (onto 0))) 512 many)
 
   -- that is refused before all else
-  pub alone : (f : First) (place : Place) → place ≡ place_of_head head → lowered f (unless false place NODES) ≡ lowered f (size_refusals tables head body l)
+  pub alone : (f : FirstRefusal) (place : Place) → place ≡ place_of_head head → with_refusals f (unless false place NODES) ≡ with_refusals f (size_refusals tables head body l)
   alone f place at =
-      ap (λ p. lowered f (unless false p NODES)) at ∙ sym (nodes_alone f (place_of_head head) _ _ _) ∙ ap (lowered f) (sym are_with_nodes)
+      ap (λ p. with_refusals f (unless false p NODES)) at ∙ sym (nodes_alone f (place_of_head head) _ _ _) ∙ ap (with_refusals f) (sym are_with_nodes)
 
   pub refused_for_nodes : size_refusals tables head body l ≡ [] → ⊥
   refused_for_nodes none = not_nil _ _ (sym are_with_nodes ∙ none)

@@ -2,13 +2,14 @@
 use Rattle.std.specs.Prelude.{not, nat_lt}
 use Rattle.std.proofs.Common.{◌≡◌, ℕ, ◌≤◌, Bool, true, false, Option, Some, None, ◌++◌, refl, sym, ap, ◌∙◌, arith}
 use Rattle.c_tokens.specs.declared.places.Place.{Place}
+use Rattle.c_tokens.specs.Places.{refusal}
 use Rattle.c_types_rules.specs.declared.at.At.{At}
-use Rattle.c_types_rules.specs.Types.{unless, refusal}
+use Rattle.c_types_rules.specs.Types.{unless}
 use Rattle.c_types_rules.specs.Programs.{stands_before, is_no_later, first_by, in_unit}
-use Rattle.c_types_names.specs.declared.first.First.{First}
-use Rattle.c_types_names.specs.Lowered.{least, lowered_by, lowered}
-use Rattle.c_types_names.proofs.Lowering.{lowered-append}
-use Rattle.c_types.proofs.Firsts.{first_of_three}
+use Rattle.c_types_names.specs.declared.first_refusal.FirstRefusal.{FirstRefusal}
+use Rattle.c_types_names.specs.FirstRefusal.{least, with_refusal, with_refusals}
+use Rattle.c_types_names.proofs.FirstRefusals.{with_refusals-append}
+use Rattle.c_types.proofs.FirstRefusals.{first_of_three}
 use Rattle.c_lower_rules.specs.Programs.{NODES, SLOTS, PARAMETERS}
 
 level : (n : ℕ) (p : Bool) → p ≡ true → stands_before n n p ≡ true
@@ -30,37 +31,37 @@ least_kept (Some x) one other is =
     ∙ ap (λ b. first_by (is_no_later x (first_by b one other)) x (first_by b one other)) is)
 
 -- what is refused at a place is not changed by a later code
-later : (f : First) (place : Place) (code other : ℕ) → code ≤ other
-    → lowered_by (lowered_by f (refusal place code)) (refusal place other) ≡ lowered_by f (refusal place code)
+later : (f : FirstRefusal) (place : Place) (code other : ℕ) → code ≤ other
+    → with_refusal (with_refusal f (refusal place code)) (refusal place other) ≡ with_refusal f (refusal place code)
 later f place code other h =
     ap (λ (o : Option At). record f { found = o })
     (least_kept f.found (in_unit f.unit (refusal place code)) (in_unit f.unit (refusal place other)) (in_order f.unit place code other h))
 
-later_unless : (f : First) (holds : Bool) (place : Place) (code other : ℕ) → code ≤ other
-    → lowered (lowered_by f (refusal place code)) (unless holds place other) ≡ lowered_by f (refusal place code)
-unfolding lowered
+later_unless : (f : FirstRefusal) (holds : Bool) (place : Place) (code other : ℕ) → code ≤ other
+    → with_refusals (with_refusal f (refusal place code)) (unless holds place other) ≡ with_refusal f (refusal place code)
+unfolding with_refusals
 later_unless f true place code other h = refl
 later_unless f false place code other h = later f place code other h
 
-first_is : (f : First) (place : Place) (code : ℕ) → lowered f (unless false place code) ≡ lowered_by f (refusal place code)
-unfolding lowered
+first_is : (f : FirstRefusal) (place : Place) (code : ℕ) → with_refusals f (unless false place code) ≡ with_refusal f (refusal place code)
+unfolding with_refusals
 first_is f place code = refl
 
 -- where there are too many nodes, nothing else counts
-pub nodes_alone : (f : First) (place : Place) (slots temps params : Bool)
-    → lowered f (unless false place NODES ++ unless slots place SLOTS ++ unless temps place SLOTS ++ unless params place PARAMETERS)
-    ≡ lowered f (unless false place NODES)
+pub nodes_alone : (f : FirstRefusal) (place : Place) (slots temps params : Bool)
+    → with_refusals f (unless false place NODES ++ unless slots place SLOTS ++ unless temps place SLOTS ++ unless params place PARAMETERS)
+    ≡ with_refusals f (unless false place NODES)
 nodes_alone f place slots temps params =
     let one = unless false place NODES in
     let two = unless slots place SLOTS in
     let three = unless temps place SLOTS in
     let four = unless params place PARAMETERS in
-    lowered-append f ((one ++ two) ++ three) four
-    ∙ ap (λ h. lowered h four)
-    (lowered-append f (one ++ two) three
-    ∙ ap (λ h. lowered h three)
-    (lowered-append f one two
-    ∙ ap (λ h. lowered h two) (first_is f place NODES)
+    with_refusals-append f ((one ++ two) ++ three) four
+    ∙ ap (λ h. with_refusals h four)
+    (with_refusals-append f (one ++ two) three
+    ∙ ap (λ h. with_refusals h three)
+    (with_refusals-append f one two
+    ∙ ap (λ h. with_refusals h two) (first_is f place NODES)
     ∙ later_unless f slots place NODES SLOTS (omega arith))
     ∙ later_unless f temps place NODES SLOTS (omega arith))
     ∙ later_unless f params place NODES PARAMETERS (omega arith)

@@ -15,8 +15,8 @@ use Rattle.c_tree.specs.declared.stmts.Stmt.TheFolds.{fold_out-Block}
 use Rattle.c_tree.specs.Syntax.{BlockTree, stmt_level, block_level, block_tree, stmts_tree}
 use Rattle.c_grammar.specs.Trees as tree
 use Rattle.c_tokens.specs.declared.places.Place.{Place}
-use Rattle.c_lower_emit.specs.declared.drafts.Target.{Target}
-use Rattle.c_lower_emit.specs.declared.drafts.Target.TheVariants.{At}
+use Rattle.c_lower_emit.specs.declared.drafts.Label.{Label}
+use Rattle.c_lower_emit.specs.declared.drafts.Label.TheVariants.{At}
 use Rattle.c_lower_emit.specs.Drafts.{at_start, resolve, laid, next_at}
 use Rattle.c_lower_emit.specs.Emitting.{Out, HasRoom, led_out, EmitsCode}
 use Rattle.c_lower_emit.proofs.Joining.{behind_nodes, code_then}
@@ -39,7 +39,7 @@ module _ (tables : Tables) (head : Head) (block : BlockTree) (o : Out) where
   abbrev start : Context
   start = at_body tables head (length (stmts_kinds tables block.body))
 
-  pub begun_closed : (c : Context) (locals : ℕ) (begin : Target) (new : Out) → IsIntNumber (length (listed head.params)) → locals ≡ stmts_locals block.body
+  pub begun_closed : (c : Context) (locals : ℕ) (begin : Label) (new : Out) → IsIntNumber (length (listed head.params)) → locals ≡ stmts_locals block.body
       → stmts_size block.body ≤ 512 → length o.nodes ≤ 1 → o.temps ≡ [] → HaveSizes → HaveLocalKinds → HaveANodeForEachLocal
       → (length (listed head.params) + locals < 4294967296 → c ≡ at_body tables head locals)
       → ((line : ℕ) → HasRoom c.first_temp (closed_body (on_line c line) block o).code.size o → HasSlots c 0 (closed_body (on_line c line) block o).code.size
@@ -62,7 +62,7 @@ module _ (tables : Tables) (head : Head) (block : BlockTree) (o : Out) where
       (omega (arith, params, size, exact, few))
 
 -- a body behind a test that always holds
-pub opened_whole : (l : Lowered) (begin : Target) (o p q new : Out) → o ≡ no_out → EmitsCode opening o.temps (At (length o.nodes)) o p → Closes l begin p q
+pub opened_whole : (l : Lowered) (begin : Label) (o p q new : Out) → o ≡ no_out → EmitsCode opening o.temps (At (length o.nodes)) o p → Closes l begin p q
     → (0 ≤ 1 → 1 ≤ length q.nodes → new ≡ led_out 0 1 (next_at begin) q) → Closes (behind_opening l) (At 0) no_out new
 opened_whole l begin o p q new none opens closes leads =
     let opens' = subst (λ (x : Out). EmitsCode opening x.temps (At (length x.nodes)) x p) none opens in
@@ -78,7 +78,7 @@ opened_whole l begin o p q new none opens closes leads =
 
 module _ (tables : Tables) (head : Head) (block : BlockTree) where
   -- the body of a procedure
-  whole_body : (l : Lowered) (begin : Target) (out : Out) (found : Body) → opened (closed_of tables head block) ≡ l → Closes l begin no_out out → IsFinished out found
+  whole_body : (l : Lowered) (begin : Label) (out : Out) (found : Body) → opened (closed_of tables head block) ≡ l → Closes l begin no_out out → IsFinished out found
       → IsBodyOf tables head block found
   whole_body l begin out found is closes finished = record {
     nodes = finished.nodes ∙ ap (map (laid at_start)) closes.emits.grows.nodes ∙ closes.emits.laid at_start ∙ ap (λ (x : Lowered). x.code.nodes 0 (onto 0)) (sym is);
@@ -87,7 +87,7 @@ module _ (tables : Tables) (head : Head) (block : BlockTree) where
   }
 
   -- its code begins at its first node
-  pub begun_first : (begin : Target) (place : ℕ) (none out : Out) (found : Body) → none ≡ no_out → Closes (closed_of tables head block) begin none out
+  pub begun_first : (begin : Label) (place : ℕ) (none out : Out) (found : Body) → none ≡ no_out → Closes (closed_of tables head block) begin none out
       → place ≡ resolve at_start begin → place ≡ 0 → IsFinished out found → IsBodyOf tables head block found
   begun_first begin place none out found nothing closes places first =
       let l = closed_of tables head block in
@@ -100,7 +100,7 @@ module _ (tables : Tables) (head : Head) (block : BlockTree) where
   begun_behind (suc n) code not = refl
 
   -- its code begins at another node
-  pub begun_later : (begin : Target) (place : ℕ) (none before out : Out) (found : Body) → none ≡ no_out → Closes (closed_of tables head block) begin none before
+  pub begun_later : (begin : Label) (place : ℕ) (none before out : Out) (found : Body) → none ≡ no_out → Closes (closed_of tables head block) begin none before
       → place ≡ resolve at_start begin → (place ≡ 0 → ⊥) → Closes (behind_opening (closed_of tables head block)) (At 0) no_out out → IsFinished out found
       → IsBodyOf tables head block found
   begun_later begin place none before out found nothing closes places not behind =

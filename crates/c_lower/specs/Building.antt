@@ -5,8 +5,8 @@ use Rattle.c_tokens.specs.declared.places.Refusal.{Refusal}
 use Rattle.c_grammar.specs.Trees.{Item, File}
 use Rattle.c_types_rules.specs.Tables.{Tables}
 use Rattle.c_lower_rules.specs.Programs.{item_refusals, items_refusals, item_procs, items_procs, files_refusals, files_procs}
-use Rattle.c_types_names.specs.Lowered.{lowered}
-use Rattle.c_types.specs.Firsts.{first_with}
+use Rattle.c_types_names.specs.FirstRefusal.{with_refusals}
+use Rattle.c_types.specs.FirstRefusals.{first_with}
 use Rattle.c_lower.specs.declared.building.Building.{Building}
 
 -- what is too large in a part of a program, and its procedures
@@ -33,7 +33,7 @@ items_part tables file items = record { refusals = items_refusals tables items; 
 
 -- afterwards stands what stood before, with what is found in a part: the first that is too large, and the procedures, if in the part nothing is too large
 pub record Adds (part : Part) (before after : Building) : Type 0 where
-  pub first : after.first ≡ lowered before.first part.refusals
+  pub first : after.first ≡ with_refusals before.first part.refusals
   pub procs : part.refusals ≡ [] → after.procs ≡ before.procs ++ part.procs
 
 -- with what is left to be found, all is found

@@ -16,7 +16,7 @@ use Rattle.c_lower_rules.specs.Programs.{at_body, result_type, closed, temp_kind
 use Rattle.c_lower_emit.specs.Seen.{loop_seen}
 use Rattle.c_types_names.specs.Seen.{type_seen}
 use Rattle.c_tree.specs.Syntax.{BlockTree}
-use Rattle.c_lower_emit.specs.declared.drafts.Target.{Target}
+use Rattle.c_lower_emit.specs.declared.drafts.Label.{Label}
 use Rattle.c_lower_emit.specs.Drafts.{at_start, laid}
 use Rattle.c_lower_emit.specs.Emitting.{Out, EmitsCode}
 use Rattle.c_lower_stmts.specs.Laying.{state}
@@ -57,7 +57,7 @@ abbrev pub no_out : Out
 no_out = record { nodes = []; temps = []; loops = [] }
 
 -- the piece was emitted, with temporaries of these types, and a run of it begins there
-pub record Closes (l : Lowered) (begin : Target) (old new : Out) : Type 0 where
+pub record Closes (l : Lowered) (begin : Label) (old new : Out) : Type 0 where
   pub emits : EmitsCode l.code new.temps begin old new
   pub temps : map temp_kind new.temps ≡ map temp_kind l.behind.temps
 

@@ -4,14 +4,14 @@ ghost use Rattle.c_types_rules.specs.Items.{listed};
 ghost use Rattle.c_lower_rules.specs.Numbers.{IsIntNumber, StmtsHaveIntNumbers};
 ghost use Rattle.c_lower_sizes.specs.Sizes.{stmts_size, stmts_locals};
 ghost use Rattle.c_tree.specs.Syntax.{head_tree, block_tree};
-ghost use Rattle.c_lower_emit.specs.declared.drafts.Target.TheVariants.{At};
+ghost use Rattle.c_lower_emit.specs.declared.drafts.Label.TheVariants.{At};
 ghost use Rattle.c_lower_emit.specs.Emitting.{EmitsCode};
 ghost use Rattle.c_lower.specs.Bodies.{IsBodyOf};
 ghost use Rattle.c_lower.specs.Closing.{opening, closed_of, behind_opening, no_out, Closes};
 
 use crate::closing::closed_body;
 use crate::finish::finish;
-use c_lower_emit::drafts::Target;
+use c_lower_emit::drafts::Label;
 use c_lower_emit::loops::Loop;
 use c_lower_emit::output::Output;
 use c_lower_exprs::context::Context;
@@ -41,7 +41,7 @@ fn push_opening(out: &mut Output) -> Result<(), AllocError>
         yes: 0,
         no: 0,
     };
-    out.push(0, branch, Target::Next, Target::Next)
+    out.push(0, branch, Label::Next, Label::Next)
 }
 
 /// The body and what closes it, behind one node at most; where a run of it begins.
@@ -51,7 +51,7 @@ fn closed<'a>(
     body: &'a Block,
     locals: u32,
     out: &mut Output<'a>,
-) -> Result<Target, AllocError>
+) -> Result<Label, AllocError>
     requires params { IsIntNumber (length (listed (head_tree head.now).params)) }
     requires locals { locals ≡ stmts_locals (block_tree body.now).body }
     requires size { stmts_size (block_tree body.now).body ≤ 512 }
@@ -59,7 +59,8 @@ fn closed<'a>(
     requires nodes { length out.old.nodes ≤ 1 }
     requires temps { out.old.temps ≡ [] }
     ensures tables { IfOk result (λ _. context.new.env.tables ≡ context.old.env.tables) }
-    ensures code { IfOk result (λ begin. Closes (closed_of context.old.env.tables (head_tree head.now) (block_tree body.now)) begin out.old out.new) }
+    ensures code { IfOk result
+        (λ begin. Closes (closed_of context.old.env.tables (head_tree head.now) (block_tree body.now)) begin out.old out.new) }
 {
     code_has_its_size();
     locals_have_nodes();
@@ -81,7 +82,8 @@ fn opened<'a>(
     requires size { stmts_size (block_tree body.now).body ≤ 512 }
     requires numbers { StmtsHaveIntNumbers (block_tree body.now).body }
     ensures tables { IfOk result (λ _. context.new.env.tables ≡ context.old.env.tables) }
-    ensures code { IfOk result (λ out. Closes (behind_opening (closed_of context.old.env.tables (head_tree head.now) (block_tree body.now))) (At 0) no_out out) }
+    ensures code { IfOk result
+        (λ out. Closes (behind_opening (closed_of context.old.env.tables (head_tree head.now) (block_tree body.now))) (At 0) no_out out) }
 {
     let mut out = Output::new(alloc);
     push_opening(&mut out)?;

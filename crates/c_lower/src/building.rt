@@ -1,5 +1,5 @@
 //! What is found in a program so far.
-use c_types_names::first::First;
+use c_types_names::first_refusal::FirstRefusal;
 use shape_data::Row;
 use shape_data::program::Proc;
 
@@ -7,6 +7,6 @@ use shape_data::program::Proc;
 /// left out.
 #[derive(Drop)]
 pub struct Building {
-    pub first: First,
+    pub first: FirstRefusal,
     pub procs: Row<Proc>,
 }

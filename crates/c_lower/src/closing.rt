@@ -5,20 +5,19 @@ ghost use Rattle.c_lower_rules.specs.Temporaries.{take_temp, released};
 ghost use Rattle.c_lower_rules.specs.Numbers.{StmtsHaveIntNumbers};
 ghost use Rattle.c_tree.specs.Syntax.{block_tree};
 ghost use Rattle.c_types_names.specs.Seen.{type_seen};
-ghost use Rattle.c_lower_emit.specs.declared.drafts.Target.TheVariants.{At};
+ghost use Rattle.c_lower_emit.specs.declared.drafts.Label.TheVariants.{At};
 ghost use Rattle.c_lower_emit.specs.Emitting.{HasRoom, EmitsCode};
 ghost use Rattle.c_lower_exprs.specs.Contexts.{on_line};
 ghost use Rattle.c_lower_simples.specs.Declaring.{HasSlots};
 ghost use Rattle.c_lower.specs.Closing.{value_closing, closing, closed_body, Closes};
 
-use c_lower_emit::drafts::{AS_THEY_ARE, Target, Ways};
+use c_lower_emit::drafts::{AS_THEY_ARE, Label, Ways};
 use c_lower_emit::output::Output;
 use c_lower_emit::uses::{Spot, Use};
 use c_lower_exprs::context::Context;
-use c_lower_simples::types::type_of;
 use c_lower_stmts::stmts::stmts;
 use c_tree::{Block, Place};
-use c_types_names::kinds::CType;
+use c_types_names::kinds::{CType, type_of};
 use shape_data::program::{Cmd, Operand};
 use std::alloc::AllocError;
 
@@ -43,7 +42,7 @@ fn close_with_value<'a>(
         next: 0,
     };
     let value = out.make(spot, kind, any, Use::Value)?;
-    out.push(line, Cmd::Return { value }, Target::Next, Target::Next)
+    out.push(line, Cmd::Return { value }, Label::Next, Label::Next)
 }
 
 /// What closes a body, at the place of its `}`.
@@ -59,7 +58,7 @@ fn close<'a>(context: &Context<'a>, place: Place, out: &mut Output<'a>) -> Resul
             let nothing = Cmd::Return {
                 value: Operand::Num(0),
             };
-            out.push(line, nothing, Target::Next, Target::Next)
+            out.push(line, nothing, Label::Next, Label::Next)
         }
         kind => close_with_value(context, line, kind, out),
     }
@@ -70,7 +69,7 @@ pub fn closed_body<'a>(
     context: &mut Context<'a>,
     body: &'a Block,
     out: &mut Output<'a>,
-) -> Result<Target, AllocError>
+) -> Result<Label, AllocError>
     requires { StmtsHaveIntNumbers (block_tree body.now).body }
     ensures tables { IfOk result (λ _. context.new.env.tables ≡ context.old.env.tables) }
     ensures code { IfOk result (λ begin. (line : ℕ) → (let l = closed_body (on_line context.old line) (block_tree body.now) out.old in
@@ -79,7 +78,7 @@ pub fn closed_body<'a>(
     let from = out.len();
     let laid = stmts(context, 0, &body.stmts, out)?;
     let past = out.len();
-    let end = Target::At(out.here());
+    let end = Label::At(out.here());
     close(context, body.close, out)?;
     out.lead_next(from, past, end);
     let ways = Ways {

@@ -3,10 +3,10 @@ ghost use Rattle.std.specs.Prelude.{◌≡◌, nat_le, length, map};
 ghost use Rattle.c_types_rules.specs.Items.{field_names};
 ghost use Rattle.c_lower_rules.specs.Programs.{MOST_FIELDS, fields_refusals};
 ghost use Rattle.c_tree.specs.Syntax.{fields_tree};
-ghost use Rattle.c_types_names.specs.Lowered.{lowered};
+ghost use Rattle.c_types_names.specs.FirstRefusal.{with_refusals};
 
 use c_tree::{FieldDecl, Place};
-use c_types_names::first::First;
+use c_types_names::first_refusal::FirstRefusal;
 
 /// Most fields of a structure.
 const MOST_FIELDS: usize = 16;
@@ -30,8 +30,8 @@ fn are_few(lines: &[FieldDecl]) -> bool
 }
 
 /// Refuses a structure with too many fields.
-pub fn fields_refusals(place: Place, lines: &[FieldDecl], first: &mut First)
-    ensures { first.new ≡ lowered first.old (fields_refusals place (map fields_tree lines.now)) }
+pub fn fields_refusals(place: Place, lines: &[FieldDecl], first: &mut FirstRefusal)
+    ensures { first.new ≡ with_refusals first.old (fields_refusals place (map fields_tree lines.now)) }
 {
     first.unless(are_few(lines), place, FIELDS);
 }

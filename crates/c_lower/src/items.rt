@@ -10,8 +10,9 @@ use crate::building::Building;
 use crate::fields::fields_refusals;
 use crate::lower_body;
 use crate::procs::proc;
-use crate::sizes::{MOST_NODES, NODES, Sizes, param_count};
+use crate::sizes::{MOST_NODES, NODES, Sizes};
 use c_lower_exprs::context::Context;
+use c_lower_exprs::param_count;
 use c_lower_sizes::laws::{bodies_are_no_larger, locals_have_nodes, locals_have_types};
 use c_lower_sizes::{body_size, local_count};
 use c_tree::places::place_of_specifier;
@@ -30,7 +31,8 @@ fn small_definition<'a>(
     requires params { IsIntNumber (length (listed (head_tree head.now).params)) }
     requires numbers { StmtsHaveIntNumbers (block_tree block.now).body }
     requires size { stmts_size (block_tree block.now).body ≤ 512 }
-    ensures built { OnOk result (Adds (item_part context.old.env.tables file.now (definition_of (head_tree head.now) (block_tree block.now))) built.old built.new) }
+    ensures built { OnOk result
+        (Adds (item_part context.old.env.tables file.now (definition_of (head_tree head.now) (block_tree block.now))) built.old built.new) }
     ensures tables { OnOk result (context.new.env.tables ≡ context.old.env.tables) }
 {
     locals_have_types();
@@ -63,7 +65,8 @@ fn definition<'a>(
 ) -> Result<(), AllocError>
     requires params { IsIntNumber (length (listed (head_tree head.now).params)) }
     requires numbers { StmtsHaveIntNumbers (block_tree block.now).body }
-    ensures built { OnOk result (Adds (item_part context.old.env.tables file.now (definition_of (head_tree head.now) (block_tree block.now))) built.old built.new) }
+    ensures built { OnOk result
+        (Adds (item_part context.old.env.tables file.now (definition_of (head_tree head.now) (block_tree block.now))) built.old built.new) }
     ensures tables { OnOk result (context.new.env.tables ≡ context.old.env.tables) }
 {
     bodies_are_no_larger();

@@ -1,26 +1,15 @@
 //! The types of a body's locals, in the order of the text.
-ghost use Rattle.std.specs.Prelude.{◌≡◌, ◌++◌, ◌∷◌, [], IfOk, OnOk, map};
-ghost use Rattle.c_types_rules.specs.Programs.{known};
+ghost use Rattle.std.specs.Prelude.{◌≡◌, ◌++◌, ◌∷◌, [], OnOk, map};
 ghost use Rattle.c_lower_rules.specs.Statements.{kinds_of_locals, declared_kinds, init_kinds, stmt_kinds, stmts_kinds};
 ghost use Rattle.c_tree.specs.Syntax.{specifier_tree, initialized_tree, local_tree, init_tree, stmt_tree, block_tree};
-ghost use Rattle.c_types_names.specs.Seen.{kind_seen};
 
-use c_lower_exprs::context;
-use c_lower_simples::types::type_of;
 use c_tree::{Block, ForInit, Initialized, Local, Stmt, TypeSpecifier};
-use c_types_names::kinds::Kind;
+use c_types_names::kinds::known_type;
 use c_types_names::objects::object_kind;
 use c_types_names::tables::Tables;
 use shape_data::Row;
 use shape_data::program::Ty;
 use std::alloc::AllocError;
-
-/// The type, where it is known.
-pub fn known(kind: Kind) -> Result<Ty, AllocError>
-    ensures { IfOk result (λ ty. ty ≡ known (kind_seen kind.entry)) }
-{
-    type_of(context::known(kind))
-}
 
 /// The type of one more local.
 fn push_local<'a>(
@@ -29,20 +18,22 @@ fn push_local<'a>(
     one: &'a Initialized,
     slots: &mut Row<Ty>,
 ) -> Result<(), AllocError>
-    ensures { OnOk result (slots.new ≡ slots.old ++ kinds_of_locals tables.now (specifier_tree specifier.now) (initialized_tree one.now ∷ [])) }
+    ensures { OnOk result (slots.new ≡ slots.old ++ kinds_of_locals tables.now (specifier_tree specifier.now)
+        (initialized_tree one.now ∷ [])) }
 {
-    slots.push(known(object_kind(tables, specifier, one.declarator.stars))?)
+    slots.push(known_type(object_kind(tables, specifier, one.declarator.stars))?)
 }
 
 /// The types of the locals behind the first of a declaration.
-#[tactic(auto, using(crate::proofs::Appending::appending))]
+#[tactic(auto, using(c_types_names::proofs::Appending::appending))]
 fn push_more_locals<'a>(
     tables: &Tables<'a>,
     specifier: &'a TypeSpecifier,
     ones: &'a [Initialized],
     slots: &mut Row<Ty>,
 ) -> Result<(), AllocError>
-    ensures { OnOk result (slots.new ≡ slots.old ++ kinds_of_locals tables.now (specifier_tree specifier.now) (map initialized_tree ones.now)) }
+    ensures { OnOk result (slots.new ≡ slots.old ++ kinds_of_locals tables.now (specifier_tree specifier.now)
+        (map initialized_tree ones.now)) }
 {
     for one in ones {
         push_local(tables, specifier, one, slots)?;
@@ -51,7 +42,7 @@ fn push_more_locals<'a>(
 }
 
 /// The types of the locals of a declaration.
-#[tactic(auto, using(crate::proofs::Appending::appending))]
+#[tactic(auto, using(c_types_names::proofs::Appending::appending))]
 fn push_declared<'a>(
     tables: &Tables<'a>,
     one: &'a Local,
@@ -64,7 +55,7 @@ fn push_declared<'a>(
 }
 
 /// The types of the locals that a `for` begins with.
-#[tactic(auto, using(crate::proofs::Appending::appending))]
+#[tactic(auto, using(c_types_names::proofs::Appending::appending))]
 fn push_init<'a>(
     tables: &Tables<'a>,
     init: &'a ForInit,
@@ -81,7 +72,7 @@ fn push_init<'a>(
 
 /// The types of the locals of a statement.
 #[cycle(locals)]
-#[tactic(auto, using(crate::proofs::Appending::appending))]
+#[tactic(auto, using(c_types_names::proofs::Appending::appending))]
 fn push_stmt<'a>(tables: &Tables<'a>, one: &'a Stmt, slots: &mut Row<Ty>) -> Result<(), AllocError>
     ensures { OnOk result (slots.new ≡ slots.old ++ stmt_kinds tables.now (stmt_tree one.now)) }
 {
@@ -111,7 +102,7 @@ fn push_stmt<'a>(tables: &Tables<'a>, one: &'a Stmt, slots: &mut Row<Ty>) -> Res
 
 /// The types of the locals of a block.
 #[cycle(locals)]
-#[tactic(auto, using(crate::proofs::Appending::appending))]
+#[tactic(auto, using(c_types_names::proofs::Appending::appending))]
 pub fn push_block<'a>(
     tables: &Tables<'a>,
     block: &'a Block,

@@ -14,7 +14,7 @@ use crate::items::items;
 use c_lower_exprs::context::Context;
 use c_tree::{Name, Unit};
 use c_types::Typed;
-use c_types_names::first::First;
+use c_types_names::first_refusal::FirstRefusal;
 use c_types_rules::laws::first_refusal;
 use shape_data::Row;
 use shape_data::program::Program;
@@ -30,11 +30,13 @@ fn build<'a>(
     requires names { length files.now ≡ length units.now }
     requires countable { length units.now < 4294967296 }
     requires numbers { All FileHasIntNumbers (files_of units.now) }
-    ensures refusal { IfOk result (λ built. built.first.found ≡ typing.first_of (files_refusals context.old.env.tables 0 (files_of units.now))) }
-    ensures procs { IfOk result (λ built. files_refusals context.old.env.tables 0 (files_of units.now) ≡ [] → built.procs ≡ files_procs context.old.env.tables files.now (files_of units.now)) }
+    ensures refusal { IfOk result
+        (λ built. built.first.found ≡ typing.first_of (files_refusals context.old.env.tables 0 (files_of units.now))) }
+    ensures procs { IfOk result (λ built. files_refusals context.old.env.tables 0 (files_of units.now) ≡ []
+        → built.procs ≡ files_procs context.old.env.tables files.now (files_of units.now)) }
 {
     let mut built = Building {
-        first: First {
+        first: FirstRefusal {
             unit: 0,
             found: None,
         },

@@ -7,11 +7,11 @@ ghost use Rattle.c_tree.specs.Syntax.{head_tree, block_tree};
 ghost use Rattle.c_lower.specs.Bodies.{IsBodyOf};
 
 use crate::Body;
-use crate::locals::known;
 use crate::slots::{name_texts, slot_types};
 use c_lower_marks::mark;
 use c_tree::places::place_of_specifier;
 use c_tree::{Block, Head, Name};
+use c_types_names::kinds::known_type;
 use c_types_names::objects::kind_of_result;
 use c_types_names::tables::Tables;
 use shape_data::program::{Flow, Proc, Ty};
@@ -22,7 +22,7 @@ use std::alloc::{AllocError, Global};
 fn result_type<'a>(tables: &Tables<'a>, head: &'a Head) -> Result<Ty, AllocError>
     ensures { IfOk result (λ ty. ty ≡ result_type tables.now (head_tree head.now)) }
 {
-    known(kind_of_result(tables, head))
+    known_type(kind_of_result(tables, head))
 }
 
 /// A procedure without its place, with the code of its body.
@@ -66,7 +66,8 @@ pub fn proc<'a>(
     requires body { IsBodyOf tables.now (head_tree head.now) (block_tree block.now) body }
     requires slots { length (listed (head_tree head.now).params) + length (stmts_kinds tables.now (block_tree block.now).body) ≤ 32 }
     requires temps { length body.temps.items ≤ 16 }
-    ensures { IfOk result (λ proc. proc ≡ proc_of tables.now file.now (head_tree head.now) (block_tree block.now).body (block_tree block.now).end) }
+    ensures { IfOk result (λ proc. proc ≡ proc_of tables.now file.now (head_tree head.now) (block_tree block.now).body
+        (block_tree block.now).end) }
 {
     Ok(Proc {
         flow: flow(alloc, tables, head, block, body)?,

@@ -1,12 +1,10 @@
 //! Which procedures are too large.
-ghost use Rattle.std.specs.Prelude.{◌≡◌, ◌<◌, ◌≤◌, length};
-ghost use Rattle.c_types_rules.specs.Items.{listed};
-ghost use Rattle.c_tree.specs.Syntax.{params_tree};
-ghost use Rattle.c_types_names.specs.Lowered.{lowered};
+ghost use Rattle.std.specs.Prelude.{◌≡◌, ◌<◌, ◌≤◌};
+ghost use Rattle.c_types_names.specs.FirstRefusal.{with_refusals};
 ghost use Rattle.c_lower.specs.Sized.{refusals_of, all_fit};
 
-use c_tree::{Params, Place};
-use c_types_names::first::First;
+use c_tree::Place;
+use c_types_names::first_refusal::FirstRefusal;
 
 /// Most nodes of a procedure.
 pub const MOST_NODES: u32 = 512;
@@ -38,18 +36,6 @@ pub struct Sizes {
     pub temps: usize,
 }
 
-/// How many parameters there are.
-pub fn param_count(params: &Params) -> u32
-    requires { length (listed (params_tree params.now)) < 2147483648 }
-    ensures { result ≡ length (listed (params_tree params.now)) }
-{
-    match params {
-        Params::Empty => 0,
-        Params::Void(_) => 0,
-        Params::Listed(_, others) => others.len() as u32 + 1,
-    }
-}
-
 impl Sizes {
     /// Whether none is too large.
     pub fn fit(self) -> bool
@@ -64,11 +50,11 @@ impl Sizes {
     }
 
     /// Refuses each that is too large.
-    #[tactic(auto, using(c_types_names::proofs::Lowering::lowering))]
-    pub fn refuse(self, place: Place, first: &mut First)
+    #[tactic(auto, using(c_types_names::proofs::FirstRefusals::more_refusals))]
+    pub fn refuse(self, place: Place, first: &mut FirstRefusal)
         requires params { self.params < 2147483648 }
         requires locals { self.locals ≤ 512 }
-        ensures { first.new ≡ lowered first.old (refusals_of self place) }
+        ensures { first.new ≡ with_refusals first.old (refusals_of self place) }
     {
         first.unless(self.nodes <= MOST_NODES as usize, place, NODES);
         first.unless(self.params + self.locals <= MOST_LOCALS, place, SLOTS);

@@ -9,10 +9,9 @@ ghost use Rattle.c_lower_rules.specs.Programs.{name_text, param_types};
 ghost use Rattle.c_tree.specs.Syntax.{param_tree, params_tree, head_tree, block_tree};
 ghost use Rattle.c_types_names.specs.Seen.{type_seen};
 
-use crate::locals::{known, push_block};
-use c_lower_simples::types::type_of;
+use crate::locals::push_block;
 use c_tree::{Block, Head, Name, Param, Params};
-use c_types_names::kinds::CType;
+use c_types_names::kinds::{CType, known_type, type_of};
 use c_types_names::objects::param_kind;
 use c_types_names::tables::Tables;
 use shape_data::program::Ty;
@@ -27,11 +26,11 @@ fn push_param<'a>(
 ) -> Result<(), AllocError>
     ensures { OnOk result (slots.new ≡ slots.old ++ known (param_kind tables.now (param_tree param.now)) ∷ []) }
 {
-    slots.push(known(param_kind(tables, param))?)
+    slots.push(known_type(param_kind(tables, param))?)
 }
 
 /// The types of parameters behind the first.
-#[tactic(auto, using(crate::proofs::Appending::appending))]
+#[tactic(auto, using(c_types_names::proofs::Appending::appending))]
 fn push_more_params<'a>(
     tables: &Tables<'a>,
     params: &'a [Param],
@@ -46,13 +45,14 @@ fn push_more_params<'a>(
 }
 
 /// The types of a procedure's parameters.
-#[tactic(auto, using(crate::proofs::Appending::appending))]
+#[tactic(auto, using(c_types_names::proofs::Appending::appending))]
 fn push_params<'a>(
     tables: &Tables<'a>,
     params: &'a Params,
     slots: &mut Row<Ty>,
 ) -> Result<(), AllocError>
-    ensures { OnOk result (slots.new ≡ slots.old ++ map (λ (p : ParamTree). known (param_kind tables.now p)) (listed (params_tree params.now))) }
+    ensures { OnOk result (slots.new ≡ slots.old ++ map (λ (p : ParamTree). known (param_kind tables.now p))
+        (listed (params_tree params.now))) }
 {
     match params {
         Params::Empty => Ok(()),
@@ -65,7 +65,7 @@ fn push_params<'a>(
 }
 
 /// The types of temporaries.
-#[tactic(auto, using(crate::proofs::Appending::appending))]
+#[tactic(auto, using(c_types_names::proofs::Appending::appending))]
 fn push_temps(temps: &[CType], slots: &mut Row<Ty>) -> Result<(), AllocError>
     ensures { OnOk result (slots.new ≡ slots.old ++ map type_seen temps.now) }
 {
@@ -76,7 +76,7 @@ fn push_temps(temps: &[CType], slots: &mut Row<Ty>) -> Result<(), AllocError>
 }
 
 /// The types of a procedure's slots.
-#[tactic(auto, using(crate::proofs::Appending::appending))]
+#[tactic(auto, using(c_types_names::proofs::Appending::appending))]
 pub fn slot_types<'a>(
     alloc: Global,
     tables: &Tables<'a>,
@@ -84,7 +84,8 @@ pub fn slot_types<'a>(
     block: &'a Block,
     temps: &[CType],
 ) -> Result<Row<Ty>, AllocError>
-    ensures { IfOk result (λ slots. slots ≡ param_types tables.now (head_tree head.now) ++ stmts_kinds tables.now (block_tree block.now).body ++ map type_seen temps.now) }
+    ensures { IfOk result (λ slots. slots ≡ param_types tables.now (head_tree head.now) ++ stmts_kinds tables.now
+        (block_tree block.now).body ++ map type_seen temps.now) }
 {
     let mut slots = Row::new(alloc);
     push_params(tables, &head.params, &mut slots)?;
@@ -94,7 +95,7 @@ pub fn slot_types<'a>(
 }
 
 /// The name of the parameter, if it has one.
-#[tactic(auto, using(crate::proofs::Appending::appending))]
+#[tactic(auto, using(c_types_names::proofs::Appending::appending))]
 fn push_name(param: &Param, names: &mut Row<Name>) -> Result<(), AllocError>
     ensures { OnOk result (names.new ≡ names.old ++ map name_text (with_name (param_tree param.now).name [])) }
 {

@@ -6,8 +6,8 @@ use Rattle.shape_data.specs.declared.program.Node.{Node}
 use Rattle.c_lower_rules.specs.Code.{Exits, onto, Code, Test, Straight, node, jump, nothing, command, ◌⨾◌, no_nodes, ◌⊹◌, straight, ◌⊳◌, test_behind, both, either, choose}
 use Rattle.c_lower_rules.specs.Temporaries as temporaries
 use Rattle.c_lower_emit.specs.declared.drafts.Draft.{Draft}
-use Rattle.c_lower_emit.specs.declared.drafts.Target.{Target}
-use Rattle.c_lower_emit.specs.declared.drafts.Target.TheVariants.{At, Next, Holds, Fails}
+use Rattle.c_lower_emit.specs.declared.drafts.Label.{Label}
+use Rattle.c_lower_emit.specs.declared.drafts.Label.TheVariants.{At, Next, Holds, Fails}
 use Rattle.c_lower_emit.specs.declared.drafts.Ways.{Ways}
 use Rattle.c_lower_emit.specs.Drafts.{Places, exits, resolve, redirect, next_at, redirected, led_between, aimed, laid}
 use Rattle.c_lower_emit.specs.Emitting.{Out, with_draft, led_out, HasRoom, Grows, EmitsStraight, EmitsTest, EmitsCode}
@@ -65,7 +65,7 @@ straight_then one other s t o m n h k = record {
 }
 
 -- code whose first node follows straight code
-pub code_behind : (one : Straight) (code : Code) (s t : List temporaries.Temp) (begin : Target) (o m n : Out) → EmitsStraight one s o m → EmitsCode code t begin m n
+pub code_behind : (one : Straight) (code : Code) (s t : List temporaries.Temp) (begin : Label) (o m n : Out) → EmitsStraight one s o m → EmitsCode code t begin m n
     → EmitsCode (one ⊳ code) t (At (length o.nodes)) o n
 code_behind one code s t begin o m n h k = record {
   drafts = h.drafts ++ k.drafts;
@@ -89,7 +89,7 @@ test_then one test s t o m n h k = record {
 grows_one : (o : Out) (d : Draft) → Grows 1 o.temps (d ∷ []) o (record o { nodes = o.nodes ++ d ∷ [] })
 grows_one o d = record { nodes = refl; size = refl; temps = refl; grown = omega arith }
 
-pub code_one : (line : ℕ) (make : ℕ → Cmd) (cmd : Cmd) (other : Target) (o : Out) → ((n e : ℕ) → aimed cmd n e ≡ make n)
+pub code_one : (line : ℕ) (make : ℕ → Cmd) (cmd : Cmd) (other : Label) (o : Out) → ((n e : ℕ) → aimed cmd n e ≡ make n)
     → EmitsCode (command line make) o.temps (At (length o.nodes)) o (with_draft line cmd Next other o)
 code_one line make cmd other o is = record {
   drafts = record { line = line; cmd = cmd; next = Next; other = other } ∷ [];
@@ -135,7 +135,7 @@ test_led w one other t o m h size same = record {
 }
 
 -- straight code, where the piece goes on at the place behind it
-pub straight_led : (w : Ways) (code : Code) (t : List temporaries.Temp) (begin : Target) (o m : Out) → EmitsCode code t begin o m
+pub straight_led : (w : Ways) (code : Code) (t : List temporaries.Temp) (begin : Label) (o m : Out) → EmitsCode code t begin o m
     → ((p : Places) → code.nodes (length o.nodes) (exits (led p w)) ≡ code.nodes (length o.nodes) (onto (length o.nodes + code.size)))
     → ((at : ℕ) → code.loops at ≡ [])
     → EmitsStraight (straight code) t o (led_out (length o.nodes) (length m.nodes) w m)
@@ -198,7 +198,7 @@ pub grows_same : {a b : ℕ} {t : List temporaries.Temp} {ds : List Draft} (o m 
 grows_same {t = t} {ds = ds} o m is h = subst (λ n. Grows n t ds o m) is h
 
 -- the one piece where the test holds, the other where it doesn't
-pub chosen : (w : Ways) (test : Test) (one other : Code) (s t u : List temporaries.Temp) (begin begin' : Target) (o m m' n : Out)
+pub chosen : (w : Ways) (test : Test) (one other : Code) (s t u : List temporaries.Temp) (begin begin' : Label) (o m m' n : Out)
     → EmitsTest test s o m → EmitsCode one t begin m m' → EmitsCode other u begin' m' n → w.holds ≡ begin → w.fails ≡ begin'
     → EmitsCode (choose test one other) u (At (length o.nodes)) o (led_out (length o.nodes) (length m.nodes) w n)
 chosen w test one other s t u begin begin' o m m' n h k l holds fails =
@@ -227,7 +227,7 @@ chosen w test one other s t u begin begin' o m m' n h k l holds fails =
 
 -- ONE PIECE BEHIND ANOTHER
 
-pub code_then : (one other : Code) (s t : List temporaries.Temp) (begin begin' : Target) (o m n : Out) → EmitsCode one s begin o m → EmitsCode other t begin' m n
+pub code_then : (one other : Code) (s t : List temporaries.Temp) (begin begin' : Label) (o m n : Out) → EmitsCode one s begin o m → EmitsCode other t begin' m n
     → EmitsCode (one ⨾ other) t (redirect (next_at begin') begin) o (led_out (length o.nodes) (length m.nodes) (next_at begin') n)
 code_then one other s t begin begin' o m n h k =
     let w = next_at begin' in
@@ -249,7 +249,7 @@ code_then one other s t begin begin' o m n h k =
     }
 
 -- no code
-pub code_none : (exit : Exits → ℕ) (begin : Target) (o : Out) → ((p : Places) → resolve p begin ≡ exit (exits p)) → EmitsCode (jump exit) o.temps begin o o
+pub code_none : (exit : Exits → ℕ) (begin : Label) (o : Out) → ((p : Places) → resolve p begin ≡ exit (exits p)) → EmitsCode (jump exit) o.temps begin o o
 code_none exit begin o is = record { drafts = []; grows = grows_none o; laid = λ p. refl; entry = is; loops = sym (append-nil o.loops) }
 
 -- THE SAME CODE
@@ -261,7 +261,7 @@ pub record SameCode (one other : Code) : Type 0 where
   pub nodes : (at : ℕ) (exits : Exits) → one.nodes at exits ≡ other.nodes at exits
   pub loops : (at : ℕ) → one.loops at ≡ other.loops at
 
-pub same_code : (one other : Code) (t : List temporaries.Temp) (begin : Target) (o m : Out) → SameCode one other → EmitsCode one t begin o m → EmitsCode other t begin o m
+pub same_code : (one other : Code) (t : List temporaries.Temp) (begin : Label) (o m : Out) → SameCode one other → EmitsCode one t begin o m → EmitsCode other t begin o m
 same_code one other t begin o m same h = record {
   drafts = h.drafts;
   grows = grows_same o m same.size h.grows;

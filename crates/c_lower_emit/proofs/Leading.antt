@@ -3,8 +3,8 @@ use Rattle.std.proofs.Common.{◌≡◌, ℕ, ◌+◌, ◌-◌, List, [], ◌∷
 use Rattle.std.proofs.lemmas.List.{length-append}
 use Rattle.c_lower_rules.specs.Code.{node}
 use Rattle.c_lower_emit.specs.declared.drafts.Draft.{Draft}
-use Rattle.c_lower_emit.specs.declared.drafts.Target.{Target}
-use Rattle.c_lower_emit.specs.declared.drafts.Target.TheVariants.{At, Next, Breaks, Continues, Holds, Fails}
+use Rattle.c_lower_emit.specs.declared.drafts.Label.{Label}
+use Rattle.c_lower_emit.specs.declared.drafts.Label.TheVariants.{At, Next, Breaks, Continues, Holds, Fails}
 use Rattle.c_lower_emit.specs.declared.drafts.Ways.{Ways}
 use Rattle.c_lower_emit.specs.Drafts.{Places, resolve, redirect, redirected, led_between, aimed, laid}
 
@@ -18,7 +18,7 @@ led p w = record {
   fails = resolve p w.fails;
 }
 
-pub resolve_led : (p : Places) (w : Ways) (t : Target) → resolve p (redirect w t) ≡ resolve (led p w) t
+pub resolve_led : (p : Places) (w : Ways) (t : Label) → resolve p (redirect w t) ≡ resolve (led p w) t
 resolve_led p w (At place) = refl
 resolve_led p w Next = refl
 resolve_led p w Breaks = refl

@@ -13,7 +13,7 @@ use Rattle.c_lower_rules.specs.Code.{no_nodes, node, straight, command, ◌⊳�
 use Rattle.c_lower_rules.specs.Temporaries.{Temp, Taken, is_free, behind_temp, take_temp}
 use Rattle.c_lower_rules.specs.Contexts.{Context}
 use Rattle.c_lower_rules.specs.Values.{Value as ValueCode, Tested, Making, is_pointer, not_zero, at_hand, made_value, made, put_truth, truth}
-use Rattle.c_lower_emit.specs.declared.drafts.Target.TheVariants.{At, Next}
+use Rattle.c_lower_emit.specs.declared.drafts.Label.TheVariants.{At, Next}
 use Rattle.c_lower_emit.specs.declared.drafts.Ways.{Ways}
 use Rattle.c_lower_emit.specs.declared.uses.Use.{Use}
 use Rattle.c_lower_emit.specs.declared.uses.Use.TheVariants.{Value, Test as AsTest}

@@ -5,8 +5,8 @@ use Rattle.shape_data.specs.declared.program.Cmd.TheVariants as cmd
 use Rattle.shape_data.specs.declared.program.Node.{Node}
 use Rattle.c_lower_rules.specs.Code.{Exits, node}
 use Rattle.c_lower_emit.specs.declared.drafts.Draft.{Draft}
-use Rattle.c_lower_emit.specs.declared.drafts.Target.{Target}
-use Rattle.c_lower_emit.specs.declared.drafts.Target.TheVariants.{At, Next, Breaks, Continues, Holds, Fails}
+use Rattle.c_lower_emit.specs.declared.drafts.Label.{Label}
+use Rattle.c_lower_emit.specs.declared.drafts.Label.TheVariants.{At, Next, Breaks, Continues, Holds, Fails}
 use Rattle.c_lower_emit.specs.declared.drafts.Ways.{Ways}
 
 -- where the exits lead
@@ -25,8 +25,8 @@ exits p = record { next = p.next; breaks = p.breaks; continues = p.continues }
 abbrev pub at_start : Places
 at_start = record { next = 0; breaks = 0; continues = 0; holds = 0; fails = 0 }
 
--- the place that a target is
-abbrev pub resolve : Places → Target → ℕ
+-- the place that a label is
+abbrev pub resolve : Places → Label → ℕ
 resolve p (At place) = place
 resolve p Next = p.next
 resolve p Breaks = p.breaks
@@ -34,8 +34,8 @@ resolve p Continues = p.continues
 resolve p Holds = p.holds
 resolve p Fails = p.fails
 
--- the target that a way leads to
-abbrev pub redirect : Ways → Target → Target
+-- the label that a way leads to
+abbrev pub redirect : Ways → Label → Label
 redirect w (At place) = At place
 redirect w Next = w.next
 redirect w Breaks = w.breaks
@@ -48,7 +48,7 @@ abbrev pub as_they_are : Ways
 as_they_are = record { next = Next; breaks = Breaks; continues = Continues; holds = Holds; fails = Fails }
 
 -- a piece goes on where what follows begins
-abbrev pub next_at : Target → Ways
+abbrev pub next_at : Label → Ways
 next_at begin = record as_they_are { next = begin }
 
 -- a draft whose exits lead where the ways say

@@ -10,8 +10,8 @@ use Rattle.c_lower_rules.specs.Temporaries as temporaries
 use Rattle.c_lower_rules.specs.Temporaries.{Taken, take_temp}
 use Rattle.c_lower_rules.specs.Values.{Tested, Lowering, Making}
 use Rattle.c_lower_emit.specs.declared.drafts.Draft.{Draft}
-use Rattle.c_lower_emit.specs.declared.drafts.Target.{Target}
-use Rattle.c_lower_emit.specs.declared.drafts.Target.TheVariants.{At, Next}
+use Rattle.c_lower_emit.specs.declared.drafts.Label.{Label}
+use Rattle.c_lower_emit.specs.declared.drafts.Label.TheVariants.{At, Next}
 use Rattle.c_lower_emit.specs.declared.drafts.Ways.{Ways}
 use Rattle.c_lower_emit.specs.declared.uses.Use.{Use}
 use Rattle.c_lower_emit.specs.declared.uses.Use.TheVariants.{Value, Into, Test as AsTest}
@@ -24,7 +24,7 @@ pub record Out : Type 0 where
   pub loops : List Loop
 
 -- with one more draft
-abbrev pub with_draft : ℕ → Cmd → Target → Target → Out → Out
+abbrev pub with_draft : ℕ → Cmd → Label → Label → Out → Out
 with_draft line cmd next other o = record o { nodes = o.nodes ++ record { line = line; cmd = cmd; next = next; other = other } ∷ [] }
 
 -- with the exits of the drafts from one place to another replaced
@@ -62,7 +62,7 @@ pub record EmitsTest (test : Test) (temps : List temporaries.Temp) (old new : Ou
   pub loops : new.loops ≡ old.loops
 
 -- a piece of code was emitted, whose run begins there
-pub record EmitsCode (code : Code) (temps : List temporaries.Temp) (begin : Target) (old new : Out) : Type 0 where
+pub record EmitsCode (code : Code) (temps : List temporaries.Temp) (begin : Label) (old new : Out) : Type 0 where
   pub drafts : List Draft
   pub grows : Grows code.size temps drafts old new
   pub laid : (p : Places) → map (laid p) drafts ≡ code.nodes (length old.nodes) (exits p)

@@ -8,7 +8,7 @@ use std::alloc::{AllocError, Global};
 
 /// Where a run goes on: at a place, at an exit of a piece of code, or at a way on of a test.
 #[derive(Clone, Copy)]
-pub enum Target {
+pub enum Label {
     /// The place, counted from 0 at the first node of the procedure.
     At(u32),
     /// Behind the piece.
@@ -26,20 +26,20 @@ pub enum Target {
 /// What each exit becomes.
 #[derive(Clone, Copy)]
 pub struct Ways {
-    pub next: Target,
-    pub breaks: Target,
-    pub continues: Target,
-    pub holds: Target,
-    pub fails: Target,
+    pub next: Label,
+    pub breaks: Label,
+    pub continues: Label,
+    pub holds: Label,
+    pub fails: Label,
 }
 
 /// All exits as they are.
 pub const AS_THEY_ARE: Ways = Ways {
-    next: Target::Next,
-    breaks: Target::Breaks,
-    continues: Target::Continues,
-    holds: Target::Holds,
-    fails: Target::Fails,
+    next: Label::Next,
+    breaks: Label::Breaks,
+    continues: Label::Continues,
+    holds: Label::Holds,
+    fails: Label::Fails,
 };
 
 /// A node. Its command's places to go on at are not yet filled in; only a `Branch` has the second one.
@@ -47,27 +47,27 @@ pub const AS_THEY_ARE: Ways = Ways {
 pub struct Draft {
     pub line: u32,
     pub cmd: Cmd,
-    pub next: Target,
-    pub other: Target,
+    pub next: Label,
+    pub other: Label,
 }
 
-impl Target {
+impl Label {
     /// With each exit replaced.
-    pub fn redirect(self, ways: Ways) -> Target
+    pub fn redirect(self, ways: Ways) -> Label
         ensures { result ≡ redirect ways self }
     {
         match self {
-            Target::At(place) => Target::At(place),
-            Target::Next => ways.next,
-            Target::Breaks => ways.breaks,
-            Target::Continues => ways.continues,
-            Target::Holds => ways.holds,
-            Target::Fails => ways.fails,
+            Label::At(place) => Label::At(place),
+            Label::Next => ways.next,
+            Label::Breaks => ways.breaks,
+            Label::Continues => ways.continues,
+            Label::Holds => ways.holds,
+            Label::Fails => ways.fails,
         }
     }
 
     /// Where a piece begins that goes on where what follows begins.
-    pub fn followed_by(self, begin: Target) -> Target
+    pub fn followed_by(self, begin: Label) -> Label
         ensures { result ≡ redirect (next_at begin) self }
     {
         self.redirect(Ways {
@@ -81,7 +81,7 @@ impl Target {
         ensures { result ≡ resolve at_start self }
     {
         match self {
-            Target::At(place) => place,
+            Label::At(place) => place,
             _ => 0,
         }
     }

@@ -6,7 +6,7 @@ ghost use Rattle.c_lower_emit.specs.Seen.{loop_seen, temp_seen};
 ghost use Rattle.c_lower_emit.specs.Emitting.{led_out, with_draft, with_loop};
 ghost use Rattle.c_lower_emit.specs.Drafts.{next_at};
 
-use crate::drafts::{AS_THEY_ARE, Draft, Target, Ways};
+use crate::drafts::{AS_THEY_ARE, Draft, Label, Ways};
 use crate::loops::Loop;
 use c_types_names::kinds::{CType, may_agree};
 use shape_data::program::Cmd;
@@ -105,7 +105,11 @@ impl<'a> Output<'a> {
 
     /// The nodes, temporaries and loops.
     pub fn into_parts(self) -> Parts<'a>
-        ensures { self.entry ≡ record { nodes = result.nodes.items; temps = map temp_seen result.temps.items; loops = map loop_seen result.loops.items } }
+        ensures { self.entry ≡ record {
+          nodes = result.nodes.items;
+          temps = map temp_seen result.temps.items;
+          loops = map loop_seen result.loops.items;
+        } }
     {
         Parts {
             nodes: self.nodes,
@@ -129,13 +133,7 @@ impl<'a> Output<'a> {
     }
 
     /// With one more node.
-    pub fn push(
-        &mut self,
-        line: u32,
-        cmd: Cmd,
-        next: Target,
-        other: Target,
-    ) -> Result<(), AllocError>
+    pub fn push(&mut self, line: u32, cmd: Cmd, next: Label, other: Label) -> Result<(), AllocError>
         ensures { OnOk result (self.new ≡ with_draft line cmd next other self.old) }
     {
         self.nodes.push(Draft {
@@ -159,7 +157,7 @@ impl<'a> Output<'a> {
     }
 
     /// The pieces from one place to another go on where what follows begins.
-    pub fn lead_next(&mut self, from: usize, past: usize, begin: Target)
+    pub fn lead_next(&mut self, from: usize, past: usize, begin: Label)
         ensures { from ≤ past → past ≤ length self.old.nodes → self.new ≡ led_out from past (next_at begin) self.old }
     {
         let ways = Ways {
@@ -178,7 +176,8 @@ impl<'a> Output<'a> {
 
     /// Adds a loop, whose nodes are those from its head on, at a place among the loops.
     pub fn add_loop(&mut self, place: usize, head: u32, visible: Vec<u32>) -> Result<(), AllocError>
-        ensures { OnOk result (place ≤ length self.old.loops → length self.old.nodes < 4294967296 → self.new ≡ with_loop place (record { head = head; past = length self.old.nodes; visible = visible.items }) self.old) }
+        ensures { OnOk result (place ≤ length self.old.loops → length self.old.nodes < 4294967296
+            → self.new ≡ with_loop place (record { head = head; past = length self.old.nodes; visible = visible.items }) self.old) }
     {
         let past = self.here();
         self.loops.insert(
@@ -195,7 +194,8 @@ impl<'a> Output<'a> {
     /// Takes a temporary of the type for the statement or condition at hand, and gives its place among the temporaries.
     pub fn take(&mut self, kind: CType<'a>) -> Result<u32, AllocError>
         ensures temps { OnOk result (self.new ≡ record self.old { temps = (take_temp (type_seen kind.entry) self.old.temps).temps }) }
-        ensures place { IfOk result (λ place. length self.old.temps < 4294967296 → place ≡ (take_temp (type_seen kind.entry) self.old.temps).place) }
+        ensures place { IfOk result (λ place. length self.old.temps < 4294967296
+            → place ≡ (take_temp (type_seen kind.entry) self.old.temps).place) }
     {
         let place = take_one(&mut self.temps, kind)?;
         Ok(u32::try_from(place).unwrap_or(u32::MAX))

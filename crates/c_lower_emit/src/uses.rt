@@ -8,10 +8,20 @@ ghost use Rattle.c_lower_rules.specs.Temporaries as temporaries;
 ghost use Rattle.c_lower_rules.specs.Contexts.{Context};
 ghost use Rattle.c_lower_rules.specs.Values.{Making, Tested, is_pointer, at_hand, made, put_truth, truth};
 ghost use Rattle.c_types_names.specs.Seen.{type_seen};
-ghost use Rattle.c_lower_emit.specs.declared.drafts.Target.TheVariants.{At};
-ghost use Rattle.c_lower_emit.specs.Emitting.{Out, HasRoom, EmitsTest, EmitsCode, Emits, IsMadeValue, EmitsMaking, EmitsTested, BeginsTruth};
+ghost use Rattle.c_lower_emit.specs.declared.drafts.Label.TheVariants.{At};
+ghost use Rattle.c_lower_emit.specs.Emitting.{
+  Out,
+  HasRoom,
+  EmitsTest,
+  EmitsCode,
+  Emits,
+  IsMadeValue,
+  EmitsMaking,
+  EmitsTested,
+  BeginsTruth,
+};
 
-use crate::drafts::{AS_THEY_ARE, Target, Ways, put_to};
+use crate::drafts::{AS_THEY_ARE, Label, Ways, put_to};
 use crate::output::Output;
 use c_types_names::kinds::CType;
 use shape_data::program::{Cmd, Operand, TestOp};
@@ -55,14 +65,15 @@ impl<'a> Output<'a> {
         operand: Operand,
         used: Use,
     ) -> Result<Operand, AllocError>
-        ensures { IfOk result (λ found. (c : Context) → c.line ≡ spot.line → Emits used (at_hand c (type_seen kind.entry) operand) spot.first_temp self.old self.new found) }
+        ensures { IfOk result (λ found. (c : Context) → c.line ≡ spot.line
+            → Emits used (at_hand c (type_seen kind.entry) operand) spot.first_temp self.old self.new found) }
     {
         match used {
             Use::Value => Ok(operand),
             Use::Into(to) => {
                 let from = operand;
                 let copy = Cmd::Copy { to, from, next: 0 };
-                self.push(spot.line, copy, Target::Next, Target::Next)?;
+                self.push(spot.line, copy, Label::Next, Label::Next)?;
                 Ok(operand)
             }
             Use::Test => {
@@ -79,7 +90,9 @@ impl<'a> Output<'a> {
         kind: CType<'a>,
         operand: Operand,
     ) -> Result<(), AllocError>
-        ensures { OnOk result ((c : Context) → c.line ≡ spot.line → EmitsTest (branch c.line test.Ne (is_pointer (type_seen kind.entry)) operand (Num (pos 0))) self.old.temps self.old self.new) }
+        ensures { OnOk result ((c : Context) → c.line ≡ spot.line
+            → EmitsTest (branch c.line test.Ne (is_pointer (type_seen kind.entry)) operand
+            (Num (pos 0))) self.old.temps self.old self.new) }
     {
         self.push_branch(spot, TestOp::Ne, is_pointer(kind), operand, Operand::Num(0))
     }
@@ -93,7 +106,8 @@ impl<'a> Output<'a> {
         left: Operand,
         right: Operand,
     ) -> Result<(), AllocError>
-        ensures { OnOk result ((c : Context) → c.line ≡ spot.line → EmitsTest (branch c.line op pointers left right) self.old.temps self.old self.new) }
+        ensures { OnOk result ((c : Context) → c.line ≡ spot.line
+            → EmitsTest (branch c.line op pointers left right) self.old.temps self.old self.new) }
     {
         let branch = Cmd::Branch {
             op,
@@ -103,22 +117,18 @@ impl<'a> Output<'a> {
             yes: 0,
             no: 0,
         };
-        self.push(spot.line, branch, Target::Holds, Target::Fails)
+        self.push(spot.line, branch, Label::Holds, Label::Fails)
     }
 
     /// The value that a command makes, in a temporary of the type.
     fn make_value(&mut self, spot: Spot, kind: CType<'a>, cmd: Cmd) -> Result<Operand, AllocError>
-        ensures { IfOk result (λ operand. HasRoom spot.first_temp 1 self.old → IsMadeValue spot.first_temp spot.line (type_seen kind.entry) cmd self.old self.new operand) }
+        ensures { IfOk result (λ operand. HasRoom spot.first_temp 1 self.old
+            → IsMadeValue spot.first_temp spot.line (type_seen kind.entry) cmd self.old self.new operand) }
     {
         let place = self.take(kind)?;
         let slot = spot.first_temp.saturating_add(place);
         let behind = self.here().saturating_add(1);
-        self.push(
-            spot.line,
-            put_to(cmd, slot),
-            Target::At(behind),
-            Target::Next,
-        )?;
+        self.push(spot.line, put_to(cmd, slot), Label::At(behind), Label::Next)?;
         Ok(Operand::Slot(slot))
     }
 
@@ -130,13 +140,15 @@ impl<'a> Output<'a> {
         cmd: Cmd,
         used: Use,
     ) -> Result<Operand, AllocError>
-        ensures { IfOk result (λ found. (c : Context) → c.line ≡ spot.line → c.first_temp ≡ spot.first_temp → (making : List temporaries.Temp → Making) → (before : Out)
-            → EmitsMaking (making before.temps) cmd spot.first_temp before self.old → Emits used (made c (type_seen kind.entry) making) spot.first_temp before self.new found) }
+        ensures { IfOk result (λ found. (c : Context) → c.line ≡ spot.line → c.first_temp ≡ spot.first_temp
+            → (making : List temporaries.Temp → Making) → (before : Out)
+            → EmitsMaking (making before.temps) cmd spot.first_temp before self.old
+            → Emits used (made c (type_seen kind.entry) making) spot.first_temp before self.new found) }
     {
         match used {
             Use::Value => self.make_value(spot, kind, cmd),
             Use::Into(to) => {
-                self.push(spot.line, put_to(cmd, to), Target::Next, Target::Next)?;
+                self.push(spot.line, put_to(cmd, to), Label::Next, Label::Next)?;
                 Ok(Operand::Slot(to))
             }
             Use::Test => {
@@ -163,8 +175,10 @@ impl<'a> Output<'a> {
 
     /// Puts 1 into the slot where the test holds that begins at a place, and 0 where it doesn't.
     fn put_truth(&mut self, spot: Spot, to: u32, from: usize) -> Result<(), AllocError>
-        ensures { OnOk result ((c : Context) → c.line ≡ spot.line → (tested : Tested) → (start : Out) → from ≡ length start.nodes → length start.nodes + (tested.test.size + 2) < 4294967296
-            → EmitsTest tested.test tested.temps start self.old → EmitsCode (put_truth c to tested).code tested.temps (At (length start.nodes)) start self.new) }
+        ensures { OnOk result ((c : Context) → c.line ≡ spot.line → (tested : Tested) → (start : Out) → from ≡ length start.nodes
+            → length start.nodes + (tested.test.size + 2) < 4294967296
+            → EmitsTest tested.test tested.temps start self.old
+            → EmitsCode (put_truth c to tested).code tested.temps (At (length start.nodes)) start self.new) }
     {
         let past = self.len();
         let holds = self.here();
@@ -172,8 +186,8 @@ impl<'a> Output<'a> {
         let fails = self.here();
         self.push_number(spot, to, 0)?;
         let ways = Ways {
-            holds: Target::At(holds),
-            fails: Target::At(fails),
+            holds: Label::At(holds),
+            fails: Label::At(fails),
             ..AS_THEY_ARE
         };
         self.redirect(from, past, ways);
@@ -182,14 +196,15 @@ impl<'a> Output<'a> {
 
     /// Puts the number into the slot.
     fn push_number(&mut self, spot: Spot, to: u32, number: i32) -> Result<(), AllocError>
-        ensures { OnOk result ((c : Context) → c.line ≡ spot.line → EmitsCode (command c.line (cmd.Copy to (Num number))) self.old.temps (At (length self.old.nodes)) self.old self.new) }
+        ensures { OnOk result ((c : Context) → c.line ≡ spot.line
+            → EmitsCode (command c.line (cmd.Copy to (Num number))) self.old.temps (At (length self.old.nodes)) self.old self.new) }
     {
         let copy = Cmd::Copy {
             to,
             from: Operand::Num(number),
             next: 0,
         };
-        self.push(spot.line, copy, Target::Next, Target::Next)
+        self.push(spot.line, copy, Label::Next, Label::Next)
     }
 
     /// Behind a test that begins at a place: its value, where that is wanted.
@@ -200,15 +215,17 @@ impl<'a> Output<'a> {
         from: usize,
         used: Use,
     ) -> Result<Operand, AllocError>
-        ensures { IfOk result (λ found. (c : Context) → c.line ≡ spot.line → c.first_temp ≡ spot.first_temp → (testing : List temporaries.Temp → Tested) → (before start : Out)
-            → BeginsTruth used spot.first_temp before start to → from ≡ length start.nodes → EmitsTested (testing start.temps) spot.first_temp start self.old
+        ensures { IfOk result (λ found. (c : Context) → c.line ≡ spot.line → c.first_temp ≡ spot.first_temp
+            → (testing : List temporaries.Temp → Tested) → (before start : Out)
+            → BeginsTruth used spot.first_temp before start to → from ≡ length start.nodes
+            → EmitsTested (testing start.temps) spot.first_temp start self.old
             → Emits used (truth c testing) spot.first_temp before self.new found) }
     {
         match used {
             Use::Value => {
                 self.put_truth(spot, to, from)?;
                 let ways = Ways {
-                    next: Target::At(self.here()),
+                    next: Label::At(self.here()),
                     ..AS_THEY_ARE
                 };
                 let past = self.len();

@@ -6,7 +6,7 @@ use Rattle.c_grammar.specs.Trees.{Name}
 use Rattle.c_lower_rules.specs.Contexts.{Context}
 use Rattle.c_lower_rules.specs.Expressions.{Arguments, arguments, no_arguments, called}
 use Rattle.c_types_names.specs.Seen.{type_seen}
-use Rattle.c_lower_emit.specs.declared.drafts.Target.TheVariants.{At}
+use Rattle.c_lower_emit.specs.declared.drafts.Label.TheVariants.{At}
 use Rattle.c_lower_emit.specs.declared.uses.Use.{Use}
 use Rattle.c_lower_emit.specs.Drafts.{as_they_are}
 use Rattle.c_lower_emit.specs.Emitting.{Out, led_out, HasRoom, EmitsStraight, Emits}

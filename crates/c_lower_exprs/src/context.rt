@@ -15,7 +15,7 @@ use crate::params::{add_params, param_count};
 use c_tree::places::place_of_specifier;
 use c_tree::{Head, Name, Place};
 use c_types_names::env::Env;
-use c_types_names::kinds::{CType, Kind, same_name};
+use c_types_names::kinds::{CType, Kind, known, same_name};
 use c_types_names::objects::kind_of_result;
 use c_types_names::tables::Tables;
 use std::alloc::{AllocError, Global};
@@ -49,14 +49,22 @@ impl<'a> Model for Context<'a> {
 
     ghost Value = { Context };
 
-    ghost view = { λ c. record { env = c.env; bound = stacked c.bound.items; first_local = c.first_local; first_temp = c.first_temp; result = type_seen c.result; first_line = c.first_line; line = 0 } };
+    ghost view = { λ c. record {
+      env = c.env;
+      bound = stacked c.bound.items;
+      first_local = c.first_local;
+      first_temp = c.first_temp;
+      result = type_seen c.result;
+      first_line = c.first_line;
+      line = 0;
+    } };
 
     ghost invariant = { λ c. FieldsFit c.env.tables };
 }
 
-/// What stood before a scope was entered: how many variables in the scopes around the innermost one, and how many in all.
+/// A scope that was entered, by what stood before: how many variables in the scopes around the innermost one, and how many in all.
 #[derive(Clone, Copy)]
-pub struct Mark {
+pub struct Scope {
     pub begin: usize,
     pub bound: usize,
 }
@@ -87,16 +95,6 @@ fn slot_among(bound: &[Bound], name: &Name) -> u32
     slot
 }
 
-/// The type, where it is known.
-pub fn known(kind: Kind) -> CType
-    ensures { type_seen result ≡ known (kind_seen kind.entry) }
-{
-    match kind {
-        None => CType::Int,
-        Some(found) => found,
-    }
-}
-
 impl<'a> Context<'a> {
     /// The program, before any body.
     pub fn new(alloc: Global, tables: Tables<'a>) -> Context<'a>
@@ -117,7 +115,8 @@ impl<'a> Context<'a> {
     /// Goes to where the body of a procedure of the program begins, which has so many locals.
     pub fn begin(&mut self, head: &'a Head, locals: u32) -> Result<(), AllocError>
         ensures tables { self.new.env.tables ≡ self.old.env.tables }
-        ensures body { OnOk result (length (listed (head_tree head.now).params) + locals < 4294967296 → self.new ≡ at_body self.old.env.tables (head_tree head.now) locals) }
+        ensures body { OnOk result (length (listed (head_tree head.now).params) + locals < 4294967296
+            → self.new ≡ at_body self.old.env.tables (head_tree head.now) locals) }
     {
         self.env.clear();
         self.bound.clear();
@@ -204,23 +203,24 @@ impl<'a> Context<'a> {
     }
 
     /// Goes into a scope of its own.
-    pub fn enter(&mut self) -> Mark
+    pub fn enter(&mut self) -> Scope
         ensures scope { self.new ≡ within_scope self.old }
         ensures begin { result.begin ≡ length self.old.env.scopes.around }
         ensures bound { result.bound ≡ length self.old.bound }
     {
         let bound = self.bound.len();
         let begin = self.env.enter();
-        Mark { begin, bound }
+        Scope { begin, bound }
     }
 
-    /// Leaves the innermost scope, which was entered at the mark.
-    pub fn leave(&mut self, mark: Mark)
-        requires { mark.begin ≤ length self.old.env.scopes.around }
-        ensures { (outer : ContextValue) → IsWithin (within_scope outer) self.old → mark.begin ≡ length outer.env.scopes.around → mark.bound ≡ length outer.bound → self.new ≡ outer }
+    /// Leaves the innermost scope, which is the one that was entered.
+    pub fn leave(&mut self, scope: Scope)
+        requires { scope.begin ≤ length self.old.env.scopes.around }
+        ensures { (outer : ContextValue) → IsWithin (within_scope outer) self.old → scope.begin ≡ length outer.env.scopes.around
+            → scope.bound ≡ length outer.bound → self.new ≡ outer }
     {
-        self.env.leave(mark.begin);
-        self.bound.truncate(mark.bound);
+        self.env.leave(scope.begin);
+        self.bound.truncate(scope.bound);
     }
 
     /// Where the slots of temporaries begin.

@@ -7,3 +7,5 @@ pub mod members;
 pub mod operators;
 mod params;
 pub mod values;
+
+pub use params::param_count;

@@ -11,12 +11,12 @@ ghost use Rattle.c_lower_exprs.specs.Contexts.{on_line};
 ghost use Rattle.c_lower_exprs.specs.Fields.{field_found};
 ghost use Rattle.c_lower_exprs.specs.Lowered.{IsLowered};
 
-use crate::context::{Context, known};
+use crate::context::Context;
 use c_lower_emit::output::Output;
 use c_lower_emit::uses::{Spot, Use};
 use c_tree::{Ident, Name};
 use c_types_exprs::exprs::kind_of_member;
-use c_types_names::kinds::CType;
+use c_types_names::kinds::{CType, known};
 use shape_data::copy_of;
 use shape_data::program::{Cmd, Operand};
 use std::alloc::{AllocError, Global};
@@ -82,7 +82,8 @@ pub fn load<'a>(
     out: &mut Output<'a>,
 ) -> Result<Found<'a>, AllocError>
     ensures { IfOk result (λ found. (l : Lowering) → (before : Out) → IsLowered Value l c.now.first_temp before out.old base.entry
-        → IsLowered used (member (on_line c.now line) l (field_behind (on_line c.now line) l.kind (ident_tree field.now))) c.now.first_temp before out.new found) }
+        → IsLowered used (member (on_line c.now line) l
+        (field_behind (on_line c.now line) l.kind (ident_tree field.now))) c.now.first_temp before out.new found) }
 {
     let Field { tag, place, kind } = field_behind(c, base.kind, field)?;
     let cmd = Cmd::Load {
@@ -111,7 +112,8 @@ pub fn members<'a>(
     out: &mut Output<'a>,
 ) -> Result<Found<'a>, AllocError>
     ensures { IfOk result (λ found. (l : Lowering) → (before : Out) → IsLowered Value l c.now.first_temp before out.old base.entry
-        → IsLowered used (members (on_line c.now line) l (ident_tree first.now ∷ map ident_tree others.now)) c.now.first_temp before out.new found) }
+        → IsLowered used (members (on_line c.now line) l
+        (ident_tree first.now ∷ map ident_tree others.now)) c.now.first_temp before out.new found) }
 {
     let mut current = base;
     let mut field = first;

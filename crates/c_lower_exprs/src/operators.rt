@@ -9,14 +9,14 @@ ghost use Rattle.c_lower_emit.specs.declared.uses.Use.TheVariants.{Value};
 ghost use Rattle.c_lower_exprs.specs.Contexts.{on_line};
 ghost use Rattle.c_lower_exprs.specs.Lowered.{IsLowered, IsCalled, LeadsWhereHolds, LeadsWhereFails};
 
-use crate::context::{Context, known};
+use crate::context::Context;
 use crate::members::{Found, tag_of};
-use c_lower_emit::drafts::{AS_THEY_ARE, Target, Ways};
+use c_lower_emit::drafts::{AS_THEY_ARE, Label, Ways};
 use c_lower_emit::output::Output;
 use c_lower_emit::uses::{Spot, Use, is_pointer};
 use c_tree::{Ident, TypeSpecifier};
 use c_types_exprs::exprs::kind_of_call;
-use c_types_names::kinds::CType;
+use c_types_names::kinds::{CType, known};
 use c_types_names::objects::pointer_of;
 use shape_data::program::{ArithOp, Cmd, Operand, TestOp};
 use shape_data::{Row, copy_of};
@@ -50,7 +50,8 @@ pub fn arithmetic<'a>(
     used: Use,
     out: &mut Output<'a>,
 ) -> Result<Found<'a>, AllocError>
-    ensures { IfOk result (λ found. (l r : Lowering) → (before mid : Out) → IsLowered Value l c.now.first_temp before mid left.entry → IsLowered Value r c.now.first_temp mid out.old right.entry
+    ensures { IfOk result (λ found. (l r : Lowering) → (before mid : Out) → IsLowered Value l c.now.first_temp before mid left.entry
+        → IsLowered Value r c.now.first_temp mid out.old right.entry
         → IsLowered used (arithmetic (on_line c.now line) op l r) c.now.first_temp before out.new found) }
 {
     let cmd = Cmd::Arith {
@@ -104,7 +105,8 @@ pub fn compared<'a>(
     used: Use,
     out: &mut Output<'a>,
 ) -> Result<Found<'a>, AllocError>
-    ensures { IfOk result (λ found. (l r : Lowering) → (before start mid : Out) → BeginsTruth used c.now.first_temp before start to → from ≡ length start.nodes
+    ensures { IfOk result (λ found. (l r : Lowering) → (before start mid : Out) → BeginsTruth used c.now.first_temp before start to
+        → from ≡ length start.nodes
         → IsLowered Value l c.now.first_temp start mid left.entry → IsLowered Value r c.now.first_temp mid out.old right.entry
         → IsLowered used (comparison (on_line c.now line) op l r) c.now.first_temp before out.new found) }
 {
@@ -123,7 +125,7 @@ pub fn lead_where_holds(from: usize, out: &mut Output)
     ensures { LeadsWhereHolds from out.old out.new }
 {
     let ways = Ways {
-        holds: Target::At(out.here()),
+        holds: Label::At(out.here()),
         ..AS_THEY_ARE
     };
     let past = out.len();
@@ -135,7 +137,7 @@ pub fn lead_where_fails(from: usize, out: &mut Output)
     ensures { LeadsWhereFails from out.old out.new }
 {
     let ways = Ways {
-        fails: Target::At(out.here()),
+        fails: Label::At(out.here()),
         ..AS_THEY_ARE
     };
     let past = out.len();
@@ -151,8 +153,10 @@ pub fn both<'a>(
     used: Use,
     out: &mut Output<'a>,
 ) -> Result<Found<'a>, AllocError>
-    ensures { IfOk result (λ found. (l r : Lowering) → (before start one led : Out) → BeginsTruth used c.now.first_temp before start to → from ≡ length start.nodes
-        → EmitsTested (l.test start.temps) c.now.first_temp start one → LeadsWhereHolds from one led → EmitsTested (r.test led.temps) c.now.first_temp led out.old
+    ensures { IfOk result (λ found. (l r : Lowering) → (before start one led : Out) → BeginsTruth used c.now.first_temp before start to
+        → from ≡ length start.nodes
+        → EmitsTested (l.test start.temps) c.now.first_temp start one → LeadsWhereHolds from one led
+        → EmitsTested (r.test led.temps) c.now.first_temp led out.old
         → IsLowered used (conjunction (on_line c.now line) l r) c.now.first_temp before out.new found) }
 {
     let operand = out.end_truth(spot(c, line), to, from, used)?;
@@ -171,8 +175,10 @@ pub fn either<'a>(
     used: Use,
     out: &mut Output<'a>,
 ) -> Result<Found<'a>, AllocError>
-    ensures { IfOk result (λ found. (l r : Lowering) → (before start one led : Out) → BeginsTruth used c.now.first_temp before start to → from ≡ length start.nodes
-        → EmitsTested (l.test start.temps) c.now.first_temp start one → LeadsWhereFails from one led → EmitsTested (r.test led.temps) c.now.first_temp led out.old
+    ensures { IfOk result (λ found. (l r : Lowering) → (before start one led : Out) → BeginsTruth used c.now.first_temp before start to
+        → from ≡ length start.nodes
+        → EmitsTested (l.test start.temps) c.now.first_temp start one → LeadsWhereFails from one led
+        → EmitsTested (r.test led.temps) c.now.first_temp led out.old
         → IsLowered used (disjunction (on_line c.now line) l r) c.now.first_temp before out.new found) }
 {
     let operand = out.end_truth(spot(c, line), to, from, used)?;
@@ -191,12 +197,14 @@ pub fn negation<'a>(
     used: Use,
     out: &mut Output<'a>,
 ) -> Result<Found<'a>, AllocError>
-    ensures { IfOk result (λ found. (l : Lowering) → (before start : Out) → BeginsTruth used c.now.first_temp before start to → from ≡ length start.nodes
-        → EmitsTested (l.test start.temps) c.now.first_temp start out.old → IsLowered used (negation (on_line c.now line) l) c.now.first_temp before out.new found) }
+    ensures { IfOk result (λ found. (l : Lowering) → (before start : Out) → BeginsTruth used c.now.first_temp before start to
+        → from ≡ length start.nodes
+        → EmitsTested (l.test start.temps) c.now.first_temp start out.old
+        → IsLowered used (negation (on_line c.now line) l) c.now.first_temp before out.new found) }
 {
     let ways = Ways {
-        holds: Target::Fails,
-        fails: Target::Holds,
+        holds: Label::Fails,
+        fails: Label::Holds,
         ..AS_THEY_ARE
     };
     let past = out.len();
@@ -217,7 +225,8 @@ pub fn called<'a>(
     used: Use,
     out: &mut Output<'a>,
 ) -> Result<Found<'a>, AllocError>
-    ensures { IfOk result (λ found. (before : Out) → IsCalled used (on_line c.now line) (ident_tree callee.now) args.items c.now.first_temp before out.old out.new found) }
+    ensures { IfOk result (λ found. (before : Out)
+        → IsCalled used (on_line c.now line) (ident_tree callee.now) args.items c.now.first_temp before out.old out.new found) }
 {
     let kind = known(kind_of_call(c.tables(), &callee.text));
     let cmd = Cmd::Call {
@@ -239,7 +248,8 @@ pub fn new<'a>(
     used: Use,
     out: &mut Output<'a>,
 ) -> Result<Found<'a>, AllocError>
-    ensures { IfOk result (λ found. IsLowered used (new (on_line c.now line) (type_seen wanted.entry) (specifier_tree target.now)) c.now.first_temp out.old out.new found) }
+    ensures { IfOk result (λ found. IsLowered used
+        (new (on_line c.now line) (type_seen wanted.entry) (specifier_tree target.now)) c.now.first_temp out.old out.new found) }
 {
     let pointer = known(pointer_of(c.tables(), target));
     let cmd = Cmd::New {

@@ -12,7 +12,7 @@ use c_types_names::env::Env;
 use c_types_names::objects::param_kind;
 use std::alloc::AllocError;
 
-/// How many parameters there are.
+/// How many parameters there are, where a u32 holds that.
 pub fn param_count(params: &Params) -> u32
     ensures { length (listed (params_tree params.now)) < 4294967296 → result ≡ length (listed (params_tree params.now)) }
 {
@@ -59,7 +59,8 @@ fn add_more_params<'a>(
 ) -> Result<(), AllocError>
     ensures tables { env.new.tables ≡ env.old.tables }
     ensures env { OnOk result (env.new ≡ behind_params env.old (map param_tree params.now)) }
-    ensures bound { OnOk result (first + length params.now < 4294967296 → stacked bound.new.items ≡ bound_params first (map param_tree params.now) (stacked bound.old.items)) }
+    ensures bound { OnOk result (first + length params.now < 4294967296
+        → stacked bound.new.items ≡ bound_params first (map param_tree params.now) (stacked bound.old.items)) }
 {
     let mut slot = first;
     for param in params {
@@ -77,7 +78,8 @@ pub fn add_params<'a>(
 ) -> Result<(), AllocError>
     ensures tables { env.new.tables ≡ env.old.tables }
     ensures env { OnOk result (env.new ≡ behind_params env.old (listed (params_tree params.now))) }
-    ensures bound { OnOk result (length (listed (params_tree params.now)) < 4294967296 → stacked bound.new.items ≡ bound_params 0 (listed (params_tree params.now)) (stacked bound.old.items)) }
+    ensures bound { OnOk result (length (listed (params_tree params.now)) < 4294967296
+        → stacked bound.new.items ≡ bound_params 0 (listed (params_tree params.now)) (stacked bound.old.items)) }
 {
     match params {
         Params::Empty => Ok(()),

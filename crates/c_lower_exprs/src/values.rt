@@ -11,7 +11,7 @@ ghost use Rattle.c_lower_exprs.specs.Contexts.{on_line};
 ghost use Rattle.c_lower_exprs.specs.Lowered.{IsLowered, EmitsArguments};
 ghost use Rattle.c_lower_exprs.specs.Operators.{binary_of};
 
-use crate::context::{Context, known};
+use crate::context::Context;
 use crate::members::{Found, members};
 use crate::operators::{
     arithmetic, both, called, compared, either, lead_where_fails, lead_where_holds, negated,
@@ -20,7 +20,7 @@ use crate::operators::{
 use c_lower_emit::output::Output;
 use c_lower_emit::uses::Use;
 use c_tree::{BinaryOp, Expr, Link, PrefixOp};
-use c_types_names::kinds::CType;
+use c_types_names::kinds::{CType, known};
 use c_types_names::objects::pointer_of;
 use shape_data::program::{ArithOp, Operand, TestOp};
 use std::alloc::AllocError;
@@ -66,7 +66,8 @@ pub fn lower<'a>(
     used: Use,
     out: &mut Output<'a>,
 ) -> Result<Found<'a>, AllocError>
-    ensures { IfOk result (λ found. HasIntNumbers (expr_tree expr.now) → IsLowered used (lowering (on_line c.now line) (expr_tree expr.now)) c.now.first_temp out.old out.new found) }
+    ensures { IfOk result (λ found. HasIntNumbers (expr_tree expr.now)
+        → IsLowered used (lowering (on_line c.now line) (expr_tree expr.now)) c.now.first_temp out.old out.new found) }
 {
     match expr {
         Expr::Chain(first, others) => chain(c, line, first, others, others.len(), used, out),
@@ -125,7 +126,9 @@ fn prefix<'a>(
     used: Use,
     out: &mut Output<'a>,
 ) -> Result<Found<'a>, AllocError>
-    ensures { IfOk result (λ found. HasIntNumbers (expr_tree inner.now.value) → IsLowered used (prefix (on_line c.now line) (prefix_tree op) (lowering (on_line c.now line) (expr_tree inner.now.value))) c.now.first_temp out.old out.new found) }
+    ensures { IfOk result (λ found. HasIntNumbers (expr_tree inner.now.value)
+        → IsLowered used (prefix (on_line c.now line) (prefix_tree op)
+        (lowering (on_line c.now line) (expr_tree inner.now.value))) c.now.first_temp out.old out.new found) }
 {
     match op {
         PrefixOp::Negate => {
@@ -154,7 +157,8 @@ fn chain<'a>(
 ) -> Result<Found<'a>, AllocError>
     requires { count ≤ length links.now.items }
     ensures { IfOk result (λ found. HasIntNumbers (expr_tree first.now.value) → HaveIntNumbers (links_tree links.now.items)
-        → IsLowered used (chain (on_line c.now line) (lowering (on_line c.now line) (expr_tree first.now.value)) (links_tree (take count links.now.items))) c.now.first_temp out.old out.new found) }
+        → IsLowered used (chain (on_line c.now line) (lowering (on_line c.now line) (expr_tree first.now.value))
+        (links_tree (take count links.now.items))) c.now.first_temp out.old out.new found) }
 {
     if count == 0 {
         return lower(c, line, first, used, out);
@@ -201,7 +205,8 @@ pub fn values<'a>(
     out: &mut Output<'a>,
 ) -> Result<Vec<Operand>, AllocError>
     ensures { IfOk result (λ operands. AllHaveIntNumbers (args_tree args.now.items)
-        → EmitsArguments (arguments (no_arguments out.old.temps) (lowerings (on_line c.now line) (args_tree args.now.items))) c.now.first_temp out.old out.new operands.items) }
+        → EmitsArguments (arguments (no_arguments out.old.temps)
+        (lowerings (on_line c.now line) (args_tree args.now.items))) c.now.first_temp out.old out.new operands.items) }
 {
     let mut operands = Vec::new(c.alloc());
     for arg in args {

@@ -5,12 +5,12 @@ mod Exprs
 mod Simples
 mod Bodies
 mod Different
-mod Structures
+pub mod Structures
 mod Marked
 mod Procedures
 mod Locals
 mod Flows
-mod WellFormed
+pub mod WellFormed
 pub mod GoodTokens
 pub mod GoodWords
 pub mod Steps

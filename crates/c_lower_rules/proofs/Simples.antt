@@ -12,9 +12,10 @@ use Rattle.shape_data.specs.Names.{IsCName}
 use Rattle.shape_data.specs.WellFormed.{IsTy, IsOperand, IsKind, IsCountable}
 use Rattle.c_tokens.specs.declared.places.Place.{Place}
 use Rattle.c_tokens.specs.declared.places.Refusal.{Refusal}
+use Rattle.c_tokens.specs.Places.{refusal}
 use Rattle.c_grammar.specs.Trees.{Name, Specifier, Expr, Args, AssignOp, Simple}
 use Rattle.c_grammar.specs.FirstPlaces.{place_of_expr}
-use Rattle.c_types_rules.specs.Types.{Kind, refusal, ARGUMENTS}
+use Rattle.c_types_rules.specs.Types.{Kind, ARGUMENTS}
 use Rattle.c_types_rules.specs.Tables.{Procedure, Alias, Tables, procedure_in, alias_in, is_defined, pointer_to, pointer_by, pointer_of, param_kinds}
 use Rattle.c_types_rules.specs.Items.{listed}
 use Rattle.c_types_rules.specs.Expressions.{kind_of, kind_of_call, is_null, Given, given_by, gives_pointer, may_be_pointer, kind_of_member, members_refusals, same_number, callee_refusals, expr_refusals, call_refusals, whole_refusals, malloc_refusals}

@@ -132,7 +132,8 @@ def_names : (kinds : List FieldKind) → map (λ (f : Field). f.name) (map field
 def_names [] = refl
 def_names (k ∷ ks) = ap (λ r. k.name.text ∷ r) (def_names ks)
 
-fields_length : (tables : Tables) (lines : List Fields) → length (field_kinds tables lines) ≡ length (field_names lines)
+-- as many fields have types as have names
+pub fields_length : (tables : Tables) (lines : List Fields) → length (field_kinds tables lines) ≡ length (field_names lines)
 fields_length tables lines =
     sym (length-map (field_kinds tables lines) name_of_kind) ∙ ap length (kinds_names tables lines) ∙ length-map (field_names lines) name_text
 

@@ -1,6 +1,6 @@
 -- Programs in which nothing is refused are well formed.
 use Rattle.std.proofs.Common.{◌≡◌, ℕ, suc, ◌+◌, ◌-◌, ◌<◌, Bool, true, false, cond, List, [], ◌∷◌, ◌++◌, length, map, refl, arith, subst, sym, ap, ◌∙◌}
-use Rattle.std.specs.Prelude.{Option, Some, None, IfSome, All, not}
+use Rattle.std.specs.Prelude.{Some, IfSome, All, not}
 use Rattle.std.specs.List.{AllByRecursion}
 use Rattle.std.specs.Str.{bytes_eq}
 use Rattle.std.proofs.lemmas.List.{map-append, length-map, append_assoc}
@@ -14,12 +14,12 @@ use Rattle.shape_data.specs.Names.{IsCName}
 use Rattle.shape_data.specs.WellFormed.{IsCountable, IsFlow, FitsCall, HasLines}
 use Rattle.c_tokens.specs.declared.places.Place.{Place}
 use Rattle.c_grammar.specs.Trees.{Head, Stmts, Item, File}
-use Rattle.c_types_rules.specs.declared.at.At.{At}
 use Rattle.c_grammar.specs.FirstPlaces.{place_of_head}
 use Rattle.c_types_rules.specs.Types.{unless, SECOND}
 use Rattle.c_types_rules.specs.Tables.{Tables, Procedure, procedure_in, declared_by, items_of, no_tables}
 use Rattle.c_types_rules.specs.Items.{listed, param_names, procedure_refusals, definitions, is_defined_before, unnamed_refusals}
-use Rattle.c_types_rules.specs.Programs.{first_of, earlier, in_unit, tables_of, structs_of}
+use Rattle.c_types_rules.specs.Programs.{in_unit, tables_of, structs_of}
+use Rattle.c_types_rules.proofs.First.{have_first}
 use Rattle.c_types_rules.proofs.KnownTables.{nil_left, nil_right, all_append, IsAccepted, SoundTables, tables_sound}
 use Rattle.c_types_rules.proofs.KnownPrograms.{nothing_mapped, files_accepted}
 use Rattle.c_lower_rules.specs.Code.{onto}
@@ -38,19 +38,11 @@ use Rattle.c_lower_rules.proofs.Flows.{IsFineDefinition, named_count, nodes_good
 
 -- NOTHING IS TOO LARGE
 
-none_refused : (all : List At) → first_of all ≡ None → all ≡ []
-none_refused [] e = refl
-none_refused (one ∷ others) e = by_first (first_of others) e
-  where
-    by_first : (o : Option At) → earlier one o ≡ None → (one ∷ others) ≡ []
-    by_first None f = absurd (cc)
-    by_first (Some other) f = absurd (cc)
-
 sizes_append : (tables : Tables) (xs ys : List Item) → items_refusals tables xs ≡ [] → items_refusals tables ys ≡ [] → items_refusals tables (xs ++ ys) ≡ []
 sizes_append tables [] ys e f = f
 sizes_append tables (x ∷ xs) ys e f = rw (nil_left (item_refusals tables x) _ e) (sizes_append tables xs ys (nil_right _ _ e) f)
 
-sizes_flat : (tables : Tables) (unit : ℕ) (files : List File) → files_refusals tables unit files ≡ [] → items_refusals tables (items_of files) ≡ []
+pub sizes_flat : (tables : Tables) (unit : ℕ) (files : List File) → files_refusals tables unit files ≡ [] → items_refusals tables (items_of files) ≡ []
 sizes_flat tables unit [] e = refl
 sizes_flat tables unit (file ∷ files) e =
     sizes_append tables file.items (items_of files) (nothing_mapped (in_unit unit) (items_refusals tables file.items) (nil_left _ _ e)) (sizes_flat tables (suc unit) files (nil_right _ _ e))
@@ -278,7 +270,7 @@ have_well_formed names files typed sizes texts count structs_count procs_count =
     let written = recursion_from_All IsText files texts in
     let named = texts_names files written in
     let lines = texts_lines files written in
-    let small = sizes_flat tables 0 files (none_refused _ sizes) in
+    let small = sizes_flat tables 0 files (have_first.empty _ sizes) in
     let sound = tables_sound all accepted in
     let fine = structures_fine tables all accepted named small sound.structures in
     let tags = tags_of tables fine in

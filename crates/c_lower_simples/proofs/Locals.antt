@@ -16,7 +16,7 @@ use Rattle.c_lower_rules.specs.Values.{Lowering}
 use Rattle.c_lower_rules.specs.Expressions.{field_behind, member, members, binary, prefix, lowering, chain}
 use Rattle.c_lower_rules.specs.Statements.{State, Lowered, with_local, initial, local, locals, joined}
 use Rattle.c_lower_rules.specs.Numbers.{InitializedHasIntNumbers}
-use Rattle.c_lower_emit.specs.declared.drafts.Target.TheVariants.{At}
+use Rattle.c_lower_emit.specs.declared.drafts.Label.TheVariants.{At}
 use Rattle.c_lower_emit.specs.Drafts.{next_at}
 use Rattle.c_lower_emit.specs.Emitting.{Out, led_out, HasRoom, EmitsCode}
 use Rattle.c_lower_emit.proofs.Joining.{behind_nodes, room_first, room_then, code_then, SameCode, same_code, same_back, same_both, same_behind, same_nothing_behind, same_nothing_before, same_groups}

@@ -10,7 +10,7 @@ use Rattle.c_lower_rules.specs.Contexts.{Context}
 use Rattle.c_lower_rules.specs.Values.{Value, Lowering, at_hand}
 use Rattle.c_lower_rules.specs.Expressions.{Field, slot_read, arithmetic}
 use Rattle.c_lower_rules.specs.Statements.{Target, field_at_hand, update}
-use Rattle.c_lower_emit.specs.declared.drafts.Target.TheVariants.{At}
+use Rattle.c_lower_emit.specs.declared.drafts.Label.TheVariants.{At}
 use Rattle.c_lower_emit.specs.declared.uses.Use.TheVariants as used
 use Rattle.c_lower_emit.specs.Emitting.{Out, HasRoom, EmitsStraight, EmitsCode}
 use Rattle.c_lower_emit.proofs.Joining.{room_first, room_then, straight_then, code_behind}

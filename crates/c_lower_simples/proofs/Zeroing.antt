@@ -8,7 +8,7 @@ use Rattle.shape_data.specs.declared.program.Ty.{Ty}
 use Rattle.shape_data.specs.declared.program.Ty.TheVariants.{Int}
 use Rattle.c_lower_rules.specs.Code.{command}
 use Rattle.c_lower_rules.specs.Temporaries.{Temp, Taken, is_free, behind_temp, take_temp}
-use Rattle.c_lower_emit.specs.declared.drafts.Target.TheVariants.{At, Next}
+use Rattle.c_lower_emit.specs.declared.drafts.Label.TheVariants.{At, Next}
 use Rattle.c_lower_emit.specs.Emitting.{Out, with_draft, HasRoom, EmitsCode}
 use Rattle.c_lower_emit.proofs.Using.{slot_is}
 

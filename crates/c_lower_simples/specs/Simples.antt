@@ -2,7 +2,7 @@
 use Rattle.std.specs.Prelude.{ℕ, List, length}
 use Rattle.c_lower_rules.specs.Temporaries.{Temp}
 use Rattle.c_lower_rules.specs.Values.{Piece}
-use Rattle.c_lower_emit.specs.declared.drafts.Target.TheVariants.{At}
+use Rattle.c_lower_emit.specs.declared.drafts.Label.TheVariants.{At}
 use Rattle.c_lower_emit.specs.Emitting.{Out, HasRoom, EmitsCode}
 
 -- a piece was emitted, where there is room for it; it begins at its first node

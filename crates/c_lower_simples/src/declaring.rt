@@ -10,35 +10,35 @@ ghost use Rattle.c_lower_rules.specs.Code.{command};
 ghost use Rattle.c_lower_rules.specs.Contexts.{Context as ContextValue};
 ghost use Rattle.c_lower_rules.specs.Statements as statements;
 ghost use Rattle.c_lower_rules.specs.Numbers.{HasIntNumbers, InitializedHasIntNumbers, LocalHasIntNumbers};
-ghost use Rattle.c_lower_emit.specs.declared.drafts.Target.TheVariants.{At};
+ghost use Rattle.c_lower_emit.specs.declared.drafts.Label.TheVariants.{At};
 ghost use Rattle.c_lower_emit.specs.Emitting.{Out, EmitsCode};
 ghost use Rattle.c_lower_exprs.specs.Contexts.{on_line, IsWithin};
 ghost use Rattle.c_lower_simples.specs.Simples.{EmitsPiece};
 ghost use Rattle.c_lower_simples.specs.Declaring.{state, Declares};
 
-use crate::types::type_of;
-use c_lower_emit::drafts::Target;
+use c_lower_emit::drafts::Label;
 use c_lower_emit::output::Output;
 use c_lower_emit::uses::Use;
-use c_lower_exprs::context::{Context, known};
+use c_lower_exprs::context::Context;
 use c_lower_exprs::values::lower;
 use c_tree::places::place_of_specifier;
 use c_tree::{Expr, Initialized, Local, Place, TypeSpecifier};
-use c_types_names::kinds::CType;
+use c_types_names::kinds::{CType, known, type_of};
 use c_types_names::objects::object_kind;
 use shape_data::program::Cmd;
 use std::alloc::AllocError;
 
 /// The slot holds any value of the type.
 fn any<'a>(line: u32, to: u32, kind: CType<'a>, out: &mut Output<'a>) -> Result<(), AllocError>
-    ensures { OnOk result (EmitsCode (command line (cmd.Any to (type_seen kind.entry))) out.old.temps (At (length out.old.nodes)) out.old out.new) }
+    ensures { OnOk result (EmitsCode (command line (cmd.Any to (type_seen kind.entry))) out.old.temps
+        (At (length out.old.nodes)) out.old out.new) }
 {
     let any = Cmd::Any {
         to,
         ty: type_of(kind)?,
         next: 0,
     };
-    out.push(line, any, Target::Next, Target::Next)
+    out.push(line, any, Label::Next, Label::Next)
 }
 
 /// What a local in the slot begins with.
@@ -51,7 +51,8 @@ fn initial<'a>(
     out: &mut Output<'a>,
 ) -> Result<(), AllocError>
     ensures { OnOk result (IfSome (option_map expr_tree value.now) HasIntNumbers
-        → EmitsPiece (statements.initial (on_line c.now line) to (type_seen kind.entry) (option_map expr_tree value.now)) c.now.first_temp out.old out.new) }
+        → EmitsPiece (statements.initial (on_line c.now line) to (type_seen kind.entry)
+        (option_map expr_tree value.now)) c.now.first_temp out.old out.new) }
 {
     match value {
         None => any(line, to, kind, out),
@@ -73,7 +74,8 @@ fn local<'a>(
 ) -> Result<u32, AllocError>
     ensures within { OnOk result (IsWithin c.old c.new) }
     ensures declared { IfOk result (λ then. InitializedHasIntNumbers (initialized_tree one.now)
-        → Declares (statements.local (specifier_tree specifier.now) (initialized_tree one.now) (state c.old line locals out.old)) c.old line locals c.new then out.old out.new) }
+        → Declares (statements.local (specifier_tree specifier.now) (initialized_tree one.now)
+        (state c.old line locals out.old)) c.old line locals c.new then out.old out.new) }
 {
     let kind = object_kind(c.tables(), specifier, one.declarator.stars);
     let to = c.first_local().saturating_add(locals);
@@ -95,11 +97,13 @@ fn local_behind<'a>(
     ensures within { OnOk result (IsWithin c.old c.new) }
     ensures declared { IfOk result (λ then. InitializedHasIntNumbers (initialized_tree one.now)
         → (done : List tree.Initialized) → (first : ContextValue) → (count : ℕ) → (old : Out) → start ≡ length old.nodes
-        → Declares (statements.locals (specifier_tree specifier.now) done (state first line count old)) first line count c.old locals old out.old
-        → Declares (statements.locals (specifier_tree specifier.now) (done ++ initialized_tree one.now ∷ []) (state first line count old)) first line count c.new then old out.new) }
+        → Declares (statements.locals (specifier_tree specifier.now) done
+        (state first line count old)) first line count c.old locals old out.old
+        → Declares (statements.locals (specifier_tree specifier.now) (done ++ initialized_tree one.now ∷ [])
+        (state first line count old)) first line count c.new then old out.new) }
 {
     let past = out.len();
-    let begin = Target::At(out.here());
+    let begin = Label::At(out.here());
     let locals = local(c, line, locals, specifier, one, out)?;
     out.lead_next(start, past, begin);
     Ok(locals)
@@ -115,7 +119,8 @@ pub fn declaration<'a>(
 ) -> Result<u32, AllocError>
     ensures within { OnOk result (IsWithin c.old c.new) }
     ensures declared { IfOk result (λ then. LocalHasIntNumbers (local_tree one.now)
-        → Declares (statements.declaration (local_tree one.now) (state c.old line locals out.old)) c.old line locals c.new then out.old out.new) }
+        → Declares (statements.declaration (local_tree one.now)
+        (state c.old line locals out.old)) c.old line locals c.new then out.old out.new) }
 {
     let start = out.len();
     let mut count = local(c, line, locals, &one.specifier, &one.first, out)?;

@@ -6,6 +6,5 @@ pub mod declaring;
 pub mod simples;
 mod storing;
 mod targets;
-pub mod types;
 mod updating;
 pub mod wanting;

@@ -6,7 +6,18 @@ ghost use Rattle.c_types_names.specs.Seen.{type_seen};
 ghost use Rattle.c_lower_rules.specs.Values.{Lowering};
 ghost use Rattle.c_lower_rules.specs.Expressions.{Field, arguments, no_arguments, lowering, lowerings};
 ghost use Rattle.c_lower_rules.specs.Statements as statements;
-ghost use Rattle.c_lower_rules.specs.Statements.{target, member_target, assign, update, assign_by, step_by, call, free, simple, place_of_simple};
+ghost use Rattle.c_lower_rules.specs.Statements.{
+  target,
+  member_target,
+  assign,
+  update,
+  assign_by,
+  step_by,
+  call,
+  free,
+  simple,
+  place_of_simple,
+};
 ghost use Rattle.c_lower_rules.specs.Numbers.{HasIntNumbers, AllHaveIntNumbers, SimpleHasIntNumbers};
 ghost use Rattle.c_lower_exprs.specs.Contexts.{on_line};
 ghost use Rattle.c_lower_simples.specs.Amounts.{amount, amount_is_call, AmountHasIntNumbers};
@@ -19,12 +30,12 @@ use crate::updating::{Amount, update_member, update_variable};
 use crate::wanting::wanted;
 use c_lower_emit::output::Output;
 use c_lower_emit::uses::Use;
-use c_lower_exprs::context::{Context, known};
+use c_lower_exprs::context::Context;
 use c_lower_exprs::values::{lower, values};
 use c_tree::places::place_of_expr;
 use c_tree::{AssignOp, Expr, Ident, Place, Simple, StepOp};
 use c_types_exprs::exprs::kind_of;
-use c_types_names::kinds::CType;
+use c_types_names::kinds::{CType, known};
 use shape_data::program::{ArithOp, Operand};
 use std::alloc::AllocError;
 
@@ -40,9 +51,11 @@ fn set_member<'a>(
     out: &mut Output<'a>,
 ) -> Result<(), AllocError>
     ensures { OnOk result (HasIntNumbers (expr_tree base.now.value) → HasIntNumbers (expr_tree value.now)
-        → IsFieldKind (member_target (on_line c.now line) (lowering (on_line c.now line) (expr_tree base.now.value)) (ident_tree first.now) (map ident_tree others.now.items)) (type_seen kind.entry)
+        → IsFieldKind (member_target (on_line c.now line) (lowering (on_line c.now line) (expr_tree base.now.value)) (ident_tree first.now)
+        (map ident_tree others.now.items)) (type_seen kind.entry)
         → EmitsPiece (assign (on_line c.now line)
-        (member_target (on_line c.now line) (lowering (on_line c.now line) (expr_tree base.now.value)) (ident_tree first.now) (map ident_tree others.now.items))
+        (member_target (on_line c.now line) (lowering (on_line c.now line) (expr_tree base.now.value)) (ident_tree first.now)
+        (map ident_tree others.now.items))
         (expr_tree value.now)) c.now.first_temp out.old out.new) }
 {
     let value = wanted(c, line, kind, value, Use::Value, out)?;
@@ -58,7 +71,8 @@ fn set_variable<'a>(
     value: &'a Expr,
     out: &mut Output<'a>,
 ) -> Result<(), AllocError>
-    ensures { OnOk result (HasIntNumbers (expr_tree value.now) → EmitsPiece (assign (on_line c.now line) (statements.Target.Variable to) (expr_tree value.now)) c.now.first_temp out.old out.new) }
+    ensures { OnOk result (HasIntNumbers (expr_tree value.now)
+        → EmitsPiece (assign (on_line c.now line) (statements.Target.Variable to) (expr_tree value.now)) c.now.first_temp out.old out.new) }
 {
     lower(c, line, value, Use::Into(to), out)?;
     Ok(())
@@ -73,7 +87,8 @@ fn assign<'a>(
     out: &mut Output<'a>,
 ) -> Result<(), AllocError>
     ensures { OnOk result (HasIntNumbers (expr_tree left.now) → HasIntNumbers (expr_tree value.now)
-        → EmitsPiece (assign (on_line c.now line) (target (on_line c.now line) (expr_tree left.now)) (expr_tree value.now)) c.now.first_temp out.old out.new) }
+        → EmitsPiece (assign (on_line c.now line) (target (on_line c.now line) (expr_tree left.now))
+        (expr_tree value.now)) c.now.first_temp out.old out.new) }
 {
     match target_of(c, left) {
         Target::Variable(to) => set_variable(c, line, to, value, out),
@@ -94,7 +109,8 @@ fn update<'a>(
     out: &mut Output<'a>,
 ) -> Result<(), AllocError>
     ensures { OnOk result (HasIntNumbers (expr_tree left.now) → AmountHasIntNumbers by.entry
-        → EmitsPiece (update (on_line c.now line) (target (on_line c.now line) (expr_tree left.now)) op (amount_is_call by.entry) (amount (on_line c.now line) by.entry)) c.now.first_temp out.old out.new) }
+        → EmitsPiece (update (on_line c.now line) (target (on_line c.now line) (expr_tree left.now)) op (amount_is_call by.entry)
+        (amount (on_line c.now line) by.entry)) c.now.first_temp out.old out.new) }
 {
     match target_of(c, left) {
         Target::Variable(to) => update_variable(c, line, to, op, by, out),
@@ -114,7 +130,8 @@ fn assign_by<'a>(
     out: &mut Output<'a>,
 ) -> Result<(), AllocError>
     ensures { OnOk result (HasIntNumbers (expr_tree left.now) → HasIntNumbers (expr_tree value.now)
-        → EmitsPiece (assign_by (on_line c.now line) (target (on_line c.now line) (expr_tree left.now)) (assign_tree op) (expr_tree value.now)) c.now.first_temp out.old out.new) }
+        → EmitsPiece (assign_by (on_line c.now line) (target (on_line c.now line) (expr_tree left.now)) (assign_tree op)
+        (expr_tree value.now)) c.now.first_temp out.old out.new) }
 {
     match op {
         AssignOp::Set => assign(c, line, left, value, out),
@@ -143,7 +160,8 @@ fn perform<'a>(
     out: &mut Output<'a>,
 ) -> Result<(), AllocError>
     ensures { OnOk result (AllHaveIntNumbers (args_tree args.now.items)
-        → EmitsPiece (λ temps. call (on_line c.now line) (ident_tree callee.now) (arguments (no_arguments temps) (lowerings (on_line c.now line) (args_tree args.now.items)))) c.now.first_temp out.old out.new) }
+        → EmitsPiece (λ temps. call (on_line c.now line) (ident_tree callee.now)
+        (arguments (no_arguments temps) (lowerings (on_line c.now line) (args_tree args.now.items)))) c.now.first_temp out.old out.new) }
 {
     let operands = values(c, line, args, out)?;
     call(line, callee, operands, out)
@@ -156,7 +174,8 @@ fn release<'a>(
     pointer: &'a Expr,
     out: &mut Output<'a>,
 ) -> Result<(), AllocError>
-    ensures { OnOk result (HasIntNumbers (expr_tree pointer.now) → EmitsPiece (free (on_line c.now line) (lowering (on_line c.now line) (expr_tree pointer.now))) c.now.first_temp out.old out.new) }
+    ensures { OnOk result (HasIntNumbers (expr_tree pointer.now)
+        → EmitsPiece (free (on_line c.now line) (lowering (on_line c.now line) (expr_tree pointer.now))) c.now.first_temp out.old out.new) }
 {
     let found = lower(c, line, pointer, Use::Value, out)?;
     match found.operand {
@@ -172,7 +191,8 @@ pub fn simple<'a>(
     one: &'a Simple,
     out: &mut Output<'a>,
 ) -> Result<(), AllocError>
-    ensures { OnOk result (SimpleHasIntNumbers (simple_tree one.now) → EmitsPiece (simple (on_line c.now line) (simple_tree one.now)) c.now.first_temp out.old out.new) }
+    ensures { OnOk result (SimpleHasIntNumbers (simple_tree one.now)
+        → EmitsPiece (simple (on_line c.now line) (simple_tree one.now)) c.now.first_temp out.old out.new) }
 {
     match one {
         Simple::Assign(left, op, value) => assign_by(c, line, left, *op, value, out),

@@ -9,10 +9,10 @@ ghost use Rattle.c_lower_rules.specs.Code.{command};
 ghost use Rattle.c_lower_rules.specs.Temporaries.{take_temp};
 ghost use Rattle.c_lower_rules.specs.Contexts.{tag_of};
 ghost use Rattle.c_lower_rules.specs.Expressions.{slot_read, field_behind};
-ghost use Rattle.c_lower_emit.specs.declared.drafts.Target.TheVariants.{At};
+ghost use Rattle.c_lower_emit.specs.declared.drafts.Label.TheVariants.{At};
 ghost use Rattle.c_lower_emit.specs.Emitting.{HasRoom, EmitsCode};
 
-use c_lower_emit::drafts::Target;
+use c_lower_emit::drafts::Label;
 use c_lower_emit::output::Output;
 use c_lower_exprs::context::Context;
 use c_lower_exprs::members::{Field, Found, field_behind, slot_read, tag_of};
@@ -31,7 +31,9 @@ pub fn store<'a>(
     from: Operand,
     out: &mut Output<'a>,
 ) -> Result<(), AllocError>
-    ensures { OnOk result (EmitsCode (command line (cmd.Store (slot_read base.entry.operand) (field_behind c.now (type_seen base.entry.kind) (ident_tree name.now)).tag (field_behind c.now (type_seen base.entry.kind) (ident_tree name.now)).place from))
+    ensures { OnOk result (EmitsCode
+        (command line (cmd.Store (slot_read base.entry.operand) (field_behind c.now (type_seen base.entry.kind) (ident_tree name.now)).tag
+        (field_behind c.now (type_seen base.entry.kind) (ident_tree name.now)).place from))
         out.old.temps (At (length out.old.nodes)) out.old out.new) }
 {
     let Field { tag, place, .. } = field_behind(c, base.kind, name)?;
@@ -42,7 +44,7 @@ pub fn store<'a>(
         from,
         next: 0,
     };
-    out.push(line, store, Target::Next, Target::Next)
+    out.push(line, store, Label::Next, Label::Next)
 }
 
 /// Calls a procedure with the arguments, and drops its result.
@@ -52,7 +54,8 @@ pub fn call<'a>(
     args: Vec<Operand>,
     out: &mut Output<'a>,
 ) -> Result<(), AllocError>
-    ensures { OnOk result (EmitsCode (command line (cmd.Call None callee.now.text args.items)) out.old.temps (At (length out.old.nodes)) out.old out.new) }
+    ensures { OnOk result (EmitsCode (command line (cmd.Call None callee.now.text args.items)) out.old.temps
+        (At (length out.old.nodes)) out.old out.new) }
 {
     let call = Cmd::Call {
         to: None,
@@ -60,7 +63,7 @@ pub fn call<'a>(
         args: Row::from_vec(args),
         next: 0,
     };
-    out.push(line, call, Target::Next, Target::Next)
+    out.push(line, call, Label::Next, Label::Next)
 }
 
 /// Frees what a slot of the type points to.
@@ -71,20 +74,22 @@ pub fn free<'a>(
     kind: CType<'a>,
     out: &mut Output<'a>,
 ) -> Result<(), AllocError>
-    ensures { OnOk result (EmitsCode (command line (cmd.Free slot (tag_of (type_seen kind.entry)))) out.old.temps (At (length out.old.nodes)) out.old out.new) }
+    ensures { OnOk result (EmitsCode (command line (cmd.Free slot (tag_of (type_seen kind.entry)))) out.old.temps
+        (At (length out.old.nodes)) out.old out.new) }
 {
     let free = Cmd::Free {
         base: slot,
         kind: tag_of(c.alloc(), kind)?,
         next: 0,
     };
-    out.push(line, free, Target::Next, Target::Next)
+    out.push(line, free, Label::Next, Label::Next)
 }
 
 /// Puts 0 into an int temporary.
 pub fn zero<'a>(c: &Context<'a>, line: u32, out: &mut Output<'a>) -> Result<(), AllocError>
     ensures { OnOk result (HasRoom c.now.first_temp 1 out.old
-        → EmitsCode (command line (cmd.Copy (c.now.first_temp + (take_temp Int out.old.temps).place) (Num (pos 0)))) (take_temp Int out.old.temps).temps (At (length out.old.nodes)) out.old out.new) }
+        → EmitsCode (command line (cmd.Copy (c.now.first_temp + (take_temp Int out.old.temps).place) (Num (pos 0))))
+        (take_temp Int out.old.temps).temps (At (length out.old.nodes)) out.old out.new) }
 {
     let place = out.take(CType::Int)?;
     let copy = Cmd::Copy {
@@ -92,5 +97,5 @@ pub fn zero<'a>(c: &Context<'a>, line: u32, out: &mut Output<'a>) -> Result<(), 
         from: Operand::Num(0),
         next: 0,
     };
-    out.push(line, copy, Target::Next, Target::Next)
+    out.push(line, copy, Label::Next, Label::Next)
 }

@@ -62,7 +62,8 @@ fn walk<'a>(
     out: &mut Output<'a>,
 ) -> Result<Pointer<'a>, AllocError>
     ensures { IfOk result (λ found. (l : Lowering) → (before : Out) → IsLowered Value l c.now.first_temp before out.old base.entry
-        → IsPointer (on_line c.now line) (member_target (on_line c.now line) l (ident_tree first.now) (map ident_tree others.now)) c.now.first_temp before out.new found) }
+        → IsPointer (on_line c.now line)
+        (member_target (on_line c.now line) l (ident_tree first.now) (map ident_tree others.now)) c.now.first_temp before out.new found) }
 {
     let mut current = base;
     let mut field = first;
@@ -84,7 +85,8 @@ pub fn lower_pointer<'a>(
     out: &mut Output<'a>,
 ) -> Result<Pointer<'a>, AllocError>
     ensures { IfOk result (λ found. HasIntNumbers (expr_tree base.now.value)
-        → IsPointer (on_line c.now line) (member_target (on_line c.now line) (lowering (on_line c.now line) (expr_tree base.now.value)) (ident_tree first.now) (map ident_tree others.now.items))
+        → IsPointer (on_line c.now line) (member_target (on_line c.now line) (lowering (on_line c.now line) (expr_tree base.now.value))
+        (ident_tree first.now) (map ident_tree others.now.items))
         c.now.first_temp out.old out.new found) }
 {
     let base = lower(c, line, base, Use::Value, out)?;

@@ -73,7 +73,8 @@ fn lower_amount<'a>(
     by: Amount<'a>,
     out: &mut Output<'a>,
 ) -> Result<Found<'a>, AllocError>
-    ensures { IfOk result (λ found. AmountHasIntNumbers by.entry → IsLowered Value (amount (on_line c.now line) by.entry) c.now.first_temp out.old out.new found) }
+    ensures { IfOk result (λ found. AmountHasIntNumbers by.entry
+        → IsLowered Value (amount (on_line c.now line) by.entry) c.now.first_temp out.old out.new found) }
 {
     match by {
         Amount::One => Ok(Found {
@@ -93,7 +94,9 @@ pub fn update_variable<'a>(
     by: Amount<'a>,
     out: &mut Output<'a>,
 ) -> Result<(), AllocError>
-    ensures { OnOk result (AmountHasIntNumbers by.entry → EmitsPiece (update (on_line c.now line) (statements.Target.Variable to) op (amount_is_call by.entry) (amount (on_line c.now line) by.entry)) c.now.first_temp out.old out.new) }
+    ensures { OnOk result (AmountHasIntNumbers by.entry
+        → EmitsPiece (update (on_line c.now line) (statements.Target.Variable to) op (amount_is_call by.entry)
+        (amount (on_line c.now line) by.entry)) c.now.first_temp out.old out.new) }
 {
     let left = Found {
         kind: CType::Int,
@@ -115,7 +118,8 @@ fn computed<'a>(
 ) -> Result<Found<'a>, AllocError>
     ensures { IfOk result (λ found. AmountHasIntNumbers by.entry
         → IsLowered Value (arithmetic (on_line c.now line) op
-        (field_at_hand (on_line c.now line) (field_behind (on_line c.now line) (type_seen pointer.entry.base.kind) (ident_tree pointer.entry.field.now)) pointer.entry.base.operand)
+        (field_at_hand (on_line c.now line) (field_behind (on_line c.now line) (type_seen pointer.entry.base.kind)
+        (ident_tree pointer.entry.field.now)) pointer.entry.base.operand)
         (amount (on_line c.now line) by.entry)) c.now.first_temp out.old out.new found) }
 {
     let field = load(c, line, pointer.base, pointer.field, Use::Value, out)?;
@@ -134,7 +138,8 @@ fn update_field<'a>(
 ) -> Result<(), AllocError>
     ensures { OnOk result (AmountHasIntNumbers by.entry → amount_is_call by.entry ≡ false → (to : statements.Target) → (before : Out)
         → IsPointer (on_line c.now line) to c.now.first_temp before out.old pointer.entry
-        → EmitsPiece (update (on_line c.now line) to op (amount_is_call by.entry) (amount (on_line c.now line) by.entry)) c.now.first_temp before out.new) }
+        → EmitsPiece (update (on_line c.now line) to op (amount_is_call by.entry)
+        (amount (on_line c.now line) by.entry)) c.now.first_temp before out.new) }
 {
     let value = computed(c, line, pointer, op, by, out)?;
     store(c, line, pointer.base, pointer.field, value.operand, out)
@@ -151,7 +156,8 @@ fn update_field_by_call<'a>(
 ) -> Result<(), AllocError>
     ensures { OnOk result (AmountHasIntNumbers by.entry → amount_is_call by.entry ≡ true → (to : statements.Target) → (before : Out)
         → IsPointer (on_line c.now line) to c.now.first_temp before out.old pointer.entry
-        → EmitsPiece (update (on_line c.now line) to op (amount_is_call by.entry) (amount (on_line c.now line) by.entry)) c.now.first_temp before out.new) }
+        → EmitsPiece (update (on_line c.now line) to op (amount_is_call by.entry)
+        (amount (on_line c.now line) by.entry)) c.now.first_temp before out.new) }
 {
     let called = lower_amount(c, line, by, out)?;
     let field = load(c, line, pointer.base, pointer.field, Use::Value, out)?;
@@ -172,7 +178,8 @@ pub fn update_member<'a>(
 ) -> Result<(), AllocError>
     ensures { OnOk result (HasIntNumbers (expr_tree base.now.value) → AmountHasIntNumbers by.entry
         → EmitsPiece (update (on_line c.now line)
-        (member_target (on_line c.now line) (lowering (on_line c.now line) (expr_tree base.now.value)) (ident_tree first.now) (map ident_tree others.now.items))
+        (member_target (on_line c.now line) (lowering (on_line c.now line) (expr_tree base.now.value)) (ident_tree first.now)
+        (map ident_tree others.now.items))
         op (amount_is_call by.entry) (amount (on_line c.now line) by.entry)) c.now.first_temp out.old out.new) }
 {
     let pointer = lower_pointer(c, line, base, first, others, out)?;

@@ -26,7 +26,8 @@ pub fn wanted<'a>(
     used: Use,
     out: &mut Output<'a>,
 ) -> Result<Found<'a>, AllocError>
-    ensures { IfOk result (λ found. HasIntNumbers (expr_tree expr.now) → IsLowered used (wanted (on_line c.now line) (type_seen kind.entry) (expr_tree expr.now)) c.now.first_temp out.old out.new found) }
+    ensures { IfOk result (λ found. HasIntNumbers (expr_tree expr.now)
+        → IsLowered used (wanted (on_line c.now line) (type_seen kind.entry) (expr_tree expr.now)) c.now.first_temp out.old out.new found) }
 {
     match expr {
         Expr::Chain(_, _) => lower(c, line, expr, used, out),

@@ -1,7 +1,18 @@
 //! How many nodes expressions have (C11 6.5). The calls nest as deep as the expression does.
 ghost use Rattle.std.specs.Prelude.{◌≡◌, option_map};
 ghost use Rattle.c_tree.specs.Syntax.{binary_tree, prefix_tree, expr_tree, links_tree, args_tree};
-ghost use Rattle.c_lower_sizes.specs.Sizes.{Uses, arithmetic_uses, comparison_uses, logical_uses, binary_uses, prefix_uses, expr_uses, chain_uses, args_size, target_size};
+ghost use Rattle.c_lower_sizes.specs.Sizes.{
+  Uses,
+  arithmetic_uses,
+  comparison_uses,
+  logical_uses,
+  binary_uses,
+  prefix_uses,
+  expr_uses,
+  chain_uses,
+  args_size,
+  target_size,
+};
 ghost use Rattle.c_lower_sizes.specs.Counts.{capped, seen, AreCounts};
 
 use crate::counts::{UseCounts, at_hand, count_of, made, plus, truth};

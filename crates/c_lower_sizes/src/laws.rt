@@ -1,5 +1,13 @@
 //! Laws of sizes. Each is the contract of a function with an empty body.
-ghost use Rattle.c_lower_sizes.specs.Laws.{HaveSizes, HaveAsManyNodes, HaveLocalKinds, CountLocals, HaveANodeForEachLocal, AreBodiesNoLarger, HaveExamples};
+ghost use Rattle.c_lower_sizes.specs.Laws.{
+  HaveSizes,
+  HaveAsManyNodes,
+  HaveLocalKinds,
+  CountLocals,
+  HaveANodeForEachLocal,
+  AreBodiesNoLarger,
+  HaveExamples,
+};
 
 /// The code of statements has as many nodes as their syntax says.
 pub fn code_has_its_size()

@@ -1,7 +1,15 @@
 //! How many nodes simple statements and declarations have (C11 6.8.3, 6.7).
 ghost use Rattle.std.specs.Prelude.{◌≡◌, map, option_map};
 ghost use Rattle.c_tree.specs.Syntax.{expr_tree, assign_tree, simple_tree, initialized_tree, local_tree};
-ghost use Rattle.c_lower_sizes.specs.Sizes.{assign_size, update_size, assign_by_size, simple_size, initial_size, locals_size, declaration_size};
+ghost use Rattle.c_lower_sizes.specs.Sizes.{
+  assign_size,
+  update_size,
+  assign_by_size,
+  simple_size,
+  initial_size,
+  locals_size,
+  declaration_size,
+};
 ghost use Rattle.c_lower_sizes.specs.Counts.{capped, seen};
 
 use crate::counts::{UseCounts, at_hand, capped, plus};

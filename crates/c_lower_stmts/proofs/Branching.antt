@@ -7,8 +7,8 @@ use Rattle.c_lower_rules.specs.Contexts.{Context}
 use Rattle.c_lower_rules.specs.Temporaries.{Temp, released}
 use Rattle.c_lower_rules.specs.Values.{Piece}
 use Rattle.c_lower_rules.specs.Statements.{Lowered, from_place, with_temps, with_names, inside, declaration, condition, stmt}
-use Rattle.c_lower_emit.specs.declared.drafts.Target.{Target}
-use Rattle.c_lower_emit.specs.declared.drafts.Target.TheVariants.{At, Next}
+use Rattle.c_lower_emit.specs.declared.drafts.Label.{Label}
+use Rattle.c_lower_emit.specs.declared.drafts.Label.TheVariants.{At, Next}
 use Rattle.c_lower_emit.specs.Drafts.{Places, exits, resolve}
 use Rattle.c_lower_emit.specs.Emitting.{Out, HasRoom, Grows, EmitsTest, EmitsCode, EmitsTested}
 use Rattle.c_lower_emit.proofs.Joining.{behind_nodes, code_none}
@@ -39,12 +39,12 @@ room_behind first n a k o m h g le =
 
 -- ONE PART
 
-pub jumped : (c : Context) (line locals : ℕ) (exit : Exits → ℕ) (begin : Target) (o : Out) → ((p : Places) → resolve p begin ≡ exit (exits p))
+pub jumped : (c : Context) (line locals : ℕ) (exit : Exits → ℕ) (begin : Label) (o : Out) → ((p : Places) → resolve p begin ≡ exit (exits p))
     → EmitsLowered (record { code = jump exit; behind = state (on_line c line) locals o }) c locals c (record { begin = begin; locals = locals }) o o
 jumped c line locals exit begin o is room slots = record { emits = code_none exit begin o is; locals_then = refl; context = refl; grown = omega arith }
 
 -- a piece that a statement is, which uses no temporary of others
-pub piece_laid : (c : Context) (line locals : ℕ) (piece : List Temp → Piece) (begin : Target) (old new : Out) → (length old.nodes < 4294967296 → begin ≡ At (length old.nodes))
+pub piece_laid : (c : Context) (line locals : ℕ) (piece : List Temp → Piece) (begin : Label) (old new : Out) → (length old.nodes < 4294967296 → begin ≡ At (length old.nodes))
     → EmitsReleased piece c.first_temp old new
     → EmitsLowered (record { code = (piece (released old.temps)).code; behind = record (state (on_line c line) locals old) { temps = (piece (released old.temps)).temps } })
     c locals c (record { begin = begin; locals = locals }) old new
@@ -58,7 +58,7 @@ piece_laid c line locals piece begin old new at h room slots =
       grown = omega arith;
     }
 
-pub declared_laid : (c after : Context) (line line' locals then : ℕ) (place : Place) (l : Local) (begin : Target) (old new : Out) → line' ≡ place.line - c.first_line
+pub declared_laid : (c after : Context) (line line' locals then : ℕ) (place : Place) (l : Local) (begin : Label) (old new : Out) → line' ≡ place.line - c.first_line
     → (length old.nodes < 4294967296 → begin ≡ At (length old.nodes))
     → Declares (declaration l (declaring.state c line' locals (released_out old))) c line' locals after then (released_out old) new
     → EmitsLowered (declaration l (from_place (state (on_line c line) locals old) place)) c locals after (record { begin = begin; locals = then }) old new
@@ -90,12 +90,12 @@ without_names l c locals after laid old new h room slots =
 -- BRANCHES
 
 -- what the function that leads a test says
-abbrev pub Chooses : Target → Target → Out → Out → ℕ → ℕ → Type 0
+abbrev pub Chooses : Label → Label → Out → Out → ℕ → ℕ → Type 0
 Chooses holds fails old new from past =
     (tested : Test) → (one other : Code) → (s t u : List Temp) → (o m n : Out) → from ≡ length o.nodes → past ≡ length m.nodes
     → EmitsTest tested s o m → EmitsCode one t holds m n → EmitsCode other u fails n old → EmitsCode (choose tested one other) u (At (length o.nodes)) o new
 
-pub if_else_laid : (c : Context) (line locals from past : ℕ) (place : Place) (e : Expr) (b other : Stmt) (first second : Laid) (begin : Target) (old m n now new : Out)
+pub if_else_laid : (c : Context) (line locals from past : ℕ) (place : Place) (e : Expr) (b other : Stmt) (first second : Laid) (begin : Label) (old m n now new : Out)
     → from ≡ length old.nodes → past ≡ length m.nodes → (from < 4294967296 → begin ≡ At from)
     → EmitsTested (condition (state (on_line c line) locals old) e) c.first_temp old m
     → EmitsWithin (stmt b (inside (state (on_line c line) locals m))) c locals first m n
@@ -127,7 +127,7 @@ if_else_laid c line locals from past place e b other first second begin old m n 
       grown = omega (arith, grown, grown');
     }
 
-pub if_laid : (c : Context) (line locals from past : ℕ) (place : Place) (e : Expr) (b : Stmt) (first : Laid) (begin : Target) (old m now new : Out)
+pub if_laid : (c : Context) (line locals from past : ℕ) (place : Place) (e : Expr) (b : Stmt) (first : Laid) (begin : Label) (old m now new : Out)
     → from ≡ length old.nodes → past ≡ length m.nodes → (from < 4294967296 → begin ≡ At from)
     → EmitsTested (condition (state (on_line c line) locals old) e) c.first_temp old m
     → EmitsWithin (stmt b (inside (state (on_line c line) locals m))) c locals first m now

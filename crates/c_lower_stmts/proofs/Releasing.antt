@@ -8,7 +8,7 @@ use Rattle.c_lower_rules.specs.Contexts.{Context}
 use Rattle.c_lower_rules.specs.Temporaries.{Temp, released, released_one}
 use Rattle.c_lower_rules.specs.Values.{Piece, Value, Tested}
 use Rattle.c_lower_rules.specs.Statements.{return_value}
-use Rattle.c_lower_emit.specs.declared.drafts.Target.TheVariants.{At}
+use Rattle.c_lower_emit.specs.declared.drafts.Label.TheVariants.{At}
 use Rattle.c_lower_emit.specs.declared.drafts.Ways.{Ways}
 use Rattle.c_lower_emit.specs.Emitting.{Out, led_out, HasRoom, EmitsStraight, EmitsTest, EmitsCode, EmitsTested}
 use Rattle.c_lower_emit.proofs.Joining.{behind_nodes, room_first, code_behind, chosen}

@@ -3,8 +3,8 @@ use Rattle.std.proofs.Common.{◌≡◌, ℕ, ◌+◌, ◌<◌, ◌≤◌, List,
 use Rattle.std.proofs.lemmas.List.{length-append}
 use Rattle.c_lower_rules.specs.Code.{onto, Code, Test, Loop, within, step_entry, repeat, repeat_first}
 use Rattle.c_lower_rules.specs.Temporaries.{Temp}
-use Rattle.c_lower_emit.specs.declared.drafts.Target.{Target}
-use Rattle.c_lower_emit.specs.declared.drafts.Target.TheVariants.{At}
+use Rattle.c_lower_emit.specs.declared.drafts.Label.{Label}
+use Rattle.c_lower_emit.specs.declared.drafts.Label.TheVariants.{At}
 use Rattle.c_lower_emit.specs.declared.drafts.Ways.{Ways}
 use Rattle.c_lower_emit.specs.Drafts.{Places, exits, resolve, redirect, redirected}
 use Rattle.c_lower_emit.specs.Emitting.{Out, led_out, with_loop, Grows, EmitsTest, EmitsCode}
@@ -21,13 +21,13 @@ grows_with_loop : {count : ℕ} {t : List Temp} (ds : List _) (o n : Out) (place
 grows_with_loop ds o n place loop h = record { nodes = h.nodes; size = h.size; temps = h.temps; grown = h.grown }
 
 -- the nodes that are led, from the last piece to the first
-abbrev pub closed_out : ℕ → ℕ → ℕ → ℕ → Target → Target → Out → Out
+abbrev pub closed_out : ℕ → ℕ → ℕ → ℕ → Label → Label → Out → Out
 closed_out head body step past body_begin step_begin n =
     led_out head body (tested (redirect (round (redirect (all_to (At head)) step_begin)) body_begin))
     (led_out body step (round (redirect (all_to (At head)) step_begin))
     (led_out step past (all_to (At head)) n))
 
-pub repeated : (visible : List ℕ) (t : Test) (b s : Code) (u v x : List Temp) (body_begin step_begin : Target) (o m n now : Out)
+pub repeated : (visible : List ℕ) (t : Test) (b s : Code) (u v x : List Temp) (body_begin step_begin : Label) (o m n now : Out)
     → EmitsTest t u o m → EmitsCode b v body_begin m n → EmitsCode s x step_begin n now
     → EmitsCode (repeat visible t b s) x (At (length o.nodes)) o
     (with_loop (length o.loops) (record { head = length o.nodes; past = length now.nodes; visible = visible })
@@ -74,7 +74,7 @@ repeated visible t b s u v x body_begin step_begin o m n now h k l =
           ∙ ap (λ y. o.loops ++ record { head = head; past = head + t.size + b.size + s.size; visible = visible } ∷ (b.loops (head + t.size) ++ s.loops y)) at';
     }
 
-pub repeated_first : (visible : List ℕ) (t : Test) (b : Code) (u v : List Temp) (body_begin : Target) (o m now : Out) → EmitsCode b u body_begin o m → EmitsTest t v m now
+pub repeated_first : (visible : List ℕ) (t : Test) (b : Code) (u v : List Temp) (body_begin : Label) (o m now : Out) → EmitsCode b u body_begin o m → EmitsTest t v m now
     → EmitsCode (repeat_first visible b t) v (redirect (round (At (length m.nodes))) body_begin) o
     (with_loop (length o.loops) (record { head = length o.nodes; past = length now.nodes; visible = visible })
     (led_out (length o.nodes) (length m.nodes) (round (At (length m.nodes)))
@@ -124,8 +124,8 @@ as_many_behind w {a = a} {b = b} o m n h k =
 more_loops : (xs ys : List Loop) (zs : List Loop) → zs ≡ xs ++ ys → length xs ≤ length zs
 more_loops xs ys zs is = let e = ap length is ∙ length-append xs ys in omega (arith, e)
 
-pub closed_at : (visible : List ℕ) (t : Test) (b s : Code) (u v x : List Temp) (body_begin step_begin : Target) (o m n now n1 n2 n3 new : Out) (head index body step past : ℕ)
-    (to_head ways : Ways) (hd again begin : Target)
+pub closed_at : (visible : List ℕ) (t : Test) (b s : Code) (u v x : List Temp) (body_begin step_begin : Label) (o m n now n1 n2 n3 new : Out) (head index body step past : ℕ)
+    (to_head ways : Ways) (hd again begin : Label)
     → head ≡ length o.nodes → index ≡ length o.loops → body ≡ length m.nodes → step ≡ length n.nodes → past ≡ length now.nodes → length now.nodes < 4294967296
     → EmitsTest t u o m → EmitsCode b v body_begin m n → EmitsCode s x step_begin n now
     → (head < 4294967296 → hd ≡ At head) → to_head ≡ all_to hd → (step ≤ past → past ≤ length now.nodes → n1 ≡ led_out step past to_head now)
@@ -180,7 +180,7 @@ closed_at visible t b s u v x body_begin step_begin o m n now n1 n2 n3 new head 
     ∙ ap (with_loop (length o.loops) (record { head = length o.nodes; past = length now.nodes; visible = visible })) n3_is in
     subst (λ y. EmitsCode (repeat visible t b s) x (At (length o.nodes)) o y) (sym same) (repeated visible t b s u v x body_begin step_begin o m n now h k l)
 
-pub closed_behind_at : (visible : List ℕ) (t : Test) (b : Code) (u v : List Temp) (body_begin : Target) (o m now n1 n2 new : Out) (head index test past : ℕ) (ways : Ways) (tt' begin : Target)
+pub closed_behind_at : (visible : List ℕ) (t : Test) (b : Code) (u v : List Temp) (body_begin : Label) (o m now n1 n2 new : Out) (head index test past : ℕ) (ways : Ways) (tt' begin : Label)
     → head ≡ length o.nodes → index ≡ length o.loops → test ≡ length m.nodes → past ≡ length now.nodes → length now.nodes < 4294967296
     → EmitsCode b u body_begin o m → EmitsTest t v m now
     → (test < 4294967296 → tt' ≡ At test) → ways ≡ round tt' → begin ≡ redirect ways body_begin

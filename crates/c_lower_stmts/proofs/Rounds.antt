@@ -7,8 +7,8 @@ use Rattle.c_lower_rules.specs.Code.{Code, Test, nothing, ◌⨾◌, repeat, rep
 use Rattle.c_lower_rules.specs.Contexts.{Context, visible, within_scope}
 use Rattle.c_lower_rules.specs.Temporaries.{Temp}
 use Rattle.c_lower_rules.specs.Statements.{with_temps, with_names, inside, condition, for_init, for_condition, for_step, stmt, stmts}
-use Rattle.c_lower_emit.specs.declared.drafts.Target.{Target}
-use Rattle.c_lower_emit.specs.declared.drafts.Target.TheVariants.{At, Next}
+use Rattle.c_lower_emit.specs.declared.drafts.Label.{Label}
+use Rattle.c_lower_emit.specs.declared.drafts.Label.TheVariants.{At, Next}
 use Rattle.c_lower_emit.specs.Drafts.{redirect, next_at}
 use Rattle.c_lower_emit.specs.Emitting.{Out, led_out, HasRoom, EmitsTest, EmitsCode, EmitsTested}
 use Rattle.c_lower_emit.proofs.Joining.{behind_nodes, code_none, code_then}
@@ -18,18 +18,18 @@ use Rattle.c_lower_stmts.specs.Laying.{state, EmitsLowered, EmitsWithin}
 use Rattle.c_lower_stmts.proofs.Branching.{room_part, room_behind}
 
 -- what the functions that put loops together say
-abbrev pub Closes : ℕ → ℕ → List ℕ → ℕ → ℕ → Target → Target → Out → Out → Type 0
+abbrev pub Closes : ℕ → ℕ → List ℕ → ℕ → ℕ → Label → Label → Out → Out → Type 0
 Closes head index visible body step body_begin step_begin old new =
     (t : Test) → (b s : Code) → (u v x : List Temp) → (o m n : Out) → head ≡ length o.nodes → index ≡ length o.loops → body ≡ length m.nodes → step ≡ length n.nodes
     → length old.nodes < 4294967296 → EmitsTest t u o m → EmitsCode b v body_begin m n → EmitsCode s x step_begin n old
     → EmitsCode (repeat visible t b s) x (At (length o.nodes)) o new
 
-abbrev pub ClosesBehind : ℕ → ℕ → List ℕ → ℕ → Target → Target → Out → Out → Type 0
+abbrev pub ClosesBehind : ℕ → ℕ → List ℕ → ℕ → Label → Label → Out → Out → Type 0
 ClosesBehind head index visible test body_begin begin old new =
     (t : Test) → (b : Code) → (u v : List Temp) → (o m : Out) → head ≡ length o.nodes → index ≡ length o.loops → test ≡ length m.nodes
     → length old.nodes < 4294967296 → EmitsCode b u body_begin o m → EmitsTest t v m old → EmitsCode (repeat_first visible b t) v begin o new
 
-pub while_laid : (c : Context) (line locals head index body step : ℕ) (slots' : List ℕ) (place : Place) (e : Expr) (b : Stmt) (first : Laid) (begin : Target) (old m now new : Out)
+pub while_laid : (c : Context) (line locals head index body step : ℕ) (slots' : List ℕ) (place : Place) (e : Expr) (b : Stmt) (first : Laid) (begin : Label) (old m now new : Out)
     → head ≡ length old.nodes → index ≡ length old.loops → slots' ≡ visible c → body ≡ length m.nodes → step ≡ length now.nodes → (head < 4294967296 → begin ≡ At head)
     → EmitsTested (condition (state (on_line c line) locals old) e) c.first_temp old m
     → EmitsWithin (stmt b (inside (state (on_line c line) locals m))) c locals first m now
@@ -57,7 +57,7 @@ while_laid c line locals head index body step slots' place e b first begin old m
       grown = omega (arith, grown);
     }
 
-pub do_laid : (c : Context) (line locals head index test : ℕ) (slots' : List ℕ) (place : Place) (e : Expr) (b : Stmt) (first : Laid) (begin : Target) (old m now new : Out)
+pub do_laid : (c : Context) (line locals head index test : ℕ) (slots' : List ℕ) (place : Place) (e : Expr) (b : Stmt) (first : Laid) (begin : Label) (old m now new : Out)
     → head ≡ length old.nodes → index ≡ length old.loops → slots' ≡ visible c → test ≡ length m.nodes
     → EmitsWithin (stmt b (inside (state (on_line c line) locals old))) c locals first old m
     → EmitsTested (condition (state (on_line c line) first.locals m) e) c.first_temp m now
@@ -85,7 +85,7 @@ do_laid c line locals head index test slots' place e b first begin old m now new
     }
 
 pub for_laid : (c inner : Context) (line locals from head index body step : ℕ) (slots' : List ℕ) (place : Place) (init : ForInit) (e : Option Expr) (s : Option Simple) (b : Stmt)
-    (first second third : Laid) (begin at_head' : Target) (old i m n now closed new : Out)
+    (first second third : Laid) (begin at_head' : Label) (old i m n now closed new : Out)
     → IsWithin (within_scope c) inner
     → from ≡ length old.nodes → head ≡ length i.nodes → index ≡ length i.loops → slots' ≡ visible inner → body ≡ length m.nodes → step ≡ length n.nodes → (head < 4294967296 → at_head' ≡ At head)
     → ((line : ℕ) → EmitsLowered (for_init (state (on_line (within_scope c) line) locals old) place init) (within_scope c) locals inner first old i)
@@ -96,7 +96,7 @@ pub for_laid : (c inner : Context) (line locals from head index body step : ℕ)
     → (from ≤ head → head ≤ length closed.nodes → new ≡ led_out from head (next_at at_head') closed)
     → begin ≡ redirect (next_at at_head') first.begin
     → EmitsLowered (stmt (Stmt.For place init e s b) (state (on_line c line) locals old)) c locals c (record { begin = begin; locals = third.locals }) old new
-for_laid c inner line locals from head index body step slots' place init e s b first second third begin head_target old i m n now closed new within
+for_laid c inner line locals from head index body step slots' place init e s b first second third begin head_label old i m n now closed new within
     at_from at_head at_index is_visible at_body at_step is inits conds ones steps closes leads begins room slots =
     let st = state (on_line c line) locals old in
     let il = for_init (inside st) place init in
@@ -143,17 +143,17 @@ for_laid c inner line locals from head index body step slots' place init e s b f
     subst (λ v. EmitsCode (repeat v tl.test bl.code sl.code) sl.behind.temps (At (length i.nodes)) i closed) seen
     (closes tl.test bl.code sl.code tl.temps bl.behind.temps sl.behind.temps i m n at_head at_index at_body at_step (omega (arith, nodes, p0, p1, p2, p3)) e1 e2.emits e3.emits) in
     let p4 = behind_nodes i closed loop.grows in
-    let target : head_target ≡ At (length i.nodes) = is (omega (arith, at_head, nodes, p0)) ∙ ap At at_head in
+    let label : head_label ≡ At (length i.nodes) = is (omega (arith, at_head, nodes, p0)) ∙ ap At at_head in
     let new_is : new ≡ led_out (length old.nodes) (length i.nodes) (next_at (At (length i.nodes))) closed =
     leads (omega (arith, at_from, at_head, p0)) (omega (arith, at_head, p4))
-    ∙ ap (λ y. led_out y head (next_at head_target) closed) at_from ∙ ap (λ y. led_out (length old.nodes) y (next_at head_target) closed) at_head
-    ∙ ap (λ w. led_out (length old.nodes) (length i.nodes) (next_at w) closed) target in
+    ∙ ap (λ y. led_out y head (next_at head_label) closed) at_from ∙ ap (λ y. led_out (length old.nodes) y (next_at head_label) closed) at_head
+    ∙ ap (λ w. led_out (length old.nodes) (length i.nodes) (next_at w) closed) label in
     let whole = il.code ⨾ repeat (visible il.behind.context) tl.test bl.code sl.code in
     record {
       emits =
           subst (λ y. EmitsCode whole sl.behind.temps begin old y) (sym new_is)
           (subst (λ y. EmitsCode whole sl.behind.temps y old (led_out (length old.nodes) (length i.nodes) (next_at (At (length i.nodes))) closed))
-          (sym (begins ∙ ap (λ w. redirect (next_at w) first.begin) target))
+          (sym (begins ∙ ap (λ w. redirect (next_at w) first.begin) label))
           (code_then il.code (repeat (visible il.behind.context) tl.test bl.code sl.code) il.behind.temps sl.behind.temps first.begin (At (length i.nodes)) old i closed e0.emits loop));
       locals_then = e3.locals_then;
       context = refl;

@@ -4,8 +4,8 @@ use Rattle.c_grammar.specs.Trees.{Stmt, Stmts}
 use Rattle.c_lower_rules.specs.Code.{◌⨾◌}
 use Rattle.c_lower_rules.specs.Contexts.{Context}
 use Rattle.c_lower_rules.specs.Statements.{State, Lowered, stmt, stmts}
-use Rattle.c_lower_emit.specs.declared.drafts.Target.{Target}
-use Rattle.c_lower_emit.specs.declared.drafts.Target.TheVariants.{Next}
+use Rattle.c_lower_emit.specs.declared.drafts.Label.{Label}
+use Rattle.c_lower_emit.specs.declared.drafts.Label.TheVariants.{Next}
 use Rattle.c_lower_emit.specs.Drafts.{redirect, next_at}
 use Rattle.c_lower_emit.specs.Emitting.{Out, led_out, HasRoom, EmitsCode}
 use Rattle.c_lower_emit.proofs.Joining.{behind_nodes, code_none, code_then, SameCode, same_code, same_back, same_both, same_behind, same_nothing_behind, same_nothing_before, same_groups}
@@ -43,7 +43,7 @@ stmts_more (y ∷ ys) x st =
 pub stmts_none : (c : Context) (line locals : ℕ) (o : Out) → EmitsLowered (stmts Stmts.NoStmts (state (on_line c line) locals o)) c locals c (record { begin = Next; locals = locals }) o o
 stmts_none c line locals o room slots = record { emits = code_none (λ exits. exits.next) Next o (λ p. refl); locals_then = refl; context = refl; grown = omega arith }
 
-pub stmts_turn : (c0 c c' : Context) (line locals from past : ℕ) (xs : List Stmt) (x : Stmt) (laid next : Laid) (begin : Target) (o m n new : Out)
+pub stmts_turn : (c0 c c' : Context) (line locals from past : ℕ) (xs : List Stmt) (x : Stmt) (laid next : Laid) (begin : Label) (o m n new : Out)
     → IsWithin c0 c → from ≡ length o.nodes → past ≡ length m.nodes
     → EmitsLowered (stmts (stmts_of xs) (state (on_line c0 line) locals o)) c0 locals c laid o m
     → ((line : ℕ) → EmitsLowered (stmt x (state (on_line c line) laid.locals m)) c laid.locals c' next m n)

@@ -1,7 +1,9 @@
 -- What was emitted of statements.
 use Rattle.std.specs.Prelude.{◌≡◌, ℕ, ◌+◌, ◌≤◌}
+use Rattle.c_grammar.specs.Trees.{Stmt}
 use Rattle.c_lower_rules.specs.Contexts.{Context}
-use Rattle.c_lower_rules.specs.Statements.{State, Lowered}
+use Rattle.c_lower_rules.specs.Numbers.{StmtHasIntNumbers}
+use Rattle.c_lower_rules.specs.Statements.{State, Lowered, stmt}
 use Rattle.c_lower_emit.specs.Emitting.{Out, HasRoom, EmitsCode}
 use Rattle.c_lower_exprs.specs.Contexts.{on_line}
 use Rattle.c_lower_simples.specs.Declaring.{HasSlots}
@@ -31,3 +33,7 @@ EmitsLowered l c locals after laid old new = HasRoom c.first_temp l.code.size ol
 -- a piece in a scope of its own was emitted, where there is room for it
 abbrev pub EmitsWithin : Lowered → Context → ℕ → Laid → Out → Out → Type 0
 EmitsWithin l c locals laid old new = HasRoom c.first_temp l.code.size old → HasSlots c locals l.code.size → LaysCode l locals laid old new
+
+-- a statement whose numbers are ints was emitted, whatever line it stands on
+abbrev pub EmitsStmt : Stmt → Context → ℕ → Context → Laid → Out → Out → Type 0
+EmitsStmt one c locals after laid old new = StmtHasIntNumbers one → (line : ℕ) → EmitsLowered (stmt one (state (on_line c line) locals old)) c locals after laid old new

@@ -1,7 +1,16 @@
-//! Statements and the heads of statements that hold no other statements.
+//! What stands at the head of statements, the tests of branches and loops and the parts of a `for`, and the statements that hold no others.
 ghost use Rattle.std.specs.Prelude.{◌≡◌, ℕ, None, Some, IfSome, OnOk, IfOk, option_map};
 ghost use Rattle.c_tree.specs.Syntax.{expr_tree, simple_tree, for_step_tree, local_tree, init_tree};
-ghost use Rattle.c_lower_rules.specs.Statements.{condition, for_condition, for_init, for_step, from_place, simple_from, return_from, declaration};
+ghost use Rattle.c_lower_rules.specs.Statements.{
+  condition,
+  for_condition,
+  for_init,
+  for_step,
+  from_place,
+  simple_from,
+  return_from,
+  declaration,
+};
 ghost use Rattle.c_lower_rules.specs.Numbers.{HasIntNumbers, SimpleHasIntNumbers, LocalHasIntNumbers, InitHasIntNumbers};
 ghost use Rattle.c_lower_emit.specs.Emitting.{EmitsTested};
 ghost use Rattle.c_lower_exprs.specs.Contexts.{on_line, IsWithin};
@@ -10,7 +19,7 @@ ghost use Rattle.c_lower_stmts.specs.Laying.{state, EmitsLowered, EmitsWithin};
 use crate::laid::Laid;
 use crate::loops::at;
 use crate::parts::{condition, performed, returned};
-use c_lower_emit::drafts::Target;
+use c_lower_emit::drafts::Label;
 use c_lower_emit::output::Output;
 use c_lower_emit::uses::Use;
 use c_lower_exprs::context::Context;
@@ -25,14 +34,16 @@ use std::alloc::AllocError;
 
 /// A condition.
 pub fn tested<'a>(c: &Context<'a>, expr: &'a Expr, out: &mut Output<'a>) -> Result<(), AllocError>
-    ensures { OnOk result (HasIntNumbers (expr_tree expr.now) → (line locals : ℕ) → EmitsTested (condition (state (on_line c.now line) locals out.old) (expr_tree expr.now)) c.now.first_temp out.old out.new) }
+    ensures { OnOk result (HasIntNumbers (expr_tree expr.now) → (line locals : ℕ)
+        → EmitsTested (condition (state (on_line c.now line) locals out.old) (expr_tree expr.now)) c.now.first_temp out.old out.new) }
 {
     condition(c, c.line_of(place_of_expr(expr)), expr, out)
 }
 
 /// The test that always holds, whose nodes have the line of the place.
 fn forever<'a>(c: &Context<'a>, place: Place, out: &mut Output<'a>) -> Result<(), AllocError>
-    ensures { OnOk result ((line locals : ℕ) → EmitsTested (for_condition (state (on_line c.now line) locals out.old) place None) c.now.first_temp out.old out.new) }
+    ensures { OnOk result ((line locals : ℕ)
+        → EmitsTested (for_condition (state (on_line c.now line) locals out.old) place None) c.now.first_temp out.old out.new) }
 {
     let spot = spot(c, c.line_of(place));
     out.release();
@@ -48,7 +59,8 @@ pub fn tested_for<'a>(
     out: &mut Output<'a>,
 ) -> Result<(), AllocError>
     ensures { OnOk result (IfSome (option_map expr_tree expr.now) HasIntNumbers → (line locals : ℕ)
-        → EmitsTested (for_condition (state (on_line c.now line) locals out.old) place (option_map expr_tree expr.now)) c.now.first_temp out.old out.new) }
+        → EmitsTested (for_condition (state (on_line c.now line) locals out.old) place
+        (option_map expr_tree expr.now)) c.now.first_temp out.old out.new) }
 {
     match expr {
         None => forever(c, place, out),
@@ -65,7 +77,8 @@ pub fn once<'a>(
     out: &mut Output<'a>,
 ) -> Result<Laid, AllocError>
     ensures { IfOk result (λ laid. SimpleHasIntNumbers (simple_tree one.now) → (line : ℕ)
-        → EmitsLowered (simple_from (state (on_line c.now line) locals out.old) (from_place (state (on_line c.now line) locals out.old) place) (simple_tree one.now)) c.now locals c.now laid out.old out.new) }
+        → EmitsLowered (simple_from (state (on_line c.now line) locals out.old)
+        (from_place (state (on_line c.now line) locals out.old) place) (simple_tree one.now)) c.now locals c.now laid out.old out.new) }
 {
     let begin = at(out.len());
     performed(c, c.line_of(place), one, out)?;
@@ -80,7 +93,8 @@ fn stepped<'a>(
     out: &mut Output<'a>,
 ) -> Result<Laid, AllocError>
     ensures { IfOk result (λ laid. SimpleHasIntNumbers (simple_tree one.now) → (line : ℕ)
-        → EmitsWithin (for_step (state (on_line c.now line) locals out.old) (Some (simple_tree one.now))) c.now locals laid out.old out.new) }
+        → EmitsWithin (for_step (state (on_line c.now line) locals out.old)
+        (Some (simple_tree one.now))) c.now locals laid out.old out.new) }
 {
     once(c, locals, place_of_simple(one), one, out)
 }
@@ -93,11 +107,12 @@ pub fn step<'a>(
     out: &mut Output<'a>,
 ) -> Result<Laid, AllocError>
     ensures { IfOk result (λ laid. IfSome (option_map for_step_tree one.now) SimpleHasIntNumbers → (line : ℕ)
-        → EmitsWithin (for_step (state (on_line c.now line) locals out.old) (option_map for_step_tree one.now)) c.now locals laid out.old out.new) }
+        → EmitsWithin (for_step (state (on_line c.now line) locals out.old)
+        (option_map for_step_tree one.now)) c.now locals laid out.old out.new) }
 {
     match one {
         None => Ok(Laid {
-            begin: Target::Next,
+            begin: Label::Next,
             locals,
         }),
         Some(one) => stepped(c, locals, one, out),
@@ -113,7 +128,9 @@ pub fn exit<'a>(
     out: &mut Output<'a>,
 ) -> Result<Laid, AllocError>
     ensures { IfOk result (λ laid. IfSome (option_map expr_tree value.now) HasIntNumbers → (line : ℕ)
-        → EmitsLowered (return_from (state (on_line c.now line) locals out.old) (from_place (state (on_line c.now line) locals out.old) place) (option_map expr_tree value.now)) c.now locals c.now laid out.old out.new) }
+        → EmitsLowered (return_from (state (on_line c.now line) locals out.old)
+        (from_place (state (on_line c.now line) locals out.old) place)
+        (option_map expr_tree value.now)) c.now locals c.now laid out.old out.new) }
 {
     let begin = at(out.len());
     returned(c, c.line_of(place), value, out)?;
@@ -130,7 +147,8 @@ pub fn declared<'a>(
 ) -> Result<Laid, AllocError>
     ensures within { OnOk result (IsWithin c.old c.new) }
     ensures laid { IfOk result (λ laid. LocalHasIntNumbers (local_tree one.now) → (line : ℕ)
-        → EmitsLowered (declaration (local_tree one.now) (from_place (state (on_line c.old line) locals out.old) place)) c.old locals c.new laid out.old out.new) }
+        → EmitsLowered (declaration (local_tree one.now)
+        (from_place (state (on_line c.old line) locals out.old) place)) c.old locals c.new laid out.old out.new) }
 {
     let begin = at(out.len());
     let line = c.line_of(place);
@@ -149,11 +167,12 @@ pub fn init<'a>(
 ) -> Result<Laid, AllocError>
     ensures within { OnOk result (IsWithin c.old c.new) }
     ensures laid { IfOk result (λ laid. InitHasIntNumbers (init_tree one.now) → (line : ℕ)
-        → EmitsLowered (for_init (state (on_line c.old line) locals out.old) place (init_tree one.now)) c.old locals c.new laid out.old out.new) }
+        → EmitsLowered (for_init (state (on_line c.old line) locals out.old) place
+        (init_tree one.now)) c.old locals c.new laid out.old out.new) }
 {
     match one {
         ForInit::Empty => Ok(Laid {
-            begin: Target::Next,
+            begin: Label::Next,
             locals,
         }),
         ForInit::Local(one) => declared(c, locals, place, one, out),

@@ -3,11 +3,11 @@ ghost use Rattle.std.specs.Prelude.{◌≡◌, ◌<◌, ◌≤◌, List, length,
 ghost use Rattle.c_lower_rules.specs.Code.{Code, Test, repeat, repeat_first};
 ghost use Rattle.c_lower_rules.specs.Contexts.{visible};
 ghost use Rattle.c_lower_rules.specs.Temporaries.{Temp};
-ghost use Rattle.c_lower_emit.specs.declared.drafts.Target.TheVariants.{At};
+ghost use Rattle.c_lower_emit.specs.declared.drafts.Label.TheVariants.{At};
 ghost use Rattle.c_lower_emit.specs.Emitting.{Out, with_loop, EmitsTest, EmitsCode};
 ghost use Rattle.c_lower_stmts.specs.Loops.{all_to, round};
 
-use c_lower_emit::drafts::{AS_THEY_ARE, Target, Ways};
+use c_lower_emit::drafts::{AS_THEY_ARE, Label, Ways};
 use c_lower_emit::output::Output;
 use c_lower_exprs::context::Context;
 use std::alloc::AllocError;
@@ -34,15 +34,15 @@ pub fn open(c: &Context, out: &Output) -> Result<Opened, AllocError>
     })
 }
 
-/// The place as a target.
-pub fn at(place: usize) -> Target
+/// The place as a label.
+pub fn at(place: usize) -> Label
     ensures { place < 4294967296 → result ≡ At place }
 {
-    Target::At(u32::try_from(place).unwrap_or(u32::MAX))
+    Label::At(u32::try_from(place).unwrap_or(u32::MAX))
 }
 
 /// All exits lead to one place.
-fn all_to(place: Target) -> Ways
+fn all_to(place: Label) -> Ways
     ensures { result ≡ all_to place }
 {
     Ways {
@@ -54,12 +54,12 @@ fn all_to(place: Target) -> Ways
 }
 
 /// Within a loop, whose next round begins at a place.
-fn round(again: Target) -> Ways
+fn round(again: Label) -> Ways
     ensures { result ≡ round again }
 {
     Ways {
         next: again,
-        breaks: Target::Next,
+        breaks: Label::Next,
         continues: again,
         ..AS_THEY_ARE
     }
@@ -70,11 +70,12 @@ pub fn close(
     opened: Opened,
     body: usize,
     step: usize,
-    body_begin: Target,
-    step_begin: Target,
+    body_begin: Label,
+    step_begin: Label,
     out: &mut Output,
 ) -> Result<(), AllocError>
-    ensures { OnOk result ((t : Test) → (b s : Code) → (u v x : List Temp) → (o m n : Out) → opened.head ≡ length o.nodes → opened.index ≡ length o.loops → body ≡ length m.nodes → step ≡ length n.nodes
+    ensures { OnOk result ((t : Test) → (b s : Code) → (u v x : List Temp) → (o m n : Out) → opened.head ≡ length o.nodes
+        → opened.index ≡ length o.loops → body ≡ length m.nodes → step ≡ length n.nodes
         → length out.old.nodes < 4294967296 → EmitsTest t u o m → EmitsCode b v body_begin m n → EmitsCode s x step_begin n out.old
         → EmitsCode (repeat opened.visible.items t b s) x (At (length o.nodes)) o out.new) }
 {
@@ -90,7 +91,7 @@ pub fn close(
     out.redirect(body, step, ways);
     let test_ways = Ways {
         holds: body_begin.redirect(ways),
-        fails: Target::Next,
+        fails: Label::Next,
         ..AS_THEY_ARE
     };
     out.redirect(head, body, test_ways);
@@ -110,10 +111,11 @@ fn add(index: usize, head: usize, visible: Vec<u32>, out: &mut Output) -> Result
 pub fn close_behind(
     opened: Opened,
     test: usize,
-    body_begin: Target,
+    body_begin: Label,
     out: &mut Output,
-) -> Result<Target, AllocError>
-    ensures { IfOk result (λ begin. (t : Test) → (b : Code) → (u v : List Temp) → (o m : Out) → opened.head ≡ length o.nodes → opened.index ≡ length o.loops → test ≡ length m.nodes
+) -> Result<Label, AllocError>
+    ensures { IfOk result (λ begin. (t : Test) → (b : Code) → (u v : List Temp) → (o m : Out) → opened.head ≡ length o.nodes
+        → opened.index ≡ length o.loops → test ≡ length m.nodes
         → length out.old.nodes < 4294967296 → EmitsCode b u body_begin o m → EmitsTest t v m out.old
         → EmitsCode (repeat_first opened.visible.items b t) v begin o out.new) }
 {
@@ -127,7 +129,7 @@ pub fn close_behind(
     let begin = body_begin.redirect(ways);
     let test_ways = Ways {
         holds: begin,
-        fails: Target::Next,
+        fails: Label::Next,
         ..AS_THEY_ARE
     };
     out.redirect(test, past, test_ways);

@@ -7,13 +7,13 @@ ghost use Rattle.c_lower_rules.specs.Temporaries.{Temp, released};
 ghost use Rattle.c_lower_rules.specs.Expressions.{lowering};
 ghost use Rattle.c_lower_rules.specs.Statements.{simple, returned};
 ghost use Rattle.c_lower_rules.specs.Numbers.{HasIntNumbers, SimpleHasIntNumbers};
-ghost use Rattle.c_lower_emit.specs.declared.drafts.Target.TheVariants.{At};
+ghost use Rattle.c_lower_emit.specs.declared.drafts.Label.TheVariants.{At};
 ghost use Rattle.c_lower_emit.specs.Emitting.{Out, EmitsTest, EmitsCode, EmitsTested};
 ghost use Rattle.c_lower_exprs.specs.Contexts.{on_line};
 ghost use Rattle.c_lower_stmts.specs.Parts.{EmitsReleased};
 
 use crate::laid::Laid;
-use c_lower_emit::drafts::{AS_THEY_ARE, Target, Ways};
+use c_lower_emit::drafts::{AS_THEY_ARE, Label, Ways};
 use c_lower_emit::output::Output;
 use c_lower_emit::uses::Use;
 use c_lower_exprs::context::Context;
@@ -31,7 +31,9 @@ pub fn condition<'a>(
     expr: &'a Expr,
     out: &mut Output<'a>,
 ) -> Result<(), AllocError>
-    ensures { OnOk result (HasIntNumbers (expr_tree expr.now) → EmitsTested ((lowering (on_line c.now line) (expr_tree expr.now)).test (released out.old.temps)) c.now.first_temp out.old out.new) }
+    ensures { OnOk result (HasIntNumbers (expr_tree expr.now)
+        → EmitsTested ((lowering (on_line c.now line) (expr_tree expr.now)).test
+        (released out.old.temps)) c.now.first_temp out.old out.new) }
 {
     out.release();
     lower(c, line, expr, Use::Test, out)?;
@@ -45,7 +47,8 @@ pub fn performed<'a>(
     one: &'a Simple,
     out: &mut Output<'a>,
 ) -> Result<(), AllocError>
-    ensures { OnOk result (SimpleHasIntNumbers (simple_tree one.now) → EmitsReleased (simple (on_line c.now line) (simple_tree one.now)) c.now.first_temp out.old out.new) }
+    ensures { OnOk result (SimpleHasIntNumbers (simple_tree one.now)
+        → EmitsReleased (simple (on_line c.now line) (simple_tree one.now)) c.now.first_temp out.old out.new) }
 {
     out.release();
     simple(c, line, one, out)
@@ -58,7 +61,8 @@ pub fn returned<'a>(
     value: &'a Option<Expr>,
     out: &mut Output<'a>,
 ) -> Result<(), AllocError>
-    ensures { OnOk result (IfSome (option_map expr_tree value.now) HasIntNumbers → EmitsReleased (returned (on_line c.now line) (option_map expr_tree value.now)) c.now.first_temp out.old out.new) }
+    ensures { OnOk result (IfSome (option_map expr_tree value.now) HasIntNumbers
+        → EmitsReleased (returned (on_line c.now line) (option_map expr_tree value.now)) c.now.first_temp out.old out.new) }
 {
     out.release();
     match value {
@@ -74,13 +78,14 @@ pub fn returned<'a>(
 fn push_return(line: u32, value: Operand, out: &mut Output) -> Result<(), AllocError>
     ensures { OnOk result (EmitsCode (command line (λ next. cmd.Return value)) out.old.temps (At (length out.old.nodes)) out.old out.new) }
 {
-    out.push(line, Cmd::Return { value }, Target::Next, Target::Next)
+    out.push(line, Cmd::Return { value }, Label::Next, Label::Next)
 }
 
 /// Leads the test from one place to another to the pieces that stand behind it.
-pub fn choose(from: usize, past: usize, holds: Target, fails: Target, out: &mut Output)
+pub fn choose(from: usize, past: usize, holds: Label, fails: Label, out: &mut Output)
     ensures { (tested : Test) → (one other : Code) → (s t u : List Temp) → (o m n : Out) → from ≡ length o.nodes → past ≡ length m.nodes
-        → EmitsTest tested s o m → EmitsCode one t holds m n → EmitsCode other u fails n out.old → EmitsCode (choose tested one other) u (At (length o.nodes)) o out.new }
+        → EmitsTest tested s o m → EmitsCode one t holds m n → EmitsCode other u fails n out.old
+        → EmitsCode (choose tested one other) u (At (length o.nodes)) o out.new }
 {
     let ways = Ways {
         holds,

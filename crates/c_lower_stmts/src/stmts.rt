@@ -1,21 +1,23 @@
 //! Statements (C11 6.8). The calls nest as deep as the blocks, branches and loops do.
-ghost use Rattle.std.specs.Prelude.{◌≡◌, ℕ, OnOk, IfOk};
-ghost use Rattle.c_tree.specs.Syntax.{stmt_tree, stmts_tree};
+ghost use Rattle.std.specs.Prelude.{◌≡◌, ℕ, OnOk, IfOk, option_map};
+ghost use Rattle.c_tokens.specs.declared.places.Place.{Place};
+ghost use Rattle.c_grammar.specs.Trees as tree;
+ghost use Rattle.c_tree.specs.Syntax.{expr_tree, for_step_tree, init_tree, stmt_tree, stmts_tree};
 ghost use Rattle.c_lower_rules.specs.Statements.{inside, stmt, stmts};
 ghost use Rattle.c_lower_rules.specs.Numbers.{StmtHasIntNumbers, StmtsHaveIntNumbers};
 ghost use Rattle.c_lower_exprs.specs.Contexts.{on_line, IsWithin};
-ghost use Rattle.c_lower_stmts.specs.Laying.{state, EmitsLowered, EmitsWithin};
+ghost use Rattle.c_lower_stmts.specs.Laying.{state, EmitsLowered, EmitsStmt, EmitsWithin};
 
 use crate::heads::{declared, exit, init, once, step, tested, tested_for};
 use crate::laid::Laid;
 use crate::loops::{at, close, close_behind, open};
 use crate::parts::choose;
-use c_lower_emit::drafts::Target;
+use c_lower_emit::drafts::Label;
 use c_lower_emit::output::Output;
 use c_lower_exprs::context::Context;
 use c_lower_simples::declaring::place_of_local;
 use c_lower_simples::simples::place_of_simple;
-use c_tree::{Block, Stmt};
+use c_tree::{Block, Expr, ForInit, Place, Simple, Stmt};
 use std::alloc::AllocError;
 
 /// A statement.
@@ -27,13 +29,12 @@ fn stmt<'a>(
     out: &mut Output<'a>,
 ) -> Result<Laid, AllocError>
     ensures within { OnOk result (IsWithin c.old c.new) }
-    ensures laid { IfOk result (λ laid. StmtHasIntNumbers (stmt_tree one.now) → (line : ℕ)
-        → EmitsLowered (stmt (stmt_tree one.now) (state (on_line c.old line) locals out.old)) c.old locals c.new laid out.old out.new) }
+    ensures laid { IfOk result (λ laid. EmitsStmt (stmt_tree one.now) c.old locals c.new laid out.old out.new) }
 {
     match one {
         Stmt::Block(inner) => block(c, locals, inner, out),
         Stmt::Empty(_) => Ok(Laid {
-            begin: Target::Next,
+            begin: Label::Next,
             locals,
         }),
         Stmt::Local(one) => declared(c, locals, place_of_local(one), one, out),
@@ -50,7 +51,7 @@ fn stmt<'a>(
             let first = nested(c, locals, body, out)?;
             match other {
                 None => {
-                    choose(from, past, first.begin, Target::Next, out);
+                    choose(from, past, first.begin, Label::Next, out);
                     Ok(Laid {
                         begin: at(from),
                         locals: first.locals,
@@ -66,66 +67,113 @@ fn stmt<'a>(
                 }
             }
         }
-        Stmt::While { test, body, .. } => {
-            let opened = open(c, out)?;
-            let head = opened.head;
-            tested(c, test, out)?;
-            let from = out.len();
-            let laid = nested(c, locals, body, out)?;
-            let past = out.len();
-            close(opened, from, past, laid.begin, Target::Next, out)?;
-            Ok(Laid {
-                begin: at(head),
-                locals: laid.locals,
-            })
-        }
-        Stmt::DoWhile { body, test, .. } => {
-            let opened = open(c, out)?;
-            let laid = nested(c, locals, body, out)?;
-            let from = out.len();
-            tested(c, test, out)?;
-            let begin = close_behind(opened, from, laid.begin, out)?;
-            Ok(Laid {
-                begin,
-                locals: laid.locals,
-            })
-        }
+        Stmt::While { test, body, .. } => while_loop(c, locals, body, test, out),
+        Stmt::DoWhile { body, test, .. } => do_loop(c, locals, body, test, out),
         Stmt::For {
             place,
-            init: first,
+            init,
             test,
-            step: last,
+            step,
             body,
-        } => {
-            let mark = c.enter();
-            let start = out.len();
-            let begun = init(c, locals, *place, first, out)?;
-            let opened = open(c, out)?;
-            let head = opened.head;
-            tested_for(c, *place, test, out)?;
-            let from = out.len();
-            let laid = nested(c, begun.locals, body, out)?;
-            let past = out.len();
-            let stepped = step(c, laid.locals, last, out)?;
-            close(opened, from, past, laid.begin, stepped.begin, out)?;
-            let target = at(head);
-            out.lead_next(start, head, target);
-            c.leave(mark);
-            Ok(Laid {
-                begin: begun.begin.followed_by(target),
-                locals: stepped.locals,
-            })
-        }
+        } => for_loop(c, locals, body, *place, init, test, step, out),
         Stmt::Break(_) => Ok(Laid {
-            begin: Target::Breaks,
+            begin: Label::Breaks,
             locals,
         }),
         Stmt::Continue(_) => Ok(Laid {
-            begin: Target::Continues,
+            begin: Label::Continues,
             locals,
         }),
         Stmt::Return(place, value) => exit(c, locals, *place, value, out),
     }
+}
+
+/// A `while` (C11 6.8.5.1).
+#[cycle(stmts)]
+fn while_loop<'a>(
+    c: &mut Context<'a>,
+    locals: u32,
+    body: &'a Box<Stmt>,
+    test: &'a Expr,
+    out: &mut Output<'a>,
+) -> Result<Laid, AllocError>
+    ensures context { OnOk result (c.new ≡ c.old) }
+    ensures laid { IfOk result (λ laid. (place : Place)
+        → EmitsStmt (tree.Stmt.While place (expr_tree test.now) (stmt_tree body.now.value)) c.old locals c.new laid out.old out.new) }
+{
+    let opened = open(c, out)?;
+    let head = opened.head;
+    tested(c, test, out)?;
+    let from = out.len();
+    let laid = nested(c, locals, body, out)?;
+    let past = out.len();
+    close(opened, from, past, laid.begin, Label::Next, out)?;
+    Ok(Laid {
+        begin: at(head),
+        locals: laid.locals,
+    })
+}
+
+/// A `do`, with the test behind its body (C11 6.8.5.2).
+#[cycle(stmts)]
+fn do_loop<'a>(
+    c: &mut Context<'a>,
+    locals: u32,
+    body: &'a Box<Stmt>,
+    test: &'a Expr,
+    out: &mut Output<'a>,
+) -> Result<Laid, AllocError>
+    ensures context { OnOk result (c.new ≡ c.old) }
+    ensures laid { IfOk result (λ laid. (place : Place)
+        → EmitsStmt (tree.Stmt.DoWhile place (stmt_tree body.now.value) (expr_tree test.now)) c.old locals c.new laid out.old out.new) }
+{
+    let opened = open(c, out)?;
+    let laid = nested(c, locals, body, out)?;
+    let from = out.len();
+    tested(c, test, out)?;
+    let begin = close_behind(opened, from, laid.begin, out)?;
+    Ok(Laid {
+        begin,
+        locals: laid.locals,
+    })
+}
+
+/// A `for` (C11 6.8.5.3), in a scope of its own.
+#[cycle(stmts)]
+fn for_loop<'a>(
+    c: &mut Context<'a>,
+    locals: u32,
+    body: &'a Box<Stmt>,
+    place: Place,
+    first: &'a ForInit,
+    test: &'a Option<Expr>,
+    last: &'a Option<Box<Simple>>,
+    out: &mut Output<'a>,
+) -> Result<Laid, AllocError>
+    ensures context { OnOk result (c.new ≡ c.old) }
+    ensures laid { IfOk result
+        (λ laid. EmitsStmt (tree.Stmt.For place (init_tree first.now) (option_map expr_tree test.now) (option_map for_step_tree last.now)
+        (stmt_tree body.now.value))
+        c.old locals c.new laid out.old out.new) }
+{
+    let scope = c.enter();
+    let start = out.len();
+    let begun = init(c, locals, place, first, out)?;
+    let opened = open(c, out)?;
+    let head = opened.head;
+    tested_for(c, place, test, out)?;
+    let from = out.len();
+    let laid = nested(c, begun.locals, body, out)?;
+    let past = out.len();
+    let stepped = step(c, laid.locals, last, out)?;
+    close(opened, from, past, laid.begin, stepped.begin, out)?;
+    let label = at(head);
+    out.lead_next(start, head, label);
+    c.leave(scope);
+    Ok(Laid {
+        begin: begun.begin.followed_by(label),
+        locals: stepped.locals,
+    })
 }
 
 /// A statement in a scope of its own.
@@ -138,11 +186,12 @@ fn nested<'a>(
 ) -> Result<Laid, AllocError>
     ensures context { OnOk result (c.new ≡ c.old) }
     ensures laid { IfOk result (λ laid. StmtHasIntNumbers (stmt_tree body.now.value) → (line : ℕ)
-        → EmitsWithin (stmt (stmt_tree body.now.value) (inside (state (on_line c.old line) locals out.old))) c.old locals laid out.old out.new) }
+        → EmitsWithin (stmt (stmt_tree body.now.value)
+        (inside (state (on_line c.old line) locals out.old))) c.old locals laid out.old out.new) }
 {
-    let mark = c.enter();
+    let scope = c.enter();
     let laid = stmt(c, locals, body, out)?;
-    c.leave(mark);
+    c.leave(scope);
     Ok(laid)
 }
 
@@ -156,11 +205,12 @@ fn block<'a>(
 ) -> Result<Laid, AllocError>
     ensures context { OnOk result (c.new ≡ c.old) }
     ensures laid { IfOk result (λ laid. StmtsHaveIntNumbers (stmts_tree body.now.stmts.items) → (line : ℕ)
-        → EmitsWithin (stmts (stmts_tree body.now.stmts.items) (inside (state (on_line c.old line) locals out.old))) c.old locals laid out.old out.new) }
+        → EmitsWithin (stmts (stmts_tree body.now.stmts.items)
+        (inside (state (on_line c.old line) locals out.old))) c.old locals laid out.old out.new) }
 {
-    let mark = c.enter();
+    let scope = c.enter();
     let laid = stmts(c, locals, &body.stmts, out)?;
-    c.leave(mark);
+    c.leave(scope);
     Ok(laid)
 }
 
@@ -174,11 +224,12 @@ pub fn stmts<'a>(
 ) -> Result<Laid, AllocError>
     ensures within { OnOk result (IsWithin c.old c.new) }
     ensures laid { IfOk result (λ laid. StmtsHaveIntNumbers (stmts_tree ones.now.items) → (line : ℕ)
-        → EmitsLowered (stmts (stmts_tree ones.now.items) (state (on_line c.old line) locals out.old)) c.old locals c.new laid out.old out.new) }
+        → EmitsLowered (stmts (stmts_tree ones.now.items)
+        (state (on_line c.old line) locals out.old)) c.old locals c.new laid out.old out.new) }
 {
     let start = out.len();
     let mut laid = Laid {
-        begin: Target::Next,
+        begin: Label::Next,
         locals,
     };
     for one in ones {

@@ -2,6 +2,7 @@
 use Rattle.std.proofs.Common.{◌≡◌, ℕ, Bool, true, false, List, [], ◌∷◌, refl, sym, ap, ◌∙◌, subst}
 use Rattle.std.specs.Prelude.{Result, Ok, Err}
 use Rattle.std.proofs.lemmas.Bool.{eqb-true}
+use Rattle.c_tokens.specs.declared.fault.ReadFault.{ReadFault}
 use Rattle.c_grammar.specs.declared.class.Class.{Class}
 use Rattle.c_grammar.specs.declared.class.Class.TheVariants as class
 use Rattle.c_grammar.specs.Trees.{Name, Expr, Simple, Stmt}
@@ -9,7 +10,6 @@ use Rattle.c_grammar.specs.Words.{Word}
 use Rattle.c_grammar.specs.Readers.{Got, ◌>>=◌, wrong, class_at, behind, name_here, is_class, read_name, read_below, closed_by, assign_by, read_target, read_named, other_by, simple_by, read_simple, Does, clause_by, clause_named, read_typed, read_clause, begins_declarator, flat_by, stmt_of, take}
 use Rattle.c_grammar.proofs.Numbers.{same_class}
 use Rattle.c_parse.specs.Clauses.{is_type, read_unnamed, read_plain}
-use Rattle.c_parse_exprs.specs.declared.fault.SyntaxFault.{SyntaxFault}
 use Rattle.c_parse_exprs.specs.Reads.{Halts, wrong_at}
 use Rattle.c_parse_exprs.proofs.Steps.{halts_at}
 
@@ -18,7 +18,7 @@ pub seen_class : (kind k : Class) → is_class kind k ≡ true → kind ≡ k
 seen_class kind k seen = same_class kind k (eqb-true _ _ seen)
 
 -- a reading that is a word that cannot stand there
-pub stops_wrong : {A : Type 0} (fault : SyntaxFault) (words : List Word) (got : Got A) → got ≡ wrong words → fault ≡ wrong_at words → Halts fault got
+pub stops_wrong : {A : Type 0} (fault : ReadFault) (words : List Word) (got : Got A) → got ≡ wrong words → fault ≡ wrong_at words → Halts fault got
 stops_wrong fault words got is place = halts_at fault got (record { deep = false; at = words }) is place
 
 -- a test of the class of the first word
@@ -51,7 +51,7 @@ no_assign class.Increment n target words a b c d e f = absurd (e refl)
 no_assign class.Decrement n target words a b c d e f = absurd (f refl)
 no_assign _ n target words a b c d e f = refl
 
-pub assign_stops : (fault : SyntaxFault) (n : ℕ) (target : Expr) (words : List Word) (k : Class) → k ≡ class_at words → fault ≡ wrong_at words
+pub assign_stops : (fault : ReadFault) (n : ℕ) (target : Expr) (words : List Word) (k : Class) → k ≡ class_at words → fault ≡ wrong_at words
     → (k ≡ class.Set → ⊥) → (k ≡ class.AddTo → ⊥) → (k ≡ class.SubtractFrom → ⊥) → (k ≡ class.MultiplyBy → ⊥) → (k ≡ class.Increment → ⊥) → (k ≡ class.Decrement → ⊥)
     → Halts fault (assign_by (class_at words) n target words)
 assign_stops fault n target words k is place a b c d e f =

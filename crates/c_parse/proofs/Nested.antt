@@ -2,13 +2,13 @@
 use Rattle.std.proofs.Common.{◌≡◌, ℕ, zero, suc, ◌-◌, ◌<◌, Bool, true, false, cond, List, [], ◌∷◌, length, refl, sym, ap, ◌∙◌, subst, arith}
 use Rattle.std.specs.Prelude.{Result, Ok, Err}
 use Rattle.c_tokens.specs.declared.places.Place.{Place}
+use Rattle.c_tokens.specs.declared.fault.ReadFault.{ReadFault}
 use Rattle.c_grammar.specs.declared.class.Class.{Class}
 use Rattle.c_grammar.specs.declared.class.Class.TheVariants as class
 use Rattle.c_grammar.specs.Trees as tree
 use Rattle.c_grammar.specs.Words.{Word}
 use Rattle.c_grammar.specs.Readers.{Halt, Got, ◌>>=◌, wrong, class_at, place_at, behind, take, take_open, read_each, read_maybe, read_expr, read_simple, read_clause, begins_expr, begins_simple, begins_clause, begins_stmt, read_stmts, read_test, read_do, read_for, nested_by, opens_level, flat_by, read_stmt, read_name, read_definition, item_end_by, read_headed, item_by, read_item}
 use Rattle.c_tree.specs.Syntax.{BlockTree, stmts_of, definition_of}
-use Rattle.c_parse_exprs.specs.declared.fault.SyntaxFault.{SyntaxFault}
 use Rattle.c_parse_exprs.specs.Reads.{Halts, wrong_at, too_deep_at}
 use Rattle.c_parse_exprs.proofs.Steps.{halts, halts_at}
 use Rattle.c_parse_exprs.proofs.Loops.{SoFar, so_far_end, so_far_halts}
@@ -52,7 +52,7 @@ pub stmts_end : (read : List Word → Got tree.Stmt) (from : List Word) (found :
     → SoFar begins_stmt read from found words → begins_stmt (class_at words) ≡ false → read_stmts (length from) read from ≡ Ok (stmts_of found, words)
 stmts_end read from found words so none = stmts_each (length from) read from ∙ ap as_stmts (so_far_end begins_stmt read from found words so none)
 
-pub stmts_halt : (read : List Word → Got tree.Stmt) (from : List Word) (found : List tree.Stmt) (words : List Word) (fault : SyntaxFault)
+pub stmts_halt : (read : List Word → Got tree.Stmt) (from : List Word) (found : List tree.Stmt) (words : List Word) (fault : ReadFault)
     → SoFar begins_stmt read from found words → begins_stmt (class_at words) ≡ true → Halts fault (read words) → Halts fault (read_stmts (length from) read from)
 stmts_halt read from found words fault so begun h =
     subst (Halts fault) (sym (stmts_each (length from) read from)) (halts fault _ _ (so_far_halts begins_stmt read from found words fault so begun refl h))
@@ -64,7 +64,7 @@ unfolding read_stmt
 stmt_flat zero words none = rw none refl
 stmt_flat (suc n) words none = rw none refl
 
-pub stmt_deep : (fault : SyntaxFault) (n : ℕ) (words : List Word) → n ≡ 0 → opens_level (class_at words) ≡ true → fault ≡ too_deep_at words → Halts fault (read_stmt n words)
+pub stmt_deep : (fault : ReadFault) (n : ℕ) (words : List Word) → n ≡ 0 → opens_level (class_at words) ≡ true → fault ≡ too_deep_at words → Halts fault (read_stmt n words)
 unfolding read_stmt
 stmt_deep fault zero words none opens place = halts_at fault _ (record { deep = true; at = words }) (rw opens refl) place
 stmt_deep fault (suc n) words none opens place = absurd (cc)
@@ -92,7 +92,7 @@ pub block_read : (n : ℕ) (read : List Word → Got tree.Stmt) (words : List Wo
 block_read n read words block left k is brace read_is =
     ap (λ j. nested_by j n read words) (sym is ∙ brace) ∙ block_nested n read words ∙ ap as_block read_is
 
-pub block_halts : (fault : SyntaxFault) (n : ℕ) (read : List Word → Got tree.Stmt) (words : List Word) (k : Class) → k ≡ class_at words → k ≡ class.OpenBrace
+pub block_halts : (fault : ReadFault) (n : ℕ) (read : List Word → Got tree.Stmt) (words : List Word) (k : Class) → k ≡ class_at words → k ≡ class.OpenBrace
     → Halts fault (read_block read words) → Halts fault (nested_by (class_at words) n read words)
 block_halts fault n read words k is brace h =
     subst (Halts fault) (sym (ap (λ j. nested_by j n read words) (sym is ∙ brace) ∙ block_nested n read words)) (halts fault (read_block read words) _ h)
@@ -126,7 +126,7 @@ definition_some (suc n) head words some =
     one_less : (m : ℕ) → n ≡ m → as_definition head (read_block (read_stmt n) words) ≡ as_definition head (read_block (read_stmt m) words)
     one_less m same = ap (λ k. as_definition head (read_block (read_stmt k) words)) same
 
-pub definition_deep : (fault : SyntaxFault) (n : ℕ) (head : tree.Head) (words : List Word) → n ≡ 0 → fault ≡ too_deep_at words → Halts fault (read_definition n head words)
+pub definition_deep : (fault : ReadFault) (n : ℕ) (head : tree.Head) (words : List Word) → n ≡ 0 → fault ≡ too_deep_at words → Halts fault (read_definition n head words)
 definition_deep fault zero head words none place = halts_at fault _ (record { deep = true; at = words }) refl place
 definition_deep fault (suc n) head words none place = absurd (cc)
 
@@ -134,7 +134,7 @@ pub definition_read : (n : ℕ) (head : tree.Head) (words : List Word) (block : 
     → read_block (read_stmt (n - 1)) words ≡ Ok (block, left) → read_definition n head words ≡ Ok (definition_of head block, left)
 definition_read n head words block left some read_is = definition_some n head words some ∙ ap (as_definition head) read_is
 
-pub definition_halts : (fault : SyntaxFault) (n : ℕ) (head : tree.Head) (words : List Word) → 0 < n
+pub definition_halts : (fault : ReadFault) (n : ℕ) (head : tree.Head) (words : List Word) → 0 < n
     → Halts fault (read_block (read_stmt (n - 1)) words) → Halts fault (read_definition n head words)
 definition_halts fault n head words some h = subst (Halts fault) (sym (definition_some n head words some)) (halts fault (read_block (read_stmt (n - 1)) words) _ h)
 
@@ -143,7 +143,7 @@ no_end class.Semicolon n head words a b = absurd (a refl)
 no_end class.OpenBrace n head words a b = absurd (b refl)
 no_end _ n head words a b = refl
 
-pub end_stops : (fault : SyntaxFault) (n : ℕ) (head : tree.Head) (words : List Word) (k : Class) → k ≡ class_at words → fault ≡ wrong_at words
+pub end_stops : (fault : ReadFault) (n : ℕ) (head : tree.Head) (words : List Word) (k : Class) → k ≡ class_at words → fault ≡ wrong_at words
     → (k ≡ class.Semicolon → ⊥) → (k ≡ class.OpenBrace → ⊥) → Halts fault (item_end_by (class_at words) n head words)
 end_stops fault n head words k is place a b = stops_wrong fault words _ (ap (λ j. item_end_by j n head words) (sym is) ∙ no_end k n head words a b) place
 
@@ -156,7 +156,7 @@ no_item class.Void n words a b c d e = absurd (d refl)
 no_item class.Name n words a b c d e = absurd (e refl)
 no_item _ n words a b c d e = refl
 
-pub item_stops : (fault : SyntaxFault) (n : ℕ) (words : List Word) (k : Class) → k ≡ class_at words → fault ≡ wrong_at words
+pub item_stops : (fault : ReadFault) (n : ℕ) (words : List Word) (k : Class) → k ≡ class_at words → fault ≡ wrong_at words
     → (k ≡ class.Struct → ⊥) → (k ≡ class.Typedef → ⊥) → (k ≡ class.Int → ⊥) → (k ≡ class.Void → ⊥) → (k ≡ class.Name → ⊥) → Halts fault (read_item n words)
 unfolding read_item
 item_stops fault n words k is place a b c d e = stops_wrong fault words _ (ap (λ j. item_by j n words) (sym is) ∙ no_item k n words a b c d e) place

@@ -2,13 +2,13 @@
 use Rattle.std.proofs.Common.{◌≡◌, ℕ, true, false, List, length, refl, sym, ap, ◌∙◌, subst}
 use Rattle.std.specs.Prelude.{Option, Some, Ok}
 use Rattle.c_tokens.specs.declared.places.Place.{Place}
+use Rattle.c_tokens.specs.declared.fault.ReadFault.{ReadFault}
 use Rattle.c_grammar.specs.declared.class.Class.{Class}
 use Rattle.c_grammar.specs.declared.class.Class.TheVariants as class
 use Rattle.c_grammar.specs.Trees as tree
 use Rattle.c_grammar.specs.Words.{Word}
 use Rattle.c_grammar.specs.Readers.{Got, ◌>>=◌, class_at, place_at, behind, is_class, if_of, read_test, read_stmts, read_if, nested_by}
 use Rattle.c_tree.specs.Syntax.{BlockTree}
-use Rattle.c_parse_exprs.specs.declared.fault.SyntaxFault.{SyntaxFault}
 use Rattle.c_parse_exprs.specs.Reads.{Halts}
 use Rattle.c_parse_exprs.proofs.Steps.{halts}
 use Rattle.c_parse.specs.Clauses.{read_for_head, read_block}
@@ -44,10 +44,10 @@ nested_iteration n read words k is a b = iteration_parts (class_at words) n read
 abbrev behind_test : (List Word → Got tree.Stmt) → TestedTree × List Word → Got tree.Stmt
 behind_test read one = read one.1 >>= (λ body. read_other read (record { place = one.0.place; test = one.0.test; body = body.0 }) body.1)
 
-pub if_halts : (fault : SyntaxFault) (n : ℕ) (read : List Word → Got tree.Stmt) (words : List Word) → Halts fault (read_tested n words) → Halts fault (read_whole_if n read words)
+pub if_halts : (fault : ReadFault) (n : ℕ) (read : List Word → Got tree.Stmt) (words : List Word) → Halts fault (read_tested n words) → Halts fault (read_whole_if n read words)
 if_halts fault n read words h = halts fault (read_tested n words) (behind_test read) h
 
-pub if_body_halts : (fault : SyntaxFault) (n : ℕ) (read : List Word → Got tree.Stmt) (words mid : List Word) (one : TestedTree) → read_tested n words ≡ Ok (one, mid)
+pub if_body_halts : (fault : ReadFault) (n : ℕ) (read : List Word → Got tree.Stmt) (words mid : List Word) (one : TestedTree) → read_tested n words ≡ Ok (one, mid)
     → Halts fault (read mid) → Halts fault (read_whole_if n read words)
 if_body_halts fault n read words mid one one_is h = subst (Halts fault) (sym (ap (λ got. got >>= behind_test read) one_is)) (halts fault (read mid) _ h)
 
@@ -77,17 +77,17 @@ pub other_read : (read : List Word → Got tree.Stmt) (branch : BranchTree) (wor
     → read next ≡ Ok (other, left) → read_other read branch words ≡ Ok (tree.Stmt.IfElse branch.place branch.test branch.body other, left)
 other_read read branch words next left other seen is got = other_at read branch words next seen is ∙ ap (λ g. with_other branch (with_some g)) got
 
-pub other_halts : (fault : SyntaxFault) (read : List Word → Got tree.Stmt) (branch : BranchTree) (words next : List Word) → is_class class.Else (class_at words) ≡ true → next ≡ behind words
+pub other_halts : (fault : ReadFault) (read : List Word → Got tree.Stmt) (branch : BranchTree) (words next : List Word) → is_class class.Else (class_at words) ≡ true → next ≡ behind words
     → Halts fault (read next) → Halts fault (read_other read branch words)
 other_halts fault read branch words next seen is h =
     subst (Halts fault) (sym (other_at read branch words next seen is)) (halts fault (with_some (read next)) _ (halts fault (read next) _ h))
 
 -- an iteration statement
-pub iteration_halts : (fault : SyntaxFault) (n : ℕ) (read : List Word → Got tree.Stmt) (words : List Word) → Halts fault (iteration_by (class_at words) n words)
+pub iteration_halts : (fault : ReadFault) (n : ℕ) (read : List Word → Got tree.Stmt) (words : List Word) → Halts fault (iteration_by (class_at words) n words)
     → Halts fault (read_iteration n read words)
 iteration_halts fault n read words h = halts fault (iteration_by (class_at words) n words) (behind_head n read) h
 
-pub iteration_body_halts : (fault : SyntaxFault) (n : ℕ) (read : List Word → Got tree.Stmt) (words mid : List Word) (head : IterationTree) → iteration_by (class_at words) n words ≡ Ok (head, mid)
+pub iteration_body_halts : (fault : ReadFault) (n : ℕ) (read : List Word → Got tree.Stmt) (words mid : List Word) (head : IterationTree) → iteration_by (class_at words) n words ≡ Ok (head, mid)
     → Halts fault (read mid) → Halts fault (read_iteration n read words)
 iteration_body_halts fault n read words mid head head_is h = subst (Halts fault) (sym (ap (λ got. got >>= behind_head n read) head_is)) (halts fault (read mid) _ h)
 
@@ -104,7 +104,7 @@ block_behind : (read : List Word → Got tree.Stmt) (words next : List Word) →
     → read_block read words ≡ (read_stmts (length next) read next >>= behind_stmts (place_at words))
 block_behind read words next is = ap (λ w. read_stmts (length w) read w >>= behind_stmts (place_at words)) (sym is)
 
-pub stmts_of_block_halt : (fault : SyntaxFault) (read : List Word → Got tree.Stmt) (words next : List Word) → next ≡ behind words
+pub stmts_of_block_halt : (fault : ReadFault) (read : List Word → Got tree.Stmt) (words next : List Word) → next ≡ behind words
     → Halts fault (read_stmts (length next) read next) → Halts fault (read_block read words)
 stmts_of_block_halt fault read words next is h = subst (Halts fault) (sym (block_behind read words next is)) (halts fault _ (behind_stmts (place_at words)) h)
 

@@ -1,6 +1,7 @@
 //! The parser's one public call.
 ghost use Rattle.std.specs.Prelude.{◌≡◌, ℕ, ◌≤◌, IfOk, IfErr, Ok};
 ghost use Rattle.c_tokens.specs.TokenLists.{IsTokenList};
+ghost use Rattle.c_tokens.specs.declared.fault.ReadFault.TheVariants.{OutOfMemory};
 ghost use Rattle.c_grammar.specs.Nesting.{file_nesting};
 ghost use Rattle.c_grammar.specs.Readers as readers;
 ghost use Rattle.c_grammar.specs.Refusals.{MOST_LEVELS};
@@ -9,7 +10,6 @@ ghost use Rattle.c_grammar.specs.Trees as tree;
 ghost use Rattle.c_grammar.specs.Words.{words_of};
 ghost use Rattle.c_tree.specs.Syntax.{unit_tree};
 ghost use Rattle.c_parse_exprs.specs.Reads.{Halts};
-ghost use Rattle.c_parse_exprs.specs.declared.fault.SyntaxFault.TheVariants.{OutOfMemory};
 ghost use Rattle.c_parse.specs.Faults.{IsSyntaxFault};
 
 use crate::items::read_items;
@@ -39,7 +39,8 @@ pub fn parse(alloc: Global, tokens: &[Token<'_>]) -> Result<Unit, SyntaxFault>
     ensures unit { IfOk result (λ unit. Spells (unit_tree unit) (words_of tokens.now)) }
     ensures levels { IfOk result (λ unit. file_nesting (unit_tree unit) ≤ MOST_LEVELS) }
     ensures fault { IfErr result (λ fault. IsSyntaxFault (words_of tokens.now) fault) }
-    ensures complete { (file : tree.File) → Spells file (words_of tokens.now) → file_nesting file ≤ MOST_LEVELS → IfErr result (λ fault. fault ≡ OutOfMemory) }
+    ensures complete { (file : tree.File) → Spells file (words_of tokens.now) → file_nesting file ≤ MOST_LEVELS
+        → IfErr result (λ fault. fault ≡ OutOfMemory) }
 {
     let found = classes(alloc, tokens)?;
     let mut words = Words::new(tokens, found.as_slice());

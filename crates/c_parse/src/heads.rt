@@ -29,7 +29,8 @@ impl Drop for Tested {
 impl Tested {
     /// `if` with this test and the first statement.
     pub fn then(self, alloc: Global, body: Stmt) -> Result<Branch, AllocError>
-        ensures { IfOk result (λ found. branch_tree found ≡ record { place = self.place; test = expr_tree self.test; body = stmt_tree body }) }
+        ensures { IfOk result (λ found. branch_tree found
+            ≡ record { place = self.place; test = expr_tree self.test; body = stmt_tree body }) }
     {
         let body = Box::new(alloc, body)?;
         let Tested { place, test } = self;
@@ -93,7 +94,8 @@ impl Branch {
 
     /// `if` with `else`.
     pub fn or_else(self, alloc: Global, other: Stmt) -> Result<Stmt, AllocError>
-        ensures { let b = branch_tree self in IfOk result (λ whole. stmt_tree whole ≡ tree.Stmt.IfElse b.place b.test b.body (stmt_tree other)) }
+        ensures { let b = branch_tree self in IfOk result
+            (λ whole. stmt_tree whole ≡ tree.Stmt.IfElse b.place b.test b.body (stmt_tree other)) }
     {
         let other = Box::new(alloc, other)?;
         let Branch { place, test, body } = self;

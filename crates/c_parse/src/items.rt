@@ -207,7 +207,8 @@ pub fn read_items(
     levels: u32,
     words: &mut Words<'_>,
 ) -> Result<Vec<Item>, SyntaxFault>
-    ensures value { Reads (readers.read_each (length words.old) readers.begins_item (readers.read_item levels) words.old) (λ found. map item_tree found.items) result words.new }
+    ensures value { Reads (readers.read_each (length words.old) readers.begins_item (readers.read_item levels) words.old)
+        (λ found. map item_tree found.items) result words.new }
     ensures stays { length words.new ≤ length words.old }
 {
     let mut items = Vec::new(alloc);

@@ -1,13 +1,13 @@
 -- The arguments of a call: one, and more behind commas.
 use Rattle.std.proofs.Common.{◌≡◌, ℕ, zero, suc, ◌<◌, Bool, true, false, cond, List, [], ◌∷◌, ◌++◌, length, map, refl, sym, ap, ◌∙◌, subst}
 use Rattle.std.specs.Prelude.{Ok, Err, if◌then◌else◌}
+use Rattle.c_tokens.specs.declared.fault.ReadFault.{ReadFault}
 use Rattle.c_grammar.specs.declared.class.Class.TheVariants as class
 use Rattle.c_grammar.specs.Trees as tree
 use Rattle.c_grammar.specs.Words.{Word}
 use Rattle.c_grammar.specs.Readers.{Got, ◌>>=◌, class_at, behind, is_class, begins_expr, read_each, read_more_args, read_args}
 use Rattle.c_tree.specs.declared.exprs.Expr.{Expr}
 use Rattle.c_tree.specs.Syntax.{expr_tree, args_of, args_tree}
-use Rattle.c_parse_exprs.specs.declared.fault.SyntaxFault.{SyntaxFault}
 use Rattle.c_parse_exprs.specs.Reads.{Halts}
 use Rattle.c_parse_exprs.proofs.Steps.{halts}
 use Rattle.c_parse_exprs.proofs.Loops.{SoFar, so_far_none, Eaten, eaten_more, eaten_end, eaten_halts}
@@ -91,7 +91,7 @@ all_args_read read start items words eaten seen so h is =
     (args_each (length so.from) read so.from ∙ ap all_args (eaten_end class.Comma read so.from (map expr_tree so.others) words eaten seen so.more h is))
     ∙ ap (λ xs. Ok (args_tree xs, eaten)) (sym so.listed)
 
-pub args_halt : (read : List Word → Got tree.Expr) (start : List Word) (items : List Expr) (words eaten : List Word) (seen : Bool) (fault : SyntaxFault)
+pub args_halt : (read : List Word → Got tree.Expr) (start : List Word) (items : List Expr) (words eaten : List Word) (seen : Bool) (fault : ReadFault)
     → ArgsSoFar read start items words → Eaten class.Comma seen words eaten → seen ≡ true → Halts fault (read eaten) → Halts fault (read_args read start)
 args_halt read start items words eaten seen fault so h is halt =
     subst (Halts fault) (sym (opened read start so.from (expr_tree so.first) so.begins so.one))

@@ -1,6 +1,7 @@
 -- Levels of nesting, and how deep the calls of functions go.
 use Rattle.std.proofs.Common.{◌≡◌, ℕ, zero, suc, ◌+◌, List, length, refl, sym, ap, ◌∙◌, subst, arith}
 use Rattle.std.specs.Prelude.{true, false, Option, Some, None, option_map, Result, Ok}
+use Rattle.c_tokens.specs.declared.fault.ReadFault.{ReadFault}
 use Rattle.c_grammar.specs.declared.class.Class.{Class}
 use Rattle.c_grammar.specs.declared.class.Class.TheVariants as class
 use Rattle.c_grammar.specs.Words.{Word}
@@ -8,7 +9,6 @@ use Rattle.c_grammar.specs.Readers.{Got, Below, ◌>>=◌, wrong, class_at, read
 use Rattle.c_grammar.specs.Trees as tree
 use Rattle.c_tree.specs.declared.exprs.BinaryOp.{BinaryOp}
 use Rattle.c_tree.specs.Syntax.{binary_tree}
-use Rattle.c_parse_exprs.specs.declared.fault.SyntaxFault.{SyntaxFault}
 use Rattle.c_parse_exprs.specs.Reads.{Halts, Reads, wrong_at, too_deep_at}
 use Rattle.c_parse_exprs.proofs.Steps.{halts, halts_at, halts_same}
 use Rattle.c_parse_exprs.specs.Levels.{level_below}
@@ -48,7 +48,7 @@ pub unary_other : (n : ℕ) (words : List Word) (k : Class) (below : Option ℕ)
 unary_other n words k below first level minus not = unary_at n words k below first level ∙ no_prefix k _ _ words minus not
 
 -- where the reading is the same as another, what is given is the same
-pub reads_same : {A B : Type 0} (got other : Got B) (tree : A → B) (r : Result A SyntaxFault) (left : List Word) → got ≡ other → Reads other tree r left → Reads got tree r left
+pub reads_same : {A B : Type 0} (got other : Got B) (tree : A → B) (r : Result A ReadFault) (left : List Word) → got ≡ other → Reads other tree r left → Reads got tree r left
 reads_same got other tree r left same is = subst (λ g. Reads g tree r left) (sym same) is
 
 pub chain_none : (n : ℕ) (read : List Word → Got tree.Expr) (words : List Word) → n ≡ 0 → read_chain n read words ≡ read words
@@ -61,11 +61,11 @@ chain_some : (n less : ℕ) (read : List Word → Got tree.Expr) (words : List W
 unfolding read_chain
 chain_some n less read words is = rw is refl
 
-pub first_halts : (n less : ℕ) (read : List Word → Got tree.Expr) (words : List Word) (fault : SyntaxFault) → n ≡ suc less
+pub first_halts : (n less : ℕ) (read : List Word → Got tree.Expr) (words : List Word) (fault : ReadFault) → n ≡ suc less
     → Halts fault (read_chain less read words) → Halts fault (read_chain n read words)
 first_halts n less read words fault is h = halts_same fault _ _ (chain_some n less read words is) (halts fault _ _ h)
 
-pub others_halt : (n less : ℕ) (read : List Word → Got tree.Expr) (words next : List Word) (first : tree.Expr) (fault : SyntaxFault) → n ≡ suc less
+pub others_halt : (n less : ℕ) (read : List Word → Got tree.Expr) (words next : List Word) (first : tree.Expr) (fault : ReadFault) → n ≡ suc less
     → read_chain less read words ≡ Ok (first, next) → Halts fault (read_links (length next) less (read_chain less read) next) → Halts fault (read_chain n read words)
 others_halt n less read words next first fault is one h =
     halts_same fault _ _ (chain_some n less read words is
@@ -97,19 +97,19 @@ no_closed class.Cast below words n u o c m = absurd (c refl)
 no_closed class.Malloc below words n u o c m = absurd (m refl)
 no_closed _ below words n u o c m = refl
 
-pub closed_stops : (fault : SyntaxFault) (words : List Word) (k : Class) (below : Below) → k ≡ class_at words → fault ≡ wrong_at words
+pub closed_stops : (fault : ReadFault) (words : List Word) (k : Class) (below : Below) → k ≡ class_at words → fault ≡ wrong_at words
     → (k ≡ class.Number → ⊥) → (k ≡ class.Null → ⊥) → (k ≡ class.Open → ⊥) → (k ≡ class.Cast → ⊥) → (k ≡ class.Malloc → ⊥) → Halts fault (closed_by (class_at words) below words)
 closed_stops fault words k below is place n u o c m =
     halts_at fault _ (record { deep = false; at = words }) (ap (λ kind. closed_by kind below words) (sym is) ∙ no_closed k below words n u o c m) place
 
 -- no level is left
-pub call_deep : (fault : SyntaxFault) (below : Option ℕ) (words : List Word) → below ≡ None → fault ≡ too_deep_at words → Halts fault (read_call (option_map read_expr below) words)
+pub call_deep : (fault : ReadFault) (below : Option ℕ) (words : List Word) → below ≡ None → fault ≡ too_deep_at words → Halts fault (read_call (option_map read_expr below) words)
 call_deep fault below words is place = halts_at fault _ (record { deep = true; at = words }) (ap (λ b. read_call (option_map read_expr b) words) is) place
 
-pub paren_deep : (fault : SyntaxFault) (below : Option ℕ) (words : List Word) → below ≡ None → fault ≡ too_deep_at words → Halts fault (read_paren (option_map read_expr below) words)
+pub paren_deep : (fault : ReadFault) (below : Option ℕ) (words : List Word) → below ≡ None → fault ≡ too_deep_at words → Halts fault (read_paren (option_map read_expr below) words)
 paren_deep fault below words is place = halts_at fault _ (record { deep = true; at = words }) (ap (λ b. read_paren (option_map read_expr b) words) is) place
 
-pub prefix_deep : (fault : SyntaxFault) (op : tree.PrefixOp) (below : Option ℕ) (words : List Word) → below ≡ None → fault ≡ too_deep_at words → Halts fault (read_prefix op (option_map read_unary below) words)
+pub prefix_deep : (fault : ReadFault) (op : tree.PrefixOp) (below : Option ℕ) (words : List Word) → below ≡ None → fault ≡ too_deep_at words → Halts fault (read_prefix op (option_map read_unary below) words)
 prefix_deep fault op below words is place = halts_at fault _ (record { deep = true; at = words }) (ap (λ b. read_prefix op (option_map read_unary b) words) is) place
 
 -- how many levels are left below

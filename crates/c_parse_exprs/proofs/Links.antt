@@ -1,6 +1,7 @@
 -- Chains of operators: operators and operands that are read one after another.
 use Rattle.std.proofs.Common.{◌≡◌, ℕ, zero, suc, ◌<◌, ◌≤◌, Bool, true, false, List, [], ◌∷◌, ◌++◌, length, map, refl, sym, ap, ◌∙◌, subst, arith}
 use Rattle.std.specs.Prelude.{Option, Some, None, Ok, Err, if◌then◌else◌}
+use Rattle.c_tokens.specs.declared.fault.ReadFault.{ReadFault}
 use Rattle.c_grammar.specs.declared.class.Class.{Class}
 use Rattle.c_grammar.specs.declared.class.Class.TheVariants as class
 use Rattle.c_grammar.specs.Trees as tree
@@ -8,7 +9,6 @@ use Rattle.c_grammar.specs.Words.{Word}
 use Rattle.c_grammar.specs.Readers.{Got, ◌>>=◌, class_at, behind, wrong, read_each, op_at, link_by, read_links, chained}
 use Rattle.c_tree.specs.declared.exprs.Link.{Link}
 use Rattle.c_tree.specs.Syntax.{LinkTree, links_of, link_tree, links_tree}
-use Rattle.c_parse_exprs.specs.declared.fault.SyntaxFault.{SyntaxFault}
 use Rattle.c_parse_exprs.specs.Reads.{Halts}
 use Rattle.c_parse_exprs.proofs.Steps.{halts}
 use Rattle.c_parse_exprs.proofs.Loops.{SoFar, so_far_more, so_far_end, so_far_halts}
@@ -81,7 +81,7 @@ pub op_falls : (level : ℕ) (words : List Word) (op : tree.BinaryOp) → op_at 
 op_falls level [] op is = let z : None ≡ Some op = sym (no_op_missing level) ∙ is in absurd (cc)
 op_falls level (first ∷ others) op is = omega arith
 
-with_halts : (op : tree.BinaryOp) (fault : SyntaxFault) (got : Got tree.Expr) → Halts fault got → Halts fault (link_with op got)
+with_halts : (op : tree.BinaryOp) (fault : ReadFault) (got : Got tree.Expr) → Halts fault got → Halts fault (link_with op got)
 with_halts op fault got h = record { told = λ refusal is. let (halt, same, place) = h.told refusal is in (halt, ap (link_with op) same, place) }
 
 pub link_more : (level : ℕ) (read : List Word → Got tree.Expr) (from : List Word) (links more : List Link) (words next : List Word) (op : tree.BinaryOp) (operand : tree.Expr) (one : Link)
@@ -98,7 +98,7 @@ pub link_end : (level : ℕ) (read : List Word → Got tree.Expr) (from : List W
 link_end level read from links words so none =
     links_each (length from) level read from ∙ ap all_links (so_far_end (begins_link level) (read_link level read) from (map link_tree links) words so (ap has_op none))
 
-pub link_halts : (level : ℕ) (read : List Word → Got tree.Expr) (from : List Word) (links : List Link) (words : List Word) (op : tree.BinaryOp) (fault : SyntaxFault)
+pub link_halts : (level : ℕ) (read : List Word → Got tree.Expr) (from : List Word) (links : List Link) (words : List Word) (op : tree.BinaryOp) (fault : ReadFault)
     → LinksSoFar level read from links words → op_at level (class_at words) ≡ Some op → Halts fault (read (behind words))
     → Halts fault (read_links (length from) level read from)
 link_halts level read from links words op fault so is h =

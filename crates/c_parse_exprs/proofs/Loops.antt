@@ -2,11 +2,11 @@
 -- each thing that was read; as each thing takes a word, that is never too few.
 use Rattle.std.proofs.Common.{◌≡◌, ℕ, zero, suc, ◌+◌, ◌-◌, ◌<◌, ◌≤◌, Bool, true, false, cond, List, [], ◌∷◌, ◌++◌, length, map, refl, sym, ap, ◌∙◌, subst, arith, append_assoc, append-nil, length-append}
 use Rattle.std.specs.Prelude.{Ok, Err, if◌then◌else◌}
+use Rattle.c_tokens.specs.declared.fault.ReadFault.{ReadFault}
 use Rattle.c_grammar.specs.declared.class.Class.{Class}
 use Rattle.c_grammar.specs.declared.class.Class.TheVariants as class
 use Rattle.c_grammar.specs.Words.{Word}
 use Rattle.c_grammar.specs.Readers.{Got, ◌>>=◌, class_at, behind, is_class, read_each}
-use Rattle.c_parse_exprs.specs.declared.fault.SyntaxFault.{SyntaxFault}
 use Rattle.c_parse_exprs.specs.Reads.{Halts}
 use Rattle.c_parse_exprs.proofs.Steps.{halts}
 
@@ -78,7 +78,7 @@ so_far_end begins read from found words so none =
     ends (suc times) = rw none refl
 
 -- one begins, and reading it halts
-pub so_far_halts : {A : Type 0} (begins : Class → Bool) (read : List Word → Got A) (from : List Word) (found : List A) (words : List Word) (fault : SyntaxFault)
+pub so_far_halts : {A : Type 0} (begins : Class → Bool) (read : List Word → Got A) (from : List Word) (found : List A) (words : List Word) (fault : ReadFault)
     → SoFar begins read from found words → begins (class_at words) ≡ true → begins class.OtherKey ≡ false → Halts fault (read words)
     → Halts fault (read_each (length from) begins read from)
 so_far_halts begins read from found [] fault so begun never h = let z : true ≡ false = sym begun ∙ never in absurd (cc)
@@ -123,7 +123,7 @@ eaten_end kind read from found words eaten seen so h is =
     let same : eaten ≡ words = h.value ∙ ap (λ b. cond b (behind words) words) none in
     so_far_end (is_class kind) (λ first. read (behind first)) from found words so none ∙ ap (λ w. Ok (found, w)) (sym same)
 
-pub eaten_halts : {A : Type 0} (kind : Class) (read : List Word → Got A) (from : List Word) (found : List A) (words eaten : List Word) (seen : Bool) (fault : SyntaxFault)
+pub eaten_halts : {A : Type 0} (kind : Class) (read : List Word → Got A) (from : List Word) (found : List A) (words eaten : List Word) (seen : Bool) (fault : ReadFault)
     → SoFar (is_class kind) (λ first. read (behind first)) from found words → Eaten kind seen words eaten → seen ≡ true
     → is_class kind class.OtherKey ≡ false → Halts fault (read eaten)
     → Halts fault (read_each (length from) (is_class kind) (λ first. read (behind first)) from)

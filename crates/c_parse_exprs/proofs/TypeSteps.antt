@@ -1,10 +1,10 @@
 -- Stars, and where no type begins.
 use Rattle.std.proofs.Common.{◌≡◌, ℕ, zero, suc, ◌+◌, ◌-◌, ◌≤◌, Bool, true, false, List, [], ◌∷◌, length, refl, sym, ap, ◌∙◌, arith}
+use Rattle.c_tokens.specs.declared.fault.ReadFault.{ReadFault}
 use Rattle.c_grammar.specs.declared.class.Class.{Class}
 use Rattle.c_grammar.specs.declared.class.Class.TheVariants as class
 use Rattle.c_grammar.specs.Words.{Word}
 use Rattle.c_grammar.specs.Readers.{class_at, behind, is_class, wrong, read_stars, specifier_by, read_specifier}
-use Rattle.c_parse_exprs.specs.declared.fault.SyntaxFault.{SyntaxFault}
 use Rattle.c_parse_exprs.specs.Reads.{Halts, wrong_at}
 use Rattle.c_parse_exprs.proofs.Steps.{halts_at}
 
@@ -54,7 +54,7 @@ no_specifier class.Struct words i v s n = absurd (s refl)
 no_specifier class.Name words i v s n = absurd (n refl)
 no_specifier _ words i v s n = refl
 
-pub specifier_stops : (fault : SyntaxFault) (words : List Word) (k : Class) → k ≡ class_at words → fault ≡ wrong_at words
+pub specifier_stops : (fault : ReadFault) (words : List Word) (k : Class) → k ≡ class_at words → fault ≡ wrong_at words
     → (k ≡ class.Int → ⊥) → (k ≡ class.Void → ⊥) → (k ≡ class.Struct → ⊥) → (k ≡ class.Name → ⊥) → Halts fault (read_specifier words)
 unfolding read_specifier
 specifier_stops fault words k is place i v s n =

@@ -76,7 +76,8 @@ fn read_more_declarators(
     alloc: Global,
     words: &mut Words<'_>,
 ) -> Result<Vec<Declarator>, SyntaxFault>
-    ensures value { Reads (readers.read_more (length words.old) readers.read_declarator words.old) (λ found. map declarator_tree found.items) result words.new }
+    ensures value { Reads (readers.read_more (length words.old) readers.read_declarator words.old)
+        (λ found. map declarator_tree found.items) result words.new }
     ensures stays { length words.new ≤ length words.old }
 {
     let mut others = Vec::new(alloc);
@@ -128,7 +129,8 @@ pub fn begins_specifier(class: Class) -> bool
 
 /// The declarations of fields.
 fn read_lines(alloc: Global, words: &mut Words<'_>) -> Result<Vec<FieldDecl>, SyntaxFault>
-    ensures value { Reads (readers.read_each (length words.old) begins_specifier readers.read_fields words.old) (λ found. map fields_tree found.items) result words.new }
+    ensures value { Reads (readers.read_each (length words.old) begins_specifier readers.read_fields words.old)
+        (λ found. map fields_tree found.items) result words.new }
     ensures stays { length words.new ≤ length words.old }
 {
     let mut lines = Vec::new(alloc);
@@ -167,7 +169,8 @@ fn read_param(alloc: Global, words: &mut Words<'_>) -> Result<Param, SyntaxFault
 
 /// More parameters, each behind a comma.
 fn read_more_params(alloc: Global, words: &mut Words<'_>) -> Result<Vec<Param>, SyntaxFault>
-    ensures value { Reads (readers.read_more (length words.old) readers.read_param words.old) (λ found. map param_tree found.items) result words.new }
+    ensures value { Reads (readers.read_more (length words.old) readers.read_param words.old)
+        (λ found. map param_tree found.items) result words.new }
     ensures stays { length words.new ≤ length words.old }
 {
     let mut others = Vec::new(alloc);

@@ -1,6 +1,6 @@
 //! A cursor over words, and the smallest readers.
 ghost use Rattle.std.specs.Prelude.{◌≡◌, ◌<◌, ◌≤◌, ◌+◌, length, IfOk, IsTrue, true, if◌then◌else◌};
-ghost use Rattle.std.specs.Str.Parse.{AllDigits, digits_value};
+ghost use Rattle.std.specs.Str.Parse.{digits_value};
 ghost use Rattle.c_tokens.specs.TokenLists.{IsTokenList};
 ghost use Rattle.c_grammar.specs.declared.class.Class.TheVariants as class;
 ghost use Rattle.c_grammar.specs.Words.{words_of};
@@ -11,7 +11,7 @@ ghost use Rattle.c_parse_exprs.specs.Reads.{Reads, Takes, name_of, wrong_at, too
 
 use crate::fault::SyntaxFault;
 use c_grammar::Class;
-use c_tokens::{Place, Refusal, Token};
+use c_tokens::{Place, Refusal, Token, digits_value};
 use shape_data::name::Name;
 use std::alloc::Global;
 use std::marker::Model;
@@ -34,19 +34,6 @@ pub fn is_open(class: Class) -> bool
     ensures { result ≡ is_open class }
 {
     matches!(class, Class::Open | Class::Cast)
-}
-
-/// The number that the digits write.
-fn digits_value(word: &[u8]) -> u64
-    requires short { length word.now ≤ 10 }
-    requires digits { AllDigits 10 word.now }
-    ensures { result ≡ digits_value 10 word.now }
-{
-    let mut value = 0;
-    for byte in word {
-        value = value * 10 + u64::from(*byte - b'0');
-    }
-    value
 }
 
 /// The words that are left. Contracts see the list of them.

@@ -1,6 +1,17 @@
 //! Expressions (C11 6.5). The calls nest as deep as the expression does.
 ghost use Rattle.std.specs.Prelude.{◌≡◌, ◌∷◌, OnOk, map, option_map, codes};
-ghost use Rattle.c_grammar.specs.Printing.{print_each, print_maybe, print_name, print_size_of, print_malloc, print_expr, print_links, print_args, text_of_binary, text_of_prefix};
+ghost use Rattle.c_grammar.specs.Printing.{
+  print_each,
+  print_maybe,
+  print_name,
+  print_size_of,
+  print_malloc,
+  print_expr,
+  print_links,
+  print_args,
+  text_of_binary,
+  text_of_prefix,
+};
 ghost use Rattle.c_print.specs.Writing.{Prints, print_cast, print_call, print_in_parens};
 ghost use Rattle.c_tree.specs.Syntax.{ident_tree, specifier_tree, binary_tree, prefix_tree, expr_tree, links_tree, args_tree};
 
@@ -48,7 +59,8 @@ fn write_member(text: &mut Vec<u8>, field: &Ident) -> Result<(), AllocError>
 
 /// Writes `->` and a field, for each field.
 fn write_members(text: &mut Vec<u8>, fields: &[Ident]) -> Result<(), AllocError>
-    ensures { OnOk result (Prints (print_each (λ field rest. codes "->" ∷ print_name field rest) (map ident_tree fields.now)) text.old.items text.new.items) }
+    ensures { OnOk result (Prints
+        (print_each (λ field rest. codes "->" ∷ print_name field rest) (map ident_tree fields.now)) text.old.items text.new.items) }
 {
     for field in fields {
         write_member(text, field)?;
@@ -89,7 +101,8 @@ fn write_malloc(
     as_type: &Option<TypeSpecifier>,
     target: &TypeSpecifier,
 ) -> Result<(), AllocError>
-    ensures { OnOk result (Prints (print_malloc (option_map specifier_tree as_type.now) (specifier_tree target.now)) text.old.items text.new.items) }
+    ensures { OnOk result (Prints
+        (print_malloc (option_map specifier_tree as_type.now) (specifier_tree target.now)) text.old.items text.new.items) }
 {
     write_cast(text, as_type)?;
     write_word(text, b"malloc")?;

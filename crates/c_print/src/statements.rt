@@ -1,8 +1,31 @@
 //! Statements and local declarations (C11 6.8). The calls nest as deep as the statement does.
 ghost use Rattle.std.specs.Prelude.{◌≡◌, OnOk, map, option_map};
-ghost use Rattle.c_grammar.specs.Printing.{print_more, print_maybe, text_of_assign, text_of_step, print_simple, print_initialized, print_local, print_init, print_stmt, print_stmts};
+ghost use Rattle.c_grammar.specs.Printing.{
+  print_more,
+  print_maybe,
+  text_of_assign,
+  text_of_step,
+  print_simple,
+  print_initialized,
+  print_local,
+  print_init,
+  print_stmt,
+  print_stmts,
+};
 ghost use Rattle.c_print.specs.Writing.{Prints, print_value, print_for, print_block};
-ghost use Rattle.c_tree.specs.Syntax.{expr_tree, assign_tree, step_tree, simple_tree, for_step_tree, initialized_tree, local_tree, init_tree, stmt_tree, stmts_tree, block_tree};
+ghost use Rattle.c_tree.specs.Syntax.{
+  expr_tree,
+  assign_tree,
+  step_tree,
+  simple_tree,
+  for_step_tree,
+  initialized_tree,
+  local_tree,
+  init_tree,
+  stmt_tree,
+  stmts_tree,
+  block_tree,
+};
 
 use crate::expressions::{write_call, write_expr, write_in_parens, write_optional_expr};
 use crate::types::{write_declarator, write_specifier};
@@ -120,7 +143,9 @@ fn write_for(
     test: &Option<Expr>,
     step: &Option<Box<Simple>>,
 ) -> Result<(), AllocError>
-    ensures { OnOk result (Prints (print_for (init_tree init.now) (option_map expr_tree test.now) (option_map for_step_tree step.now)) text.old.items text.new.items) }
+    ensures { OnOk result (Prints
+        (print_for (init_tree init.now) (option_map expr_tree test.now)
+        (option_map for_step_tree step.now)) text.old.items text.new.items) }
 {
     write_word(text, b"for")?;
     write_word(text, b"(")?;

@@ -1,6 +1,16 @@
 //! Types and what declares names with them (C11 6.7).
 ghost use Rattle.std.specs.Prelude.{OnOk, map};
-ghost use Rattle.c_grammar.specs.Printing.{print_specifier, print_declarator, print_each, print_fields, print_struct_body, print_more, print_param, print_params, print_head};
+ghost use Rattle.c_grammar.specs.Printing.{
+  print_specifier,
+  print_declarator,
+  print_each,
+  print_fields,
+  print_struct_body,
+  print_more,
+  print_param,
+  print_params,
+  print_head,
+};
 ghost use Rattle.c_print.specs.Writing.{Prints};
 ghost use Rattle.c_tree.specs.Syntax.{specifier_tree, declarator_tree, fields_tree, param_tree, params_tree, head_tree};
 

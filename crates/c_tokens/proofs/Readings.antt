@@ -10,11 +10,11 @@ use Rattle.c_tokens.specs.declared.token.TokenKind.{TokenKind}
 use Rattle.c_tokens.specs.Places.{after, place_after}
 use Rattle.c_tokens.specs.Grammar.{token_at}
 use Rattle.c_tokens.specs.Pieces.{first_piece}
-use Rattle.c_tokens.specs.declared.token.TokenFault.{TokenFault}
-use Rattle.c_tokens.specs.declared.token.TokenFault.TheVariants as fault
 use Rattle.std.proofs.lemmas.List.{nil_from_length}
 use Rattle.c_tokens.specs.Reading.{Reading, Tokens, Refused, with_token, with_piece, reading_from, at_end, IsFault}
 use Rattle.c_tokens.specs.Steps.{with_tokens}
+use Rattle.c_tokens.specs.declared.fault.ReadFault.{ReadFault}
+use Rattle.c_tokens.specs.declared.fault.ReadFault.TheVariants as fault
 
 -- the bytes that belong to the piece before are passed over
 pub behind_piece : (n : ℕ) (here : Place) (part : Part) (bytes : List ℕ) → reading_from n here part bytes ≡ reading_from zero (place_after here (take n bytes)) part (drop n bytes)
@@ -101,7 +101,7 @@ found_end found all token here part rest whole none end_is all_is so_far =
     ∙ ap Tokens (sym all_is)
 
 -- a fault at the end is one of the text
-pub end_fault : (fault : TokenFault) (found : List Token) (here : Place) (part : Part) (rest : List ℕ) (whole : Reading) → length rest ≡ 0 → with_tokens found (reading_from zero here part rest) ≡ whole → IsFault fault (at_end here part) → IsFault fault whole
+pub end_fault : (fault : ReadFault) (found : List Token) (here : Place) (part : Part) (rest : List ℕ) (whole : Reading) → length rest ≡ 0 → with_tokens found (reading_from zero here part rest) ≡ whole → IsFault fault (at_end here part) → IsFault fault whole
 end_fault (fault.Refused refusal) found here part rest whole none so_far is =
     found_refusal found _ whole refusal (at_last here part rest none ∙ is) so_far
 end_fault fault.OutOfMemory found here part rest whole none so_far is = tt

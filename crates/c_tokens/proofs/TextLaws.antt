@@ -8,8 +8,6 @@ use Rattle.c_tokens.specs.declared.places.Refusal.{Refusal}
 use Rattle.c_tokens.specs.declared.token.Token.{Token}
 use Rattle.c_tokens.specs.declared.token.TokenKind.{TokenKind}
 use Rattle.c_tokens.specs.declared.token.TokenKind.TheVariants.{End}
-use Rattle.c_tokens.specs.declared.token.TokenFault.{TokenFault}
-use Rattle.c_tokens.specs.declared.token.TokenFault.TheVariants as fault
 use Rattle.c_tokens.specs.Words.{is_long_sign}
 use Rattle.c_tokens.specs.Places.{after, place_after}
 use Rattle.c_tokens.specs.Gaps.{IsGap}
@@ -21,6 +19,8 @@ use Rattle.c_tokens.specs.Laws.{HaveOneReading, HaveOneRefusal, HaveNotBoth, Hav
 use Rattle.c_tokens.proofs.LexemeLemmas.{next_longest, gap_never, long_second}
 use Rattle.c_tokens.proofs.TokenLemmas.{token_lexeme}
 use Rattle.c_tokens.proofs.Texts.{include_hash, lexeme_some, Answers, reading_answers, tokens_read, refusal_read}
+use Rattle.c_tokens.specs.declared.fault.ReadFault.{ReadFault}
+use Rattle.c_tokens.specs.declared.fault.ReadFault.TheVariants as fault
 
 -- ---- the tokenizer's answer
 
@@ -30,7 +30,7 @@ has_read text tokens e = subst (Answers text) e (reading_answers text)
 pub refuses_read : (text : List ℕ) (why : Refusal) → reading text ≡ Refused why → Refuses text why
 refuses_read text why e = subst (Answers text) e (reading_answers text)
 
-pub fault_read : (text : List ℕ) (why : TokenFault) → IsFault why (reading text) → IsTokenFault text why
+pub fault_read : (text : List ℕ) (why : ReadFault) → IsFault why (reading text) → IsTokenFault text why
 fault_read text (fault.Refused refusal) is = refuses_read text refusal is
 fault_read text fault.OutOfMemory is = tt
 

@@ -8,12 +8,12 @@ use Rattle.c_tokens.specs.declared.places.Refusal.{Refusal}
 use Rattle.c_tokens.specs.declared.token.Token.{Token}
 use Rattle.c_tokens.specs.declared.token.TokenKind.{TokenKind}
 use Rattle.c_tokens.specs.declared.token.TokenKind.TheVariants.{Number, End}
-use Rattle.c_tokens.specs.declared.token.TokenFault.{TokenFault}
-use Rattle.c_tokens.specs.declared.token.TokenFault.TheVariants as fault
 use Rattle.c_tokens.specs.Places.{first_place, place_after, refusal}
 use Rattle.c_tokens.specs.Gaps.{is_blank, IsLineComment, IsGap, IsLineEnd, OpensComment}
 use Rattle.c_tokens.specs.Lexemes.{IsNumeral, IsLexeme, IsLongest, IsToken}
 use Rattle.c_tokens.specs.Headers.{IsHeader}
+use Rattle.c_tokens.specs.declared.fault.ReadFault.{ReadFault}
+use Rattle.c_tokens.specs.declared.fault.ReadFault.TheVariants as fault
 
 -- how far an `#include` line has come, gaps aside
 pub data Stage : Type 0 where
@@ -117,6 +117,6 @@ pub record Refuses (text : List ℕ) (refusal : Refusal) : Type 0 where
   pub fails : Fails at rest refusal
 
 -- the fault is the text's first refusal, or memory is wanting
-abbrev pub IsTokenFault : List ℕ → TokenFault → Type 0
+abbrev pub IsTokenFault : List ℕ → ReadFault → Type 0
 IsTokenFault text (fault.Refused refusal) = Refuses text refusal
 IsTokenFault text fault.OutOfMemory = Unit {0}

@@ -9,11 +9,11 @@ use Rattle.c_tokens.specs.declared.pieces.Piece.{Piece}
 use Rattle.c_tokens.specs.declared.pieces.Piece.TheVariants.{Passed, Lexed, Refused as Bad}
 use Rattle.c_tokens.specs.declared.token.Token.{Token}
 use Rattle.c_tokens.specs.declared.token.TokenKind.TheVariants.{End}
-use Rattle.c_tokens.specs.declared.token.TokenFault.{TokenFault}
-use Rattle.c_tokens.specs.declared.token.TokenFault.TheVariants as fault
 use Rattle.c_tokens.specs.Places.{first_place, after, refusal}
 use Rattle.c_tokens.specs.Grammar.{token_at}
 use Rattle.c_tokens.specs.Pieces.{first_piece}
+use Rattle.c_tokens.specs.declared.fault.ReadFault.{ReadFault}
+use Rattle.c_tokens.specs.declared.fault.ReadFault.TheVariants as fault
 
 -- what a text is: a list of tokens, or no such list
 pub data Reading : Type 0 where
@@ -51,6 +51,6 @@ abbrev pub reading : List ℕ → Reading
 reading bytes = reading_from zero first_place LineStart bytes
 
 -- the fault is this refusal, or memory is wanting
-abbrev pub IsFault : TokenFault → Reading → Type 0
+abbrev pub IsFault : ReadFault → Reading → Type 0
 IsFault (fault.Refused refusal) read = read ≡ Refused refusal
 IsFault fault.OutOfMemory read = Unit {0}

@@ -1,6 +1,26 @@
 //! Laws of tokens. Each is the contract of a function with an empty body.
-ghost use Rattle.c_tokens.specs.Examples.{TakesLongestSigns, EndsToken, EndsInComment, IncludesWithComment, NeedsTwoStars, RefusesOpenComment, RefusesOpenCommentFirst, RefusesSuffix, RefusesQuote, RefusesDefine};
-ghost use Rattle.c_tokens.specs.Laws.{HaveOneReading, HaveOneRefusal, HaveNotBoth, HaveEither, AreListed, RestsAreListed, KeepTokens, WordsReadBack};
+ghost use Rattle.c_tokens.specs.Examples.{
+  TakesLongestSigns,
+  EndsToken,
+  EndsInComment,
+  IncludesWithComment,
+  NeedsTwoStars,
+  RefusesOpenComment,
+  RefusesOpenCommentFirst,
+  RefusesSuffix,
+  RefusesQuote,
+  RefusesDefine,
+};
+ghost use Rattle.c_tokens.specs.Laws.{
+  HaveOneReading,
+  HaveOneRefusal,
+  HaveNotBoth,
+  HaveEither,
+  AreListed,
+  RestsAreListed,
+  KeepTokens,
+  WordsReadBack,
+};
 
 /// No text has two lists of tokens.
 pub fn one_reading()

@@ -3,6 +3,7 @@
 #![tactic(auto)]
 
 mod comments;
+mod fault;
 pub mod laws;
 mod pieces;
 mod places;
@@ -10,7 +11,8 @@ mod reading;
 mod token;
 mod words;
 
+pub use fault::ReadFault;
 pub use places::{Place, Refusal};
 pub use reading::tokens;
 pub use token::{Lexeme, Token, TokenFault, TokenKind};
-pub use words::is_reserved;
+pub use words::{digits_value, is_reserved};

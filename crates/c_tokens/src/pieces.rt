@@ -3,7 +3,19 @@ ghost use Rattle.std.specs.Prelude.{◌≡◌, ℕ, ◌+◌, ◌<◌, ◌≤◌,
 ghost use Rattle.std.specs.List.{prefix_len};
 ghost use Rattle.c_tokens.specs.Gaps.{is_blank};
 ghost use Rattle.c_tokens.specs.Headers.{is_header_byte};
-ghost use Rattle.c_tokens.specs.Pieces.{header_len, begins_with_header, name_piece, number_piece, sign_piece, token_piece, bare_piece, line_feed_piece, block_piece, first_piece, Fits};
+ghost use Rattle.c_tokens.specs.Pieces.{
+  header_len,
+  begins_with_header,
+  name_piece,
+  number_piece,
+  sign_piece,
+  token_piece,
+  bare_piece,
+  line_feed_piece,
+  block_piece,
+  first_piece,
+  Fits,
+};
 
 use crate::comments::{block_len, line_len};
 use crate::places::{Place, Refusal};

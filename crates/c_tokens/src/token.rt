@@ -1,8 +1,7 @@
 //! Tokens, and why a text has none.
 ghost use Rattle.std.specs.Prelude.{◌≡◌, ◌≤◌, length};
 
-use crate::places::Refusal;
-use std::alloc::{AllocError, AllocFailed};
+use crate::fault::ReadFault;
 use std::marker::Model;
 
 /// The kind of a token.
@@ -66,30 +65,4 @@ pub struct Token<'a> {
 /// Why there are no tokens. The codes are 101, a byte that begins no token; 102, a comment that does not end; 103, a
 /// number that is no plain decimal of at most 2,147,483,647; 104, a `#` line other than `#include <..>`; and 105, a
 /// name of more than 64 bytes.
-#[derive(Clone, Copy, Debug)]
-pub enum TokenFault {
-    Refused(Refusal),
-    OutOfMemory,
-}
-
-impl From<AllocError> for TokenFault {
-    ghost use Rattle.std.specs.Prelude.{◌≡◌};
-    ghost use Rattle.c_tokens.specs.declared.token.TokenFault.TheVariants.{OutOfMemory};
-
-    ghost from_gives = { λ _ fault. fault ≡ OutOfMemory };
-
-    fn from(_error: AllocError) -> TokenFault {
-        TokenFault::OutOfMemory
-    }
-}
-
-impl<'a> From<AllocFailed<Token<'a>>> for TokenFault {
-    ghost use Rattle.std.specs.Prelude.{◌≡◌};
-    ghost use Rattle.c_tokens.specs.declared.token.TokenFault.TheVariants.{OutOfMemory};
-
-    ghost from_gives = { λ _ fault. fault ≡ OutOfMemory };
-
-    fn from(_error: AllocFailed<Token<'a>>) -> TokenFault {
-        TokenFault::OutOfMemory
-    }
-}
+pub type TokenFault = ReadFault;

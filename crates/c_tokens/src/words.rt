@@ -103,8 +103,8 @@ fn is_plain(word: &[u8]) -> bool
     word.len() <= MOST_DIGITS && are_digits(word) && (word[0] != b'0' || word.len() == 1)
 }
 
-/// The number that the digits write.
-fn digits_value(word: &[u8]) -> u64
+/// The number that at most ten decimal digits write; none write 0.
+pub fn digits_value(word: &[u8]) -> u64
     requires short { length word.now ≤ 10 }
     requires digits { AllDigits 10 word.now }
     ensures { result ≡ digits_value 10 word.now }

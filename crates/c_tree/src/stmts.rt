@@ -53,7 +53,8 @@ pub struct Local {
     pub others: Vec<Initialized>,
 }
 
-/// What a `for` begins with (C11 6.8.5.3). Its parts stand by themselves, as its step does, since a `for` would be the largest of the statements.
+/// What a `for` begins with (C11 6.8.5.3). Its parts stand by themselves, as its step does, since a `for` would be the largest of the
+/// statements.
 #[derive(Drop)]
 pub enum ForInit {
     /// Nothing.

@@ -6,8 +6,8 @@ use Rattle.c_types_rules.specs.Types.{Kind}
 use Rattle.c_types_rules.specs.Scopes.{Env}
 use Rattle.c_types_rules.specs.Statements.{Found, refuses, ◌⊹◌}
 use Rattle.c_types_rules.specs.Items.{listed, param_variables}
-use Rattle.c_types_names.specs.declared.first.First.{First}
-use Rattle.c_types_names.specs.Lowered.{lowered}
+use Rattle.c_types_names.specs.declared.first_refusal.FirstRefusal.{FirstRefusal}
+use Rattle.c_types_names.specs.FirstRefusal.{with_refusals}
 use Rattle.c_types_stmts.specs.declared.finding.Finding.{Finding}
 use Rattle.c_types_stmts.specs.Adding.{Adds}
 use Rattle.c_types_stmts.specs.Behind.{behind_stmts}
@@ -15,7 +15,7 @@ use Rattle.c_types_stmts.proofs.Adding.{refused, ends, ends_same}
 use Rattle.c_types_stmts.proofs.Leaving.{stmts_within}
 use Rattle.c_types_names.specs.Behind.{behind_params}
 
-pub refused_on : {T E : Type 0} (r : Result T E) (all : List Refusal) (f : Finding) (first : First) → OnOk r (first ≡ lowered f.first all)
+pub refused_on : {T E : Type 0} (r : Result T E) (all : List Refusal) (f : Finding) (first : FirstRefusal) → OnOk r (first ≡ with_refusals f.first all)
     → OnOk r (Adds (refuses all) f (record { first = first; kinds = f.kinds }))
 refused_on (Ok x) all f first is = refused all f first is
 refused_on (Err e) all f first is = tt
@@ -24,8 +24,8 @@ abbrev found_with : List Kind → List Refusal → Found
 found_with kinds all = record { refusals = all; kinds = kinds }
 
 -- the refusals of a definition's head, and what is found in its body
-pub defined : {T E : Type 0} (r : Result T E) (one two three : List Refusal) (rest : Found) (f : Finding) (first : First) (after : Finding)
-    → first ≡ lowered f.first ((one ++ two) ++ three) → OnOk r (Adds rest (record { first = first; kinds = f.kinds }) after)
+pub defined : {T E : Type 0} (r : Result T E) (one two three : List Refusal) (rest : Found) (f : Finding) (first : FirstRefusal) (after : Finding)
+    → first ≡ with_refusals f.first ((one ++ two) ++ three) → OnOk r (Adds rest (record { first = first; kinds = f.kinds }) after)
     → OnOk r (Adds (refuses one ⊹ (refuses two ⊹ (refuses three ⊹ rest))) f after)
 defined r one two three rest f first after is more =
     ends_same r (refuses ((one ++ two) ++ three) ⊹ rest) (refuses one ⊹ (refuses two ⊹ (refuses three ⊹ rest))) f after

@@ -8,14 +8,14 @@ use Rattle.c_types_rules.specs.declared.at.At.{At}
 use Rattle.c_types_rules.specs.Types.{Kind}
 use Rattle.c_types_rules.specs.Tables.{Tables, joined, declared_by, items_of}
 use Rattle.c_types_rules.specs.Programs.{items, in_unit, files_refusals}
-use Rattle.c_types_names.specs.declared.first.First.{First}
+use Rattle.c_types_names.specs.declared.first_refusal.FirstRefusal.{FirstRefusal}
 use Rattle.c_types_stmts.specs.declared.finding.Finding.{Finding}
 use Rattle.c_types_stmts.specs.Adding.{Adds}
-use Rattle.c_types.specs.Firsts.{first_with}
-use Rattle.c_types.proofs.Firsts.{first_with-append, lowered-found}
+use Rattle.c_types.specs.FirstRefusals.{first_with}
+use Rattle.c_types.proofs.FirstRefusals.{first_with-append, with_refusals-found}
 use Rattle.c_types.proofs.Joining.{joined-assoc, declared-append, items-append}
 
-abbrev begun : ℕ → Option At → First
+abbrev begun : ℕ → Option At → FirstRefusal
 begun unit found = record { unit = unit; found = found }
 
 -- a file, where the one tables stand before it and the others behind it
@@ -26,12 +26,12 @@ module _ (tables before behind : Tables) (file : File) (rest : List File) (goes 
   refusal_turn unit found kinds now adds =
       let all = map (in_unit unit) (items tables before file.items).refusals in
       let found_now : now.first.found ≡ first_with found all =
-      ap (λ (f : First). f.found) adds.first ∙ lowered-found (begun unit found) (items tables before file.items).refusals in
+      ap (λ (f : FirstRefusal). f.found) adds.first ∙ with_refusals-found (begun unit found) (items tables before file.items).refusals in
       ap (λ t. first_with now.first.found (files_refusals tables t (suc unit) rest)) goes
       ∙ ap (λ f. first_with f (files_refusals tables (joined before (declared_by file.items)) (suc unit) rest)) found_now
       ∙ sym (first_with-append found all (files_refusals tables (joined before (declared_by file.items)) (suc unit) rest))
 
-  pub kinds_turn : (first : First) (kinds : List Kind) (now : Finding)
+  pub kinds_turn : (first : FirstRefusal) (kinds : List Kind) (now : Finding)
       → Adds (items tables before file.items) (record { first = first; kinds = kinds }) now
       → now.kinds ++ (items tables behind (items_of rest)).kinds ≡ kinds ++ (items tables before (items_of (file ∷ rest))).kinds
   kinds_turn first kinds now adds =
@@ -65,7 +65,7 @@ module _ (tables before behind : Tables) (units : List Unit) (i : ℕ) (one : Un
       ∙ sym (here (λ (xs : List File). first_with found (files_refusals tables before i xs)))
       ∙ known
 
-  pub kinds_next : (first : First) (kinds : List Kind) (now : Finding)
+  pub kinds_next : (first : FirstRefusal) (kinds : List Kind) (now : Finding)
       → Adds (items tables before (unit_tree one).items) (record { first = first; kinds = kinds }) now
       → (all : List Kind) → kinds ++ (items tables before (items_of (map unit_tree (drop i units)))).kinds ≡ all
       → now.kinds ++ (items tables behind (items_of (map unit_tree (drop (i + 1) units)))).kinds ≡ all

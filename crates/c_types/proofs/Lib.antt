@@ -2,7 +2,7 @@ pub mod Naming
 pub mod Params
 pub mod Sameness
 pub mod Lines
-pub mod Firsts
+pub mod FirstRefusals
 pub mod Joining
 pub mod Files
 pub mod Known

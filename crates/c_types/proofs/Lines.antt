@@ -8,9 +8,9 @@ use Rattle.c_types_rules.specs.Tables.{Tables, Structure, FieldKind, field_kinds
 use Rattle.c_types_rules.specs.Items.{same_fields, repeated_refusals}
 use Rattle.c_types_names.specs.StructFields.{DeclaredTree, fields_of, kind_of_declared}
 use Rattle.c_types_names.proofs.Fields.{kinds_declared}
-use Rattle.c_types_names.proofs.Lowering.{lowered-nil, lowered-append}
+use Rattle.c_types_names.proofs.FirstRefusals.{with_refusals-nil, with_refusals-append}
 
-pub ruleset lining = (lowered-nil, lowered-append, append_assoc, append-nil)
+pub ruleset lining = (with_refusals-nil, with_refusals-append, append_assoc, append-nil)
 
 -- what is refused where a structure of the tag has these fields, if there is one before
 abbrev pub repeated_by : Tables → Option (List DeclaredTree) → Name → List Fields → List Refusal

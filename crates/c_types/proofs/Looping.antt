@@ -2,18 +2,18 @@
 use Rattle.std.proofs.Common.{◌≡◌, ℕ, ◌+◌, ◌<◌, ◌≤◌, List, [], ◌∷◌, ◌++◌, length, drop, get_or, append_assoc, sym, ap, ◌∙◌}
 use Rattle.std.proofs.lemmas.List.{at_drop_more, at_drop_all}
 use Rattle.c_tokens.specs.declared.places.Refusal.{Refusal}
-use Rattle.c_types_names.specs.declared.first.First.{First}
-use Rattle.c_types_names.specs.Lowered.{lowered}
-use Rattle.c_types_names.proofs.Lowering as lowering
+use Rattle.c_types_names.specs.declared.first_refusal.FirstRefusal.{FirstRefusal}
+use Rattle.c_types_names.specs.FirstRefusal.{with_refusals}
+use Rattle.c_types_names.proofs.FirstRefusals as more
 
 module _ {X : Type 0} (all : List X → List Refusal) (one : X → List Refusal) (step : (x : X) (xs : List X) → all (x ∷ xs) ≡ one x ++ all xs) (xs : List X) (i : ℕ) where
-  pub looped : (x : X) → i < length xs → x ≡ get_or xs i x → (from to whole : First) → to ≡ lowered from (one x) → lowered from (all (drop i xs)) ≡ whole → lowered to (all (drop (i + 1) xs)) ≡ whole
+  pub looped : (x : X) → i < length xs → x ≡ get_or xs i x → (from to whole : FirstRefusal) → to ≡ with_refusals from (one x) → with_refusals from (all (drop i xs)) ≡ whole → with_refusals to (all (drop (i + 1) xs)) ≡ whole
   looped x within is from to whole goes known =
-      lowering.turn from to whole (all (drop i xs)) (one x) (all (drop (i + 1) xs)) goes
+      more.turn from to whole (all (drop i xs)) (one x) (all (drop (i + 1) xs)) goes
       (at_drop_more all xs i x within ∙ step (get_or xs i x) (drop (i + 1) xs) ∙ ap (λ y. one y ++ all (drop (i + 1) xs)) (sym is)) known
 
-  pub ended : length xs ≤ i → all [] ≡ [] → (to whole : First) → lowered to (all (drop i xs)) ≡ whole → to ≡ whole
-  ended past none to whole known = lowering.over to whole (all (drop i xs)) (at_drop_all all xs i past ∙ none) known
+  pub ended : length xs ≤ i → all [] ≡ [] → (to whole : FirstRefusal) → with_refusals to (all (drop i xs)) ≡ whole → to ≡ whole
+  ended past none to whole known = more.over to whole (all (drop i xs)) (at_drop_all all xs i past ∙ none) known
 
 -- a turn of a loop that adds some values
 pub appended : {X Y : Type 0} (all : List X → List Y) (one : X → List Y) → ((x : X) (xs : List X) → all (x ∷ xs) ≡ one x ++ all xs) → (xs : List X) (i : ℕ) (x : X) → i < length xs → x ≡ get_or xs i x

@@ -1,5 +1,5 @@
 pub mod Names
-pub mod Firsts
+pub mod FirstRefusals
 pub mod Typing
 pub mod Checking
 pub mod Rows

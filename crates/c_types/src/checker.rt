@@ -10,9 +10,9 @@ use crate::defs::struct_defs;
 use crate::items::items;
 use crate::typed::{TypeFault, Typed};
 use c_tree::Unit;
-use c_types_exprs::listed::Kinds;
+use c_types_exprs::all_kinds::Kinds;
 use c_types_names::env::Env;
-use c_types_names::first::First;
+use c_types_names::first_refusal::FirstRefusal;
 use c_types_names::tables::Tables;
 use c_types_rules::laws::{first_refusal, types_are_known};
 use c_types_stmts::finding::Finding;
@@ -32,13 +32,14 @@ fn declared<'a>(alloc: Global, units: &'a [Unit]) -> Result<Tables<'a>, AllocErr
 /// What is found in the files.
 fn find<'a>(alloc: Global, env: &mut Env<'a>, units: &'a [Unit]) -> Result<Finding<'a>, AllocError>
     requires { length units.now < 4294967296 }
-    ensures refusal { IfOk result (λ found. found.first.found ≡ program.first_of (program.files_refusals env.old.tables no_tables 0 (files_of units.now))) }
+    ensures refusal { IfOk result
+        (λ found. found.first.found ≡ program.first_of (program.files_refusals env.old.tables no_tables 0 (files_of units.now))) }
     ensures kinds { IfOk result (λ found. found.kinds ≡ (program.items env.old.tables no_tables (items_of (files_of units.now))).kinds) }
     ensures tables { IfOk result (λ _. env.new.tables ≡ env.old.tables) }
 {
     let mut before = Tables::new(alloc);
     let mut found = Finding {
-        first: First {
+        first: FirstRefusal {
             unit: 0,
             found: None,
         },

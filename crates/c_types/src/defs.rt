@@ -1,29 +1,17 @@
 //! The structures and the types of a well typed program as data of their own.
 ghost use Rattle.std.specs.Prelude.{◌≡◌, [], IfOk, map};
-ghost use Rattle.c_types_rules.specs.Programs.{known, field_def, struct_def, first_structures};
-ghost use Rattle.c_types_names.specs.Seen.{kind_seen, field_seen, structure_seen};
+ghost use Rattle.c_types_rules.specs.Programs.{field_def, struct_def, first_structures};
+ghost use Rattle.c_types_names.specs.Seen.{field_seen, structure_seen};
 
 use crate::fields::Fields;
 use c_types_names::declared::Structure;
-use c_types_names::kinds::{CType, Kind};
-use c_types_names::named::Structures;
+use c_types_names::kinds::known_type;
+use c_types_names::name_tables::Structures;
 use c_types_names::objects::FieldKind;
 use c_types_names::tables::Tables;
-use shape_data::program::{Field, StructDef, Ty};
+use shape_data::program::{Field, StructDef};
 use shape_data::{Row, copy_of};
 use std::alloc::{AllocError, Global};
-
-/// The type, where it is known.
-fn known(kind: Kind) -> Result<Ty, AllocError>
-    ensures { IfOk result (λ ty. ty ≡ known (kind_seen kind.entry)) }
-{
-    match kind {
-        None => Ok(Ty::Int),
-        Some(CType::Int) => Ok(Ty::Int),
-        Some(CType::Pointer(tag)) => Ok(Ty::Ptr(copy_of(tag)?)),
-        Some(CType::Void) => Ok(Ty::Void),
-    }
-}
 
 /// The field as data of its own.
 #[tactic(auto, unfolding(c_types_names::specs::Seen::field_seen))]
@@ -32,7 +20,7 @@ fn field_def(field: FieldKind) -> Result<Field, AllocError>
 {
     Ok(Field {
         name: copy_of(&field.name.text)?,
-        ty: known(field.kind)?,
+        ty: known_type(field.kind)?,
     })
 }
 

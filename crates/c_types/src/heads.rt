@@ -4,17 +4,26 @@ ghost use Rattle.c_grammar.specs.Trees.{Name as NameTree};
 ghost use Rattle.c_grammar.specs.FirstPlaces.{place_of_head};
 ghost use Rattle.c_types_rules.specs.Types.{may_agree, unless as unless_of, SECOND, CLASH};
 ghost use Rattle.c_types_rules.specs.Tables.{Tables as TypeTables, is_alias, param_kind, param_kinds, kind_of_result};
-ghost use Rattle.c_types_rules.specs.Items.{is_hidden_by, param_refusals, each_param_refusals, listed, with_name, head_refusals, same_kinds, same_head};
+ghost use Rattle.c_types_rules.specs.Items.{
+  is_hidden_by,
+  param_refusals,
+  each_param_refusals,
+  listed,
+  with_name,
+  head_refusals,
+  same_kinds,
+  same_head,
+};
 ghost use Rattle.c_tree.specs.Syntax.{ident_tree, specifier_tree, param_tree, params_tree, head_tree};
 ghost use Rattle.c_types_names.specs.Seen.{procedure_seen};
-ghost use Rattle.c_types_names.specs.Lowered.{lowered};
+ghost use Rattle.c_types_names.specs.FirstRefusal.{with_refusals};
 ghost use Rattle.c_types.specs.Names.{Lists};
 
 use crate::names::Names;
 use c_tree::places::place_of_specifier;
 use c_tree::{Head, Ident, Param, Params, TypeSpecifier};
 use c_types_names::declared::Procedure;
-use c_types_names::first::First;
+use c_types_names::first_refusal::FirstRefusal;
 use c_types_names::kinds::may_agree;
 use c_types_names::name_set::NameSet;
 use c_types_names::objects::{
@@ -37,8 +46,9 @@ fn is_hidden_by(before: &NameSet, specifier: &TypeSpecifier) -> bool
 }
 
 /// What is refused in a parameter, behind others.
-fn param_refusals(tables: &Tables, before: &NameSet, param: &Param, first: &mut First)
-    ensures { (names : List NameTree) → Lists before.now names → first.new ≡ lowered first.old (param_refusals tables.now names (param_tree param.now)) }
+fn param_refusals(tables: &Tables, before: &NameSet, param: &Param, first: &mut FirstRefusal)
+    ensures { (names : List NameTree) → Lists before.now names
+        → first.new ≡ with_refusals first.old (param_refusals tables.now names (param_tree param.now)) }
 {
     specifier_refusals(tables, &param.specifier, first);
     let place = place_of_specifier(&param.specifier);
@@ -53,7 +63,8 @@ fn param_refusals(tables: &Tables, before: &NameSet, param: &Param, first: &mut 
 
 /// Adds the name of a parameter, if it has one.
 fn add_name<'a>(before: &mut NameSet<'a>, name: &'a Option<Ident>) -> Result<(), AllocError>
-    ensures { OnOk result ((names : List NameTree) → Lists before.old names → Lists before.new (with_name (option_map ident_tree name.now) names)) }
+    ensures { OnOk result ((names : List NameTree) → Lists before.old names
+        → Lists before.new (with_name (option_map ident_tree name.now) names)) }
 {
     match name {
         None => Ok(()),
@@ -66,9 +77,10 @@ fn more_param_refusals<'a>(
     tables: &Tables,
     before: &mut NameSet<'a>,
     params: &'a [Param],
-    first: &mut First,
+    first: &mut FirstRefusal,
 ) -> Result<(), AllocError>
-    ensures { OnOk result ((names : List NameTree) → Lists before.old names → first.new ≡ lowered first.old (each_param_refusals tables.now names (map param_tree params.now))) }
+    ensures { OnOk result ((names : List NameTree) → Lists before.old names
+        → first.new ≡ with_refusals first.old (each_param_refusals tables.now names (map param_tree params.now))) }
 {
     for param in params {
         param_refusals(tables, before, param, first);
@@ -82,9 +94,9 @@ fn each_param_refusals(
     alloc: Global,
     tables: &Tables,
     params: &Params,
-    first: &mut First,
+    first: &mut FirstRefusal,
 ) -> Result<(), AllocError>
-    ensures { OnOk result (first.new ≡ lowered first.old (each_param_refusals tables.now [] (listed (params_tree params.now)))) }
+    ensures { OnOk result (first.new ≡ with_refusals first.old (each_param_refusals tables.now [] (listed (params_tree params.now)))) }
 {
     match params {
         Params::Empty => Ok(()),
@@ -99,14 +111,14 @@ fn each_param_refusals(
 }
 
 /// What is refused in a head, whatever else is declared under its name.
-#[tactic(auto, using(c_types_names::proofs::Lowering::lowering))]
+#[tactic(auto, using(c_types_names::proofs::FirstRefusals::more_refusals))]
 fn head_refusals<'a>(
     alloc: Global,
     tables: &Tables<'a>,
     head: &'a Head,
-    first: &mut First,
+    first: &mut FirstRefusal,
 ) -> Result<(), AllocError>
-    ensures { OnOk result (first.new ≡ lowered first.old (head_refusals tables.now (head_tree head.now))) }
+    ensures { OnOk result (first.new ≡ with_refusals first.old (head_refusals tables.now (head_tree head.now))) }
 {
     specifier_refusals(tables, &head.specifier, first);
     first.unless(
@@ -123,7 +135,8 @@ fn head_refusals<'a>(
 /// Whether the types of parameters may agree, one by one.
 #[tactic(auto, using(crate::proofs::Sameness::kinds))]
 fn same_listed<'a>(tables: &Tables<'a>, ones: &'a [Param], others: &'a [Param]) -> bool
-    ensures { result ≡ same_kinds (map (param_kind tables.now) (map param_tree ones.now)) (map (param_kind tables.now) (map param_tree others.now)) }
+    ensures { result ≡ same_kinds (map (param_kind tables.now) (map param_tree ones.now))
+        (map (param_kind tables.now) (map param_tree others.now)) }
 {
     for (place, one) in ones.iter().enumerate() {
         if place >= others.len() {
@@ -187,17 +200,17 @@ fn same_head<'a>(tables: &Tables<'a>, before: Option<Procedure<'a>>, head: &'a H
 }
 
 /// What is refused in a declaration of a procedure, of which this is the first of its name.
-#[tactic(auto, using(c_types_names::proofs::Lowering::lowering))]
+#[tactic(auto, using(c_types_names::proofs::FirstRefusals::more_refusals))]
 pub fn procedure_refusals<'a>(
     alloc: Global,
     tables: &Tables<'a>,
     before: &Tables<'a>,
     declared: Option<Procedure<'a>>,
     head: &'a Head,
-    first: &mut First,
+    first: &mut FirstRefusal,
 ) -> Result<(), AllocError>
     ensures { let seen = head_tree head.now in
-        OnOk result (first.new ≡ lowered first.old
+        OnOk result (first.new ≡ with_refusals first.old
         (head_refusals tables.now seen
         ++ unless_of (not (is_alias before.now seen.declarator.name.text)) seen.declarator.name.place SECOND
         ++ unless_of (same_head tables.now (option_map procedure_seen declared.entry) seen) (place_of_head seen) CLASH)) }

@@ -6,7 +6,7 @@ ghost use Rattle.c_types_rules.specs.Tables.{joined, declared_by, is_defined, ta
 ghost use Rattle.c_types_rules.specs.Items as rule;
 ghost use Rattle.c_types_rules.specs.Programs as program;
 ghost use Rattle.c_tree.specs.Syntax.{ident_tree, fields_tree, param_tree, params_tree, head_tree, block_tree, item_tree};
-ghost use Rattle.c_types_names.specs.Lowered.{lowered};
+ghost use Rattle.c_types_names.specs.FirstRefusal.{with_refusals};
 ghost use Rattle.c_types_stmts.specs.Adding.{Adds};
 ghost use Rattle.c_types_names.specs.Behind.{behind_params};
 
@@ -15,7 +15,7 @@ use crate::structures::{alias_refusals, structure_refusals};
 use c_tree::places::place_of_specifier;
 use c_tree::{Block, FieldDecl, Head, Ident, Item, Param, Params};
 use c_types_names::env::Env;
-use c_types_names::first::First;
+use c_types_names::first_refusal::FirstRefusal;
 use c_types_names::objects::{
     LEFT_OUT, SECOND, UNDECLARED, is_defined, kind_of_result, param_kind,
 };
@@ -26,9 +26,9 @@ use std::alloc::{AllocError, Global};
 
 /// Refuses a parameter of a definition that has no name.
 #[tactic(auto, using(crate::proofs::Lines::lining))]
-fn unnamed_refusal(param: &Param, first: &mut First)
+fn unnamed_refusal(param: &Param, first: &mut FirstRefusal)
     ensures { let seen = param_tree param.now in
-        first.new ≡ lowered first.old (unless_of (rule.has_name seen.name) (place_of_specifier seen.specifier) LEFT_OUT) }
+        first.new ≡ with_refusals first.old (unless_of (rule.has_name seen.name) (place_of_specifier seen.specifier) LEFT_OUT) }
 {
     first.unless(
         param.name.is_some(),
@@ -39,8 +39,8 @@ fn unnamed_refusal(param: &Param, first: &mut First)
 
 /// Refuses parameters that have no name.
 #[tactic(auto, using(crate::proofs::Lines::lining))]
-fn more_unnamed_refusals(params: &[Param], first: &mut First)
-    ensures { first.new ≡ lowered first.old (rule.unnamed_refusals (map param_tree params.now)) }
+fn more_unnamed_refusals(params: &[Param], first: &mut FirstRefusal)
+    ensures { first.new ≡ with_refusals first.old (rule.unnamed_refusals (map param_tree params.now)) }
 {
     for param in params {
         unnamed_refusal(param, first);
@@ -49,8 +49,8 @@ fn more_unnamed_refusals(params: &[Param], first: &mut First)
 
 /// Refuses parameters of a definition that have no name.
 #[tactic(auto, using(crate::proofs::Lines::lining))]
-fn unnamed_refusals(params: &Params, first: &mut First)
-    ensures { first.new ≡ lowered first.old (rule.unnamed_refusals (rule.listed (params_tree params.now))) }
+fn unnamed_refusals(params: &Params, first: &mut FirstRefusal)
+    ensures { first.new ≡ with_refusals first.old (rule.unnamed_refusals (rule.listed (params_tree params.now))) }
 {
     match params {
         Params::Empty => {}
@@ -113,7 +113,7 @@ fn body<'a>(
 }
 
 /// A structure under `typedef`.
-#[tactic(auto, using(c_types_names::proofs::Lowering::lowering))]
+#[tactic(auto, using(c_types_names::proofs::FirstRefusals::more_refusals))]
 fn typedef_structure<'a>(
     alloc: Global,
     tables: &Tables<'a>,
@@ -121,11 +121,12 @@ fn typedef_structure<'a>(
     tag: &'a Option<Ident>,
     lines: &'a Vec<FieldDecl>,
     alias: &'a Ident,
-    first: &mut First,
+    first: &mut FirstRefusal,
 ) -> Result<(), AllocError>
     ensures { let name = tag_or (option_map ident_tree tag.now) (ident_tree alias.now) in
-        OnOk result (first.new ≡ lowered first.old
-        (rule.structure_refusals tables.now before.now name (map fields_tree lines.now.items) ++ rule.alias_refusals before.now (ident_tree alias.now) name)) }
+        OnOk result (first.new ≡ with_refusals first.old
+        (rule.structure_refusals tables.now before.now name (map fields_tree lines.now.items) ++ rule.alias_refusals before.now
+        (ident_tree alias.now) name)) }
 {
     let tag = tag_or(tag, alias);
     match structure_refusals(alloc, tables, before, tag, lines, first) {
@@ -138,41 +139,49 @@ fn typedef_structure<'a>(
 }
 
 /// A name of a type, of a structure that is defined elsewhere.
-#[tactic(auto, using(c_types_names::proofs::Lowering::lowering))]
-fn typedef_alias(tables: &Tables, before: &Tables, tag: &Ident, alias: &Ident, first: &mut First)
+#[tactic(auto, using(c_types_names::proofs::FirstRefusals::more_refusals))]
+fn typedef_alias(
+    tables: &Tables,
+    before: &Tables,
+    tag: &Ident,
+    alias: &Ident,
+    first: &mut FirstRefusal,
+)
     ensures { let name = ident_tree tag.now in
-        first.new ≡ lowered first.old (unless_of (is_defined tables.now name.text) name.place UNDECLARED ++ rule.alias_refusals before.now (ident_tree alias.now) name) }
+        first.new ≡ with_refusals first.old (unless_of (is_defined tables.now name.text) name.place UNDECLARED ++ rule.alias_refusals before.now
+        (ident_tree alias.now) name) }
 {
     first.unless(is_defined(tables, &tag.text), tag.place, UNDECLARED);
     alias_refusals(before, alias, tag, first);
 }
 
 /// A prototype.
-#[tactic(auto, using(c_types_names::proofs::Lowering::lowering))]
+#[tactic(auto, using(c_types_names::proofs::FirstRefusals::more_refusals))]
 fn prototype<'a>(
     alloc: Global,
     tables: &Tables<'a>,
     before: &Tables<'a>,
     head: &'a Head,
-    first: &mut First,
+    first: &mut FirstRefusal,
 ) -> Result<(), AllocError>
-    ensures { OnOk result (first.new ≡ lowered first.old (rule.procedure_refusals tables.now before.now before.now.procedures (head_tree head.now))) }
+    ensures { OnOk result (first.new ≡ with_refusals first.old
+        (rule.procedure_refusals tables.now before.now before.now.procedures (head_tree head.now))) }
 {
     let declared = before.procedure(&head.declarator.name.text);
     procedure_refusals(alloc, tables, before, declared, head, first)
 }
 
 /// The head of a definition.
-#[tactic(auto, using(c_types_names::proofs::Lowering::lowering))]
+#[tactic(auto, using(c_types_names::proofs::FirstRefusals::more_refusals))]
 fn defined_head<'a>(
     alloc: Global,
     tables: &Tables<'a>,
     before: &Tables<'a>,
     head: &'a Head,
-    first: &mut First,
+    first: &mut FirstRefusal,
 ) -> Result<(), AllocError>
     ensures { let seen = head_tree head.now in
-        OnOk result (first.new ≡ lowered first.old
+        OnOk result (first.new ≡ with_refusals first.old
         (rule.procedure_refusals tables.now before.now (rule.definitions false before.now.procedures) seen
         ++ unless_of (not (rule.is_defined_before before.now seen)) seen.declarator.name.place SECOND
         ++ rule.unnamed_refusals (rule.listed seen.params))) }

@@ -3,6 +3,7 @@
 
 mod checker;
 mod defs;
+mod fault;
 pub mod fields;
 mod heads;
 mod items;
@@ -12,4 +13,5 @@ mod structures;
 mod typed;
 
 pub use checker::check;
+pub use fault::UnitsFault;
 pub use typed::{TypeFault, Typed};

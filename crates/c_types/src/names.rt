@@ -3,11 +3,11 @@ ghost use Rattle.std.specs.Prelude.{◌≡◌, ◌++◌, ◌∷◌, [], OnOk, ma
 ghost use Rattle.c_grammar.specs.Trees.{Declarator as DeclaratorTree};
 ghost use Rattle.c_types_rules.specs.Items.{twice, field_names, with_name, param_names, listed};
 ghost use Rattle.c_tree.specs.Syntax.{ident_tree, fields_tree, param_tree, params_tree};
-ghost use Rattle.c_types_names.specs.Lowered.{lowered};
+ghost use Rattle.c_types_names.specs.FirstRefusal.{with_refusals};
 ghost use Rattle.c_types.specs.Names.{named_seen};
 
 use c_tree::{FieldDecl, Ident, Param, Params};
-use c_types_names::first::First;
+use c_types_names::first_refusal::FirstRefusal;
 use c_types_names::name_set::NameSet;
 use c_types_names::objects::SECOND;
 use std::alloc::{AllocError, Global};
@@ -116,8 +116,8 @@ impl<'a> Names<'a> {
 
     /// Refuses each name that stood before.
     #[tactic(auto, using(crate::proofs::Naming::naming))]
-    pub fn refuse_second(&self, alloc: Global, first: &mut First) -> Result<(), AllocError>
-        ensures { OnOk result (first.new ≡ lowered first.old (twice [] self.now)) }
+    pub fn refuse_second(&self, alloc: Global, first: &mut FirstRefusal) -> Result<(), AllocError>
+        ensures { OnOk result (first.new ≡ with_refusals first.old (twice [] self.now)) }
     {
         refuse_second_of(alloc, self.found.as_slice(), first)
     }
@@ -125,8 +125,12 @@ impl<'a> Names<'a> {
 
 /// Refuses each name that stood before.
 #[tactic(auto, using(crate::proofs::Naming::naming))]
-fn refuse_second_of(alloc: Global, names: &[Named], first: &mut First) -> Result<(), AllocError>
-    ensures { OnOk result (first.new ≡ lowered first.old (twice [] (map named_seen names.now))) }
+fn refuse_second_of(
+    alloc: Global,
+    names: &[Named],
+    first: &mut FirstRefusal,
+) -> Result<(), AllocError>
+    ensures { OnOk result (first.new ≡ with_refusals first.old (twice [] (map named_seen names.now))) }
 {
     let mut before = NameSet::new(alloc);
     for one in names {

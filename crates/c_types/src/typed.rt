@@ -1,13 +1,12 @@
 //! A program that keeps the typing rules, and why there is none.
 ghost use Rattle.c_types.specs.Typing.{IsTyped, files_of};
 
+use crate::fault::UnitsFault;
 use c_tree::Unit;
-use c_types_exprs::listed::Kinds;
+use c_types_exprs::all_kinds::Kinds;
 use c_types_names::tables::Tables;
-use c_types_rules::At;
 use shape_data::Row;
 use shape_data::program::StructDef;
-use std::alloc::{AllocError, AllocFailed};
 
 /// A program that keeps the typing rules: its files, which are lent, what is declared in them, its structures in the order of their first
 /// definitions, and the types of all its expressions in the order of the text. That they are those is part of the type.
@@ -23,30 +22,4 @@ pub struct Typed<'a> {
 /// Why a program is not well typed: the first refusal in the order of the text. The codes are 121, a name that is not declared; 122,
 /// types that clash; 123, a second definition; 124, a wrong number of arguments; 125, a structure that is repeated and differs;
 /// and 126, a construct that the subset leaves out.
-#[derive(Clone, Copy, Debug)]
-pub enum TypeFault {
-    Refused(At),
-    OutOfMemory,
-}
-
-impl From<AllocError> for TypeFault {
-    ghost use Rattle.std.specs.Prelude.{◌≡◌};
-    ghost use Rattle.c_types.specs.declared.typed.TypeFault.TheVariants.{OutOfMemory};
-
-    ghost from_gives = { λ _ fault. fault ≡ OutOfMemory };
-
-    fn from(_error: AllocError) -> TypeFault {
-        TypeFault::OutOfMemory
-    }
-}
-
-impl<T: Drop> From<AllocFailed<T>> for TypeFault {
-    ghost use Rattle.std.specs.Prelude.{◌≡◌};
-    ghost use Rattle.c_types.specs.declared.typed.TypeFault.TheVariants.{OutOfMemory};
-
-    ghost from_gives = { λ _ fault. fault ≡ OutOfMemory };
-
-    fn from(_error: AllocFailed<T>) -> TypeFault {
-        TypeFault::OutOfMemory
-    }
-}
+pub type TypeFault = UnitsFault;

@@ -2,7 +2,18 @@
 ghost use Rattle.std.specs.Prelude.{◌≡◌, map, option_map};
 ghost use Rattle.c_types_rules.specs.Tables.{procedure_in};
 ghost use Rattle.c_types_rules.specs.Scopes.{variable};
-ghost use Rattle.c_types_rules.specs.Expressions.{kind_of_variable, kind_of_call, kind_of_member, kind_of_members, int_of, kind_of_binary, kind_of_prefix, kind_of, kind_of_chain, is_null};
+ghost use Rattle.c_types_rules.specs.Expressions.{
+  kind_of_variable,
+  kind_of_call,
+  kind_of_member,
+  kind_of_members,
+  int_of,
+  kind_of_binary,
+  kind_of_prefix,
+  kind_of,
+  kind_of_chain,
+  is_null,
+};
 ghost use Rattle.c_grammar.specs.Trees.{BinaryOp as BinaryOpTree};
 ghost use Rattle.c_tree.specs.Syntax.{ident_tree, binary_tree, prefix_tree, expr_tree, links_tree};
 ghost use Rattle.c_types_names.specs.Seen.{kind_seen};

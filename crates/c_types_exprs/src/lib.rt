@@ -1,7 +1,7 @@
 //! The types of expressions, and what the typing rules of `c_types_rules` refuse in them. It stands on the names of `c_types_names`.
 #![tactic(auto)]
 
+pub mod all_kinds;
 pub mod exprs;
-pub mod given;
-pub mod listed;
-pub mod refused;
+pub mod refusals;
+pub mod value_types;

@@ -4,7 +4,7 @@ use Rattle.std.proofs.lemmas.List.{map-append}
 use Rattle.std.specs.Str.{bytes_eq}
 use Rattle.c_grammar.specs.Trees.{Specifier, Declarator, Fields}
 use Rattle.c_types_rules.specs.Tables.{Tables, Structure, structure_in, field_in, field_kind, field_kinds, field_by, place_in, place_by}
-use Rattle.c_types_names.specs.Firsts.{or_first}
+use Rattle.c_types_names.specs.FirstOfName.{or_first}
 use Rattle.c_types_names.specs.StructFields.{DeclaredTree, declared_by_one, declared_in_line, declared_fields, fields_of, field_named, field_in_table, place_named, place_in_table, kind_of_declared}
 
 line_kinds : (tables : Tables) (specifier : Specifier) (declarators : List Declarator)

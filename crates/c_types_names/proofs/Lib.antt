@@ -5,4 +5,4 @@ pub mod Appending
 pub mod Definitions
 pub mod Stars
 pub mod Fields
-pub mod Lowering
+pub mod FirstRefusals

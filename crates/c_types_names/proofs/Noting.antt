@@ -2,7 +2,7 @@
 use Rattle.std.proofs.Common.{◌≡◌, ℕ, Bool, true, false, cond, is_some, List, [], ◌∷◌, ◌++◌, map, option_map, Option, Some, None, Result, Ok, OnOk, refl, sym, ap, subst, ◌∙◌, true≢false, if◌then◌else◌}
 use Rattle.std.proofs.lemmas.Slice.Eq.{bytes_eq-Decides}
 use Rattle.std.specs.Str.{bytes_eq}
-use Rattle.c_types_names.specs.Firsts.{or_first}
+use Rattle.c_types_names.specs.FirstOfName.{or_first}
 
 pub from_ok : {T E : Type 0} (r : Result T E) (v : T) (P : Type 0) → r ≡ Ok v → OnOk r P → P
 from_ok r v P e p = subst (λ s. OnOk s P) e p

@@ -4,7 +4,7 @@ use Rattle.std.specs.Str.{bytes_eq}
 use Rattle.std.specs.Borrow.{Bor}
 use Rattle.std.specs.Option.{option_flatten}
 use Rattle.indexmap.specs.IndexMap.{IndexMap}
-use Rattle.c_types_names.specs.Firsts.{first_of}
+use Rattle.c_types_names.specs.FirstOfName.{first_of}
 use Rattle.c_types_names.specs.declared.variables.Variable.{Variable}
 use Rattle.c_types_names.specs.declared.variables.Binding.{Binding}
 use Rattle.c_types_names.specs.declared.variables.Declared.{Declared}

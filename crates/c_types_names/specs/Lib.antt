@@ -1,8 +1,8 @@
 pub mod Seen
-pub mod Firsts
+pub mod FirstOfName
 pub mod Bindings
 pub mod StructFields
-pub mod Lowered
+pub mod FirstRefusal
 pub mod Specifiers
 pub mod NameSets
 pub mod Behind

@@ -25,7 +25,14 @@ impl<'a> Model for Env<'a> {
 
     ghost Value = { Env };
 
-    ghost view = { λ e. record { tables = e.tables; scopes = record { here = stacked (drop e.begin e.variables); around = stacked (take e.begin e.variables) } } };
+    ghost view = { λ e. record {
+      tables = e.tables;
+      scopes = record {
+        here = stacked (drop e.begin e.variables);
+        around = stacked
+            (take e.begin e.variables);
+      };
+    } };
 
     ghost invariant = { λ e. e.begin ≤ length e.variables };
 }
@@ -108,7 +115,8 @@ impl<'a> Env<'a> {
     /// Leaves the innermost scope, where so many variables stand in those around the next one.
     pub fn leave(&mut self, begin: usize)
         requires { begin ≤ length self.old.scopes.around }
-        ensures { (here : List ScopeVariable) → (around : List ScopeVariable) → self.old.scopes.around ≡ here ++ around → length around ≡ begin
+        ensures { (here : List ScopeVariable) → (around : List ScopeVariable) → self.old.scopes.around ≡ here ++ around
+            → length around ≡ begin
             → self.new ≡ record { tables = self.old.tables; scopes = record { here = here; around = around } } }
     {
         self.variables.truncate(self.begin);

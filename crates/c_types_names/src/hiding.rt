@@ -3,10 +3,10 @@ ghost use Rattle.std.specs.Prelude.{◌≡◌};
 ghost use Rattle.c_types_rules.specs.Scopes.{stands, is_hidden, specifier_refusals_in, pointer_in};
 ghost use Rattle.c_tree.specs.Syntax.{specifier_tree};
 ghost use Rattle.c_types_names.specs.Seen.{kind_seen};
-ghost use Rattle.c_types_names.specs.Lowered.{lowered};
+ghost use Rattle.c_types_names.specs.FirstRefusal.{with_refusals};
 
 use crate::env::Env;
-use crate::first::First;
+use crate::first_refusal::FirstRefusal;
 use crate::kinds::Kind;
 use crate::objects::{LEFT_OUT, is_alias, pointer_of, specifier_refusals};
 use c_tree::places::place_of_specifier;
@@ -34,9 +34,9 @@ pub fn is_hidden(env: &Env, specifier: &TypeSpecifier) -> bool
 }
 
 /// Refuses a name in a specifier that is not declared, and one that is hidden.
-#[tactic(auto, using(crate::proofs::Lowering::lowering))]
-pub fn specifier_refusals_in(env: &Env, specifier: &TypeSpecifier, first: &mut First)
-    ensures { first.new ≡ lowered first.old (specifier_refusals_in env.now (specifier_tree specifier.now)) }
+#[tactic(auto, using(crate::proofs::FirstRefusals::more_refusals))]
+pub fn specifier_refusals_in(env: &Env, specifier: &TypeSpecifier, first: &mut FirstRefusal)
+    ensures { first.new ≡ with_refusals first.old (specifier_refusals_in env.now (specifier_tree specifier.now)) }
 {
     specifier_refusals(env.tables(), specifier, first);
     let hidden = is_hidden(env, specifier);

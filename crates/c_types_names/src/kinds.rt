@@ -1,10 +1,13 @@
 //! Types as the typing rules see them.
-ghost use Rattle.std.specs.Prelude.{◌≡◌};
+ghost use Rattle.std.specs.Prelude.{◌≡◌, IfOk};
 ghost use Rattle.std.specs.Str.{bytes_eq};
 ghost use Rattle.c_types_rules.specs.Types.{same_type, may_agree, may_be_int, may_be_scalar, may_be_compared};
+ghost use Rattle.c_types_rules.specs.Programs.{known};
 ghost use Rattle.c_types_names.specs.Seen.{type_seen, kind_seen};
 
-use shape_data::Name;
+use shape_data::program::Ty;
+use shape_data::{Name, copy_of};
+use std::alloc::AllocError;
 
 /// A type.
 #[derive(Clone, Copy)]
@@ -17,6 +20,42 @@ pub enum CType<'a> {
 
 /// The type of an expression or an object, or None where it is not known.
 pub type Kind<'a> = Option<CType<'a>>;
+
+/// The type as data of its own.
+///
+/// # Errors
+///
+/// Only want of memory.
+pub fn type_of(kind: CType) -> Result<Ty, AllocError>
+    ensures { IfOk result (λ ty. ty ≡ type_seen kind.entry) }
+{
+    match kind {
+        CType::Int => Ok(Ty::Int),
+        CType::Pointer(tag) => Ok(Ty::Ptr(copy_of(tag)?)),
+        CType::Void => Ok(Ty::Void),
+    }
+}
+
+/// The type, where it is known, or else int.
+pub fn known(kind: Kind) -> CType
+    ensures { type_seen result ≡ known (kind_seen kind.entry) }
+{
+    match kind {
+        None => CType::Int,
+        Some(found) => found,
+    }
+}
+
+/// The type as data of its own, where it is known, or else int.
+///
+/// # Errors
+///
+/// Only want of memory.
+pub fn known_type(kind: Kind) -> Result<Ty, AllocError>
+    ensures { IfOk result (λ ty. ty ≡ known (kind_seen kind.entry)) }
+{
+    type_of(known(kind))
+}
 
 /// Whether the names have the same bytes.
 pub fn same_name(one: &Name, other: &Name) -> bool

@@ -4,12 +4,12 @@
 
 pub mod declared;
 pub mod env;
-pub mod first;
-mod firsts;
+mod first_of_name;
+pub mod first_refusal;
 pub mod hiding;
 pub mod kinds;
 pub mod name_set;
-pub mod named;
+pub mod name_tables;
 pub mod objects;
 pub mod struct_fields;
 pub mod tables;

@@ -3,7 +3,7 @@ ghost use Rattle.std.specs.Prelude.{◌≡◌, ◌||◌, ℕ, List, false, OnOk}
 ghost use Rattle.std.specs.Str.{bytes_eq};
 ghost use Rattle.c_types_names.specs.NameSets.{has};
 
-use crate::firsts::{Firsts, add_first, first_of};
+use crate::first_of_name::{Firsts, add_first, first_of};
 use c_tree::Name;
 use indexmap::IndexMap;
 use std::alloc::{AllocError, Global};

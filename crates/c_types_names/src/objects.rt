@@ -1,12 +1,27 @@
 //! The types of objects: variables, parameters, fields and results.
 ghost use Rattle.std.specs.Prelude.{◌≡◌, option_map};
-ghost use Rattle.c_types_rules.specs.Tables.{pointer_to, pointer_of, specifier_refusals, names_structure, object_kind, may_be_object, result_kind, may_be_result, field_kind, field_of, param_kind, kind_of_result, is_defined, is_alias};
+ghost use Rattle.c_types_rules.specs.Tables.{
+  pointer_to,
+  pointer_of,
+  specifier_refusals,
+  names_structure,
+  object_kind,
+  may_be_object,
+  result_kind,
+  may_be_result,
+  field_kind,
+  field_of,
+  param_kind,
+  kind_of_result,
+  is_defined,
+  is_alias,
+};
 ghost use Rattle.c_tree.specs.Syntax.{specifier_tree, declarator_tree, param_tree, head_tree};
 ghost use Rattle.c_types_names.specs.Seen.{kind_seen, field_seen};
-ghost use Rattle.c_types_names.specs.Lowered.{lowered};
+ghost use Rattle.c_types_names.specs.FirstRefusal.{with_refusals};
 ghost use Rattle.c_types_names.specs.Specifiers.{is_int, is_void};
 
-use crate::first::First;
+use crate::first_refusal::FirstRefusal;
 use crate::kinds::{CType, Kind};
 use crate::tables::Tables;
 use c_tree::{Declarator, Head, Ident, Name, Param, TypeSpecifier};
@@ -69,9 +84,9 @@ pub fn pointer_of<'a>(tables: &Tables<'a>, specifier: &'a TypeSpecifier) -> Kind
 }
 
 /// Refuses a name in a specifier that is not declared.
-#[tactic(auto, using(crate::proofs::Lowering::lowering))]
-pub fn specifier_refusals(tables: &Tables, specifier: &TypeSpecifier, first: &mut First)
-    ensures { first.new ≡ lowered first.old (specifier_refusals tables.now (specifier_tree specifier.now)) }
+#[tactic(auto, using(crate::proofs::FirstRefusals::more_refusals))]
+pub fn specifier_refusals(tables: &Tables, specifier: &TypeSpecifier, first: &mut FirstRefusal)
+    ensures { first.new ≡ with_refusals first.old (specifier_refusals tables.now (specifier_tree specifier.now)) }
 {
     match specifier {
         TypeSpecifier::Int(_) => {}

@@ -3,10 +3,19 @@ ghost use Rattle.std.specs.Prelude.{◌≡◌, ◌<◌, [], ◌∷◌, ◌++◌,
 ghost use Rattle.std.specs.Str.{bytes_eq};
 ghost use Rattle.indexmap.specs.IndexMap.{spare};
 ghost use Rattle.c_tree.specs.Syntax.{specifier_tree, declarator_tree, fields_tree};
-ghost use Rattle.c_types_names.specs.Firsts.{first_of, or_first};
-ghost use Rattle.c_types_names.specs.StructFields.{declared_seen, declared_by_one, declared_in_line, declared_fields, field_named, field_in_table, place_named, place_in_table};
+ghost use Rattle.c_types_names.specs.FirstOfName.{first_of, or_first};
+ghost use Rattle.c_types_names.specs.StructFields.{
+  declared_seen,
+  declared_by_one,
+  declared_in_line,
+  declared_fields,
+  field_named,
+  field_in_table,
+  place_named,
+  place_in_table,
+};
 
-use crate::firsts::{Firsts, add_first, first_of};
+use crate::first_of_name::{Firsts, add_first, first_of};
 use crate::kinds::same_name;
 use c_tree::{Declarator, FieldDecl, Name, TypeSpecifier};
 use indexmap::IndexMap;
@@ -28,7 +37,7 @@ pub struct StructFields<'a> {
 
 impl<'a> Model for StructFields<'a> {
     ghost use Rattle.std.specs.Prelude.{◌≡◌, ℕ, List, map, option_map};
-    ghost use Rattle.c_types_names.specs.Firsts.{first_of};
+    ghost use Rattle.c_types_names.specs.FirstOfName.{first_of};
     ghost use Rattle.c_types_names.specs.StructFields.{DeclaredTree, declared_seen, field_named};
 
     ghost Value = { List DeclaredTree };
@@ -109,7 +118,8 @@ impl<'a> StructFields<'a> {
         specifier: &'a TypeSpecifier,
         declarator: &'a Declarator,
     ) -> Result<(), AllocError>
-        ensures { OnOk result (self.new ≡ self.old ++ declared_by_one (specifier_tree specifier.now) (declarator_tree declarator.now) ∷ []) }
+        ensures { OnOk result (self.new ≡ self.old ++ declared_by_one (specifier_tree specifier.now)
+            (declarator_tree declarator.now) ∷ []) }
     {
         self.push(DeclaredField {
             specifier,

@@ -1,14 +1,24 @@
 //! What the structures, the names of types and the procedures of a program are.
 ghost use Rattle.std.specs.Prelude.{◌≡◌, [], ◌∷◌, option_map, OnOk, map};
 ghost use Rattle.std.specs.Option.{option_copied};
-ghost use Rattle.c_types_rules.specs.Tables.{no_tables, field_place, structure_in, alias_in, procedure_in, joined, declares, declared_by, tag_or};
+ghost use Rattle.c_types_rules.specs.Tables.{
+  no_tables,
+  field_place,
+  structure_in,
+  alias_in,
+  procedure_in,
+  joined,
+  declares,
+  declared_by,
+  tag_or,
+};
 ghost use Rattle.c_types_rules.specs.Items.{definitions};
 ghost use Rattle.c_tree.specs.Syntax.{item_tree, ident_tree, fields_tree};
 ghost use Rattle.c_types_names.specs.Seen.{structure_seen, alias_seen, procedure_seen};
 ghost use Rattle.c_types_names.specs.StructFields.{declared_seen, fields_of, field_in_table};
 
 use crate::declared::{Alias, Procedure, Structure};
-use crate::named::{Aliases, Procedures, Structures};
+use crate::name_tables::{Aliases, Procedures, Structures};
 use crate::struct_fields::{
     DeclaredField, FieldTable, StructFields, add_fields, field_in_table, place_in_table,
 };
@@ -28,7 +38,7 @@ pub struct Tables<'a> {
 impl<'a> Model for Tables<'a> {
     ghost use Rattle.std.specs.Prelude.{◌≡◌, ℕ, List, option_map};
     ghost use Rattle.c_types_rules.specs.Tables.{Tables, structure_in};
-    ghost use Rattle.c_types_names.specs.Firsts.{first_of};
+    ghost use Rattle.c_types_names.specs.FirstOfName.{first_of};
     ghost use Rattle.c_types_names.specs.StructFields.{fields_of};
 
     ghost Value = { Tables };
@@ -96,7 +106,8 @@ impl<'a> Tables<'a> {
 
     /// The first field of the name in the first structure of the tag.
     pub fn field(&self, tag: &Name, name: &Name) -> Option<DeclaredField<'a>>
-        ensures { option_map declared_seen result ≡ field_in_table (option_map fields_of (structure_in self.now.structures tag.now)) name.now }
+        ensures { option_map declared_seen result ≡ field_in_table
+            (option_map fields_of (structure_in self.now.structures tag.now)) name.now }
     {
         field_in_table(&self.fields, tag, name)
     }
@@ -131,7 +142,12 @@ impl<'a> Tables<'a> {
 
     /// With one more structure.
     fn push_structure(&mut self, tag: &'a Name, lines: &'a Vec<FieldDecl>) -> Result<(), AllocError>
-        ensures { OnOk result (self.new ≡ joined self.old (record { structures = record { tag = tag.now; lines = map fields_tree lines.now.items } ∷ []; aliases = []; procedures = [] })) }
+        ensures { OnOk result (self.new ≡ joined self.old
+            (record {
+              structures = record { tag = tag.now; lines = map fields_tree lines.now.items } ∷ [];
+              aliases = [];
+              procedures = [];
+            })) }
     {
         let mut fields = StructFields::new(*self.fields.allocator());
         fields.push_lines(lines.as_slice())?;

@@ -4,7 +4,7 @@ ghost use Rattle.c_types_rules.specs.Scopes.{variable_in};
 ghost use Rattle.c_types_names.specs.Seen.{variable_seen, stacked};
 ghost use Rattle.c_types_names.specs.Bindings.{IsBound, bound_of, variable_of};
 
-use crate::firsts::{Firsts, first_of};
+use crate::first_of_name::{Firsts, first_of};
 use crate::kinds::Kind;
 use c_tree::Name;
 use indexmap::IndexMap;

@@ -6,9 +6,10 @@ use Rattle.std.specs.Str.{bytes_eq}
 use Rattle.shape_data.specs.declared.program.Ty.TheVariants.{Int, Ptr}
 use Rattle.c_tokens.specs.declared.places.Place.{Place}
 use Rattle.c_tokens.specs.declared.places.Refusal.{Refusal}
+use Rattle.c_tokens.specs.Places.{refusal}
 use Rattle.c_grammar.specs.Trees.{Name, BinaryOp, PrefixOp, Expr, Links, Args}
 use Rattle.c_grammar.specs.FirstPlaces.{place_of_expr}
-use Rattle.c_types_rules.specs.Types.{Kind, IsKnown, may_be_int, UNDECLARED, refusal}
+use Rattle.c_types_rules.specs.Types.{Kind, IsKnown, may_be_int, UNDECLARED}
 use Rattle.c_types_rules.specs.Tables.{Procedure, Tables, FieldKind, procedure_in, is_defined, pointer_of, field_of}
 use Rattle.c_types_rules.specs.Scopes.{Variable, Env, variable_in, variable}
 use Rattle.c_types_rules.specs.Expressions.{kind_of_variable, kind_of_field, kind_of_call, kind_of_member, kind_of_members, int_of, kind_of_binary, kind_of_prefix, kind_of, kind_of_chain, is_null, Given, given_by, may_stand_by, may_stand_behind, lacks, member_refusals, members_refusals, callee_refusals, expr_refusals, links_refusals, args_refusals, call_refusals, whole_refusals}

@@ -1,4 +1,4 @@
-mod First
+pub mod First
 mod Places
 mod OwnTypes
 pub mod KnownTables

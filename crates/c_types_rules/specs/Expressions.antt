@@ -4,9 +4,10 @@ use Rattle.std.specs.Prelude.{ℕ, zero, suc, Bool, true, false, ◌&&◌, ◌||
 use Rattle.shape_data.specs.declared.program.Ty.TheVariants.{Int, Ptr, Void}
 use Rattle.c_tokens.specs.declared.places.Place.{Place}
 use Rattle.c_tokens.specs.declared.places.Refusal.{Refusal}
+use Rattle.c_tokens.specs.Places.{refusal}
 use Rattle.c_grammar.specs.Trees.{Name, Specifier, BinaryOp, PrefixOp, Expr, Links, Args}
 use Rattle.c_grammar.specs.FirstPlaces.{place_of_expr}
-use Rattle.c_types_rules.specs.Types.{Kind, may_agree, may_be_int, may_be_scalar, may_be_compared, refusal, unless, UNDECLARED, CLASH, ARGUMENTS, LEFT_OUT}
+use Rattle.c_types_rules.specs.Types.{Kind, may_agree, may_be_int, may_be_scalar, may_be_compared, unless, UNDECLARED, CLASH, ARGUMENTS, LEFT_OUT}
 use Rattle.c_types_rules.specs.Tables.{Tables, Procedure, FieldKind, procedure_in, is_defined, pointer_of, names_structure, field_of, param_kinds, kind_of_result}
 use Rattle.c_types_rules.specs.Scopes.{Env, Variable, variable, specifier_refusals_in, pointer_in}
 

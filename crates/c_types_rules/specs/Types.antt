@@ -6,6 +6,7 @@ use Rattle.shape_data.specs.declared.program.Ty.{Ty}
 use Rattle.shape_data.specs.declared.program.Ty.TheVariants.{Int, Ptr, Void}
 use Rattle.c_tokens.specs.declared.places.Place.{Place}
 use Rattle.c_tokens.specs.declared.places.Refusal.{Refusal}
+use Rattle.c_tokens.specs.Places.{refusal}
 
 -- the type of an expression or an object, or None where it is not known: then a cause of that is refused elsewhere
 abbrev pub Kind : Type 0
@@ -69,9 +70,6 @@ DIFFERS = 125
 -- a construct that the subset leaves out
 abbrev pub LEFT_OUT : ℕ
 LEFT_OUT = 126
-
-abbrev pub refusal : Place → ℕ → Refusal
-refusal place code = record { line = place.line; column = place.column; code = code }
 
 -- what a rule asks for holds, or else the place is refused
 abbrev pub unless : Bool → Place → ℕ → List Refusal

@@ -4,13 +4,13 @@ ghost use Rattle.c_types_rules.specs.Statements.{refuses};
 ghost use Rattle.c_types_stmts.specs.Adding.{Adds};
 
 use c_tree::Place;
-use c_types_exprs::listed::Kinds;
-use c_types_names::first::First;
+use c_types_exprs::all_kinds::Kinds;
+use c_types_names::first_refusal::FirstRefusal;
 
 /// What is found in a text so far: the first refusal, and the types of its expressions.
 #[derive(Drop)]
 pub struct Finding<'a> {
-    pub first: First,
+    pub first: FirstRefusal,
     pub kinds: Kinds<'a>,
 }
 

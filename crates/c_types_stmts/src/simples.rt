@@ -8,10 +8,10 @@ ghost use Rattle.c_types_stmts.specs.Adding.{Adds};
 use crate::finding::Finding;
 use c_tree::places::place_of_expr;
 use c_tree::{AssignOp, Expr, Ident, Simple};
+use c_types_exprs::all_kinds::{push_args, push_kinds};
 use c_types_exprs::exprs::{is_null, kind_of, kind_of_call};
-use c_types_exprs::given::{fits, given_by, gives_int, gives_pointer};
-use c_types_exprs::listed::{push_args, push_kinds};
-use c_types_exprs::refused::{call_refusals, expr_refusals, whole_refusals};
+use c_types_exprs::refusals::{call_refusals, expr_refusals, whole_refusals};
+use c_types_exprs::value_types::{fits, given_by, gives_int, gives_pointer};
 use c_types_names::env::Env;
 use c_types_names::kinds::may_be_int;
 use c_types_names::objects::{CLASH, LEFT_OUT};
@@ -98,7 +98,8 @@ fn assigned<'a>(
     right: &'a Expr,
     found: &mut Finding<'a>,
 ) -> Result<(), AllocError>
-    ensures { OnOk result (Adds (rule.simple env.now (SimpleTree.Assign (expr_tree left.now) (assign_tree op) (expr_tree right.now))) found.old found.new) }
+    ensures { OnOk result (Adds
+        (rule.simple env.now (SimpleTree.Assign (expr_tree left.now) (assign_tree op) (expr_tree right.now))) found.old found.new) }
 {
     target(env, left, found)?;
     whole(env, right, found)?;

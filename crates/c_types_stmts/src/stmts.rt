@@ -13,7 +13,7 @@ use crate::locals::{declaration, init};
 use crate::simples::{plain, simple, whole};
 use c_tree::places::place_of_expr;
 use c_tree::{Block, Expr, Place, Simple, Stmt};
-use c_types_exprs::given::{fits, given_by, gives_scalar};
+use c_types_exprs::value_types::{fits, given_by, gives_scalar};
 use c_types_names::env::Env;
 use c_types_names::kinds::{CType, Kind};
 use c_types_names::objects::{CLASH, LEFT_OUT};
@@ -99,7 +99,8 @@ fn returned<'a>(
     value: &'a Option<Expr>,
     found: &mut Finding<'a>,
 ) -> Result<(), AllocError>
-    ensures { OnOk result (Adds (rule.returned env.now (kind_seen answer.entry) place (option_map expr_tree value.now)) found.old found.new) }
+    ensures { OnOk result (Adds
+        (rule.returned env.now (kind_seen answer.entry) place (option_map expr_tree value.now)) found.old found.new) }
 {
     match value {
         None => {
@@ -196,7 +197,8 @@ fn nested<'a>(
     body: &'a Box<Stmt>,
     found: &mut Finding<'a>,
 ) -> Result<(), AllocError>
-    ensures found { OnOk result (Adds (rule.stmt (entered env.old) (kind_seen answer.entry) loops (stmt_tree body.now.value)) found.old found.new) }
+    ensures found { OnOk result
+        (Adds (rule.stmt (entered env.old) (kind_seen answer.entry) loops (stmt_tree body.now.value)) found.old found.new) }
     ensures env { OnOk result (env.new ≡ env.old) }
 {
     let begin = env.enter();
@@ -214,7 +216,8 @@ fn block<'a>(
     body: &'a Block,
     found: &mut Finding<'a>,
 ) -> Result<(), AllocError>
-    ensures found { OnOk result (Adds (rule.stmts (entered env.old) (kind_seen answer.entry) loops (block_tree body.now).body) found.old found.new) }
+    ensures found { OnOk result
+        (Adds (rule.stmts (entered env.old) (kind_seen answer.entry) loops (block_tree body.now).body) found.old found.new) }
     ensures env { OnOk result (env.new ≡ env.old) }
 {
     let begin = env.enter();

@@ -11,13 +11,13 @@ use Rattle.shape_data.specs.declared.program.Proc.{Proc}
 use Rattle.shape_data.specs.declared.program.Program.{Program}
 use Rattle.shape_data.specs.Sizes.{HasFewSlots, HasProgramSizes, IsNarrow}
 use Rattle.c_tokens.specs.declared.places.Place.{Place}
-use Rattle.c_grammar.specs.Trees.{Declarator, Fields, Head, Stmts, Item, File}
+use Rattle.c_grammar.specs.Trees.{Fields, Head, Stmts, Item, File}
 use Rattle.c_grammar.specs.FirstPlaces.{place_of_head}
 use Rattle.c_types_rules.specs.Items.{field_names, listed}
 use Rattle.c_types_rules.specs.Laws.{HaveFirst}
 use Rattle.c_types_rules.specs.Programs.{field_def, first_refusal, first_structures, in_unit, is_among, known, struct_def}
 use Rattle.c_types_rules.specs.Programs.{tables_of}
-use Rattle.c_types_rules.specs.Tables.{Structure, Tables, declared_by, field_kind, field_kinds, items_of, param_kind}
+use Rattle.c_types_rules.specs.Tables.{Structure, Tables, declared_by, field_kinds, items_of, param_kind}
 use Rattle.c_types_rules.specs.Types.{unless}
 use Rattle.c_types_rules.proofs.KnownPrograms.{nothing_mapped}
 use Rattle.c_types_rules.proofs.KnownTables.{all_append, holds, nil_left, nil_right}
@@ -26,6 +26,8 @@ use Rattle.c_lower_rules.specs.Programs.{fields_refusals, files_procs, files_ref
 use Rattle.c_lower_rules.specs.Programs.{items_procs, items_refusals, lowered_body, param_types, program_of, size_refusals, slot_types}
 use Rattle.c_lower_rules.specs.Programs.{temp_kind, MOST_NODES, NODES}
 use Rattle.c_lower_rules.specs.Statements.{Lowered, stmts_kinds}
+use Rattle.c_lower_rules.proofs.Structures.{fields_length}
+use Rattle.c_lower_rules.proofs.WellFormed.{sizes_flat}
 use Rattle.project_form.specs.declared.fault.Refused.{Refused}
 use Rattle.project_form.specs.Files.{SourceFile}
 use Rattle.project_form.specs.Reads.{Reads, answer_of, first_refused, names_of, refusal_of, refused_at, refused_proc, syntax_refusal}
@@ -63,21 +65,10 @@ firsts_few before (first ∷ others) few = by_test (is_among before first) (firs
     by_test true left kept = left
     by_test false left kept = (few.0, kept)
 
--- as many fields have types as have names
-fields_long : (tables : Tables) (lines : List Fields) → length (field_kinds tables lines) ≡ length (field_names lines)
-fields_long tables [] = refl
-fields_long tables (line ∷ lines) =
-    let kinds = length-map (line.first ∷ line.others) (field_kind tables line.specifier) in
-    let names = length-map (line.first ∷ line.others) (λ (decl : Declarator). decl.name) in
-    let both = length-append (map (field_kind tables line.specifier) (line.first ∷ line.others)) (field_kinds tables lines) in
-    let same = length-append (map (λ (decl : Declarator). decl.name) (line.first ∷ line.others)) (field_names lines) in
-    let more = fields_long tables lines in
-    omega (arith, kinds, names, both, same, more)
-
 struct_narrow : (tables : Tables) (found : Structure) → HasFewFields found → IsNarrow (struct_def tables found)
 struct_narrow tables found few =
     let mapped = length-map (field_kinds tables found.lines) field_def in
-    let same = fields_long tables found.lines in
+    let same = fields_length tables found.lines in
     omega (arith, mapped, same, few)
 
 structs_narrow : (tables : Tables) (all : List Structure) → AllByRecursion HasFewFields all →
@@ -135,25 +126,12 @@ procs_small tables unit (name ∷ names) (file ∷ files) none =
 
 -- PROGRAMS
 
-items_none : (tables : Tables) (xs ys : List Item) → items_refusals tables xs ≡ [] → items_refusals tables ys ≡ [] →
-    items_refusals tables (xs ++ ys) ≡ []
-items_none tables [] ys none nor = nor
-items_none tables (x ∷ xs) ys none nor = rw (nil_left (item_refusals tables x) _ none) (items_none tables xs ys (nil_right _ _ none) nor)
-
--- what is refused in no file is refused in no item
-files_none : (tables : Tables) (unit : ℕ) (files : List File) → files_refusals tables unit files ≡ [] →
-    items_refusals tables (items_of files) ≡ []
-files_none tables unit [] none = refl
-files_none tables unit (file ∷ files) none =
-    items_none tables file.items (items_of files) (nothing_mapped (in_unit unit) (items_refusals tables file.items) (nil_left _ _ none))
-    (files_none tables (suc unit) files (nil_right _ _ none))
-
 sized : HaveFirst → (names : List (List ℕ)) (files : List File) → first_too_large files ≡ None → HasProgramSizes (program_of names files)
 sized first names files none =
     let tables = tables_of files in
     let small : files_refusals tables 0 files ≡ [] = first.empty (files_refusals tables 0 files) none in
     record {
-      structs = structs_narrow tables tables.structures (structures_few tables (items_of files) (files_none tables 0 files small));
+      structs = structs_narrow tables tables.structures (structures_few tables (items_of files) (sizes_flat tables 0 files small));
       procs = All-from_recursion IsSmall (files_procs tables names files) (procs_small tables 0 names files small);
     }
 

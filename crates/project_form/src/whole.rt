@@ -124,7 +124,8 @@ fn lowered_files(alloc: Global, names: &[Name], typed: Typed<'_>) -> Result<Prog
     requires lowerable { All IsLowerable (files_of typed.units.now) }
     ensures program { IfOk result (λ program. program ≡ lowered_program names.now (files_of typed.entry.units.now)) }
     ensures small { IfOk result (λ _. first_too_large (files_of typed.entry.units.now) ≡ None) }
-    ensures fault { IfErr result (λ fault. IsFirstFault (option_map (refused_at names.now) (first_too_large (files_of typed.entry.units.now))) fault) }
+    ensures fault { IfErr result
+        (λ fault. IsFirstFault (option_map (refused_at names.now) (first_too_large (files_of typed.entry.units.now))) fault) }
 {
     laws::first_refusal();
     match lower(alloc, typed, names) {

@@ -2,7 +2,7 @@ use Rattle.std.proofs.Common.{subst}
 use Rattle.std.proofs.lemmas.Result.{IfOk-weaker}
 use Rattle.c_types_rules.specs.Tables.{Tables}
 use Rattle.c_tree.specs.Syntax.{head_tree, block_tree}
-use Rattle.c_lower_emit.specs.declared.drafts.Target.TheVariants.{At}
+use Rattle.c_lower_emit.specs.declared.drafts.Label.TheVariants.{At}
 use Rattle.c_lower.specs.Closing.{closed_of, behind_opening, no_out, Closes}
 use Rattle.c_lower.proofs.Whole.{begun_later}
 use Rattle.c_lower.proofs.body.lower_body.Goals as goal

@@ -6,7 +6,7 @@ use Rattle.c_lower_rules.specs.Temporaries.{released}
 use Rattle.c_lower_rules.specs.Numbers.{StmtsHaveIntNumbers}
 use Rattle.c_lower_rules.specs.Statements.{stmts}
 use Rattle.c_tree.specs.Syntax.{block_tree}
-use Rattle.c_lower_emit.specs.declared.drafts.Target.TheVariants.{At}
+use Rattle.c_lower_emit.specs.declared.drafts.Label.TheVariants.{At}
 use Rattle.c_lower_emit.specs.Emitting.{HasRoom, EmitsCode}
 use Rattle.c_lower_exprs.specs.Contexts.{on_line}
 use Rattle.c_lower_stmts.specs.Laying.{state, EmitsLowered}

@@ -2,7 +2,7 @@ use Rattle.std.proofs.Common.{◌≡◌, ◌∷◌, [], ◌++◌, length, ap, sy
 use Rattle.c_types_rules.specs.Tables.{Tables}
 use Rattle.c_lower_rules.specs.Programs.{proc_of}
 use Rattle.c_lower_rules.specs.Statements.{stmts_kinds}
-use Rattle.c_types_names.specs.Lowered.{lowered}
+use Rattle.c_types_names.specs.FirstRefusal.{with_refusals}
 use Rattle.c_lower_sizes.specs.Sizes.{stmts_locals}
 use Rattle.c_tree.specs.Syntax.{head_tree, block_tree, stmts_tree}
 use Rattle.c_lower.specs.declared.sizes.Sizes.{Sizes}
@@ -25,10 +25,11 @@ returns-then-not-fit-clause-built c =
       c.requires.size,
       c.locals_have_types.ensures tables block.body,
     ) in
+    let count = c.param_count.ensures (omega (arith, c.requires.params)) in
     let all = sized_body tables (head_tree c.args.head.now) block found sizes c.place_of_specifier.result c.in_ok-body.ensures.body
-    (c.len.ensures ∙ found.nodes.ok.0) c.param_count.ensures locals (c.len-2.ensures ∙ found.temps.ok.0) c.place_of_specifier.ensures in
+    (c.len.ensures ∙ found.nodes.ok.0) count locals (c.len-2.ensures ∙ found.temps.ok.0) c.place_of_specifier.ensures in
     record {
-      first = c.refuse.ensures ∙ ap (lowered c.args.built.now.first) all;
+      first = c.refuse.ensures ∙ ap (with_refusals c.args.built.now.first) all;
       procs = λ none. absurd (refused_of sizes c.place_of_specifier.result (sym c.fit.ensures ∙ c.if-not-fit.true) (all ∙ none));
     }
 
@@ -49,10 +50,11 @@ returns-clause-built c =
       c.requires.size,
       c.locals_have_types.ensures tables block.body,
     ) in
+    let count = c.param_count.ensures (omega (arith, c.requires.params)) in
     let all = sized_body tables head block found sizes c.place_of_specifier.result c.in_ok-body.ensures.body
-    (c.len.ensures ∙ found.nodes.ok.0) c.param_count.ensures locals (c.len-2.ensures ∙ found.temps.ok.0) c.place_of_specifier.ensures in
+    (c.len.ensures ∙ found.nodes.ok.0) count locals (c.len-2.ensures ∙ found.temps.ok.0) c.place_of_specifier.ensures in
     record {
-      first = c.refuse.ensures ∙ ap (lowered c.args.built.now.first) all;
+      first = c.refuse.ensures ∙ ap (with_refusals c.args.built.now.first) all;
       procs = λ none.
           c.in_ok-push.ensures.ok
           ∙ ap (λ p. c.args.built.now.procs ++ p ∷ [])

@@ -8,7 +8,7 @@ use Rattle.c_tree.proofs.Trees.{empty_is, if_is, while_is, do_while_is, for_is}
 use Rattle.c_lower_rules.specs.Contexts.{Context, within_scope}
 use Rattle.c_lower_rules.specs.Statements.{inside, stmt, stmts, condition, for_init, for_step, from_place, simple_from, declaration}
 use Rattle.c_lower_rules.specs.Numbers.{StmtHasIntNumbers, StmtsHaveIntNumbers}
-use Rattle.c_lower_emit.specs.declared.drafts.Target.TheVariants.{Next, Breaks, Continues}
+use Rattle.c_lower_emit.specs.declared.drafts.Label.TheVariants.{Next, Breaks, Continues}
 use Rattle.c_lower_emit.specs.Emitting.{EmitsTested}
 use Rattle.c_lower_exprs.specs.Contexts.{on_line, IsWithin}
 use Rattle.c_lower_stmts.specs.Laying.{state, EmitsLowered, EmitsWithin}
@@ -96,69 +96,87 @@ stmt-returns-in_ok-second-in-Some-clause-laid t c = λ numbers line.
     c.args.out.now c.tested.new.out c.nested.new.out c.nested-in-Some.new.out c.choose-in-Some.new.out c.len-from.ensures c.len-past.ensures c.at-in-Some.ensures
     (c.in_ok-tested-in-If.ensures n.0 line c.args.locals) (c.in_ok-first-in-If.ensures.laid n.1 line) two c.choose-in-Some.ensures))
 
-pub stmt-returns-in_ok-close-in-While-clause-laid : goal.stmt-returns-in_ok-close-in-While-clause-laid
-stmt-returns-in_ok-close-in-While-clause-laid t c = λ numbers line.
+pub stmt-returns-in-While-clause-laid : goal.stmt-returns-in-While-clause-laid
+stmt-returns-in-While-clause-laid t c =
     let s = c.in-While in
     let tree_is = ap stmt_tree s.is ∙ while_is s.place s.test s.body in
-    let n = subst StmtHasIntNumbers tree_is numbers in
-    let opened = c.in_ok-opened-in-While in
-    let first = c.in_ok-laid-in-While.laid in
-    subst (λ x. EmitsLowered (stmt x (state (on_line c.args.c.now line) c.args.locals c.args.out.now)) c.args.c.now c.args.locals c.nested-in-While.new.c (record { begin = c.at-in-While.result; locals = first.locals }) c.args.out.now c.close.new.out)
-    (sym tree_is)
-    (subst (λ x. EmitsLowered (stmt (tree.Stmt.While s.place (expr_tree s.test) (stmt_tree s.body.value)) (state (on_line c.args.c.now line) c.args.locals c.args.out.now)) c.args.c.now c.args.locals x (record { begin = c.at-in-While.result; locals = first.locals }) c.args.out.now c.close.new.out)
-    (sym c.in_ok-laid-in-While.ensures.context)
-    (while_laid c.args.c.now line c.args.locals opened.opened.head opened.opened.index c.len-from-in-While.result c.len-past-in-While.result opened.opened.visible.items s.place (expr_tree s.test) (stmt_tree s.body.value) first
-    c.at-in-While.result c.args.out.now c.tested-in-While.new.out c.nested-in-While.new.out c.close.new.out opened.ensures.head opened.ensures.index opened.ensures.visible c.len-from-in-While.ensures
-    c.len-past-in-While.ensures c.at-in-While.ensures (c.in_ok-tested-in-While.ensures n.0 line c.args.locals) (c.in_ok-laid-in-While.ensures.laid n.1 line) c.in_ok-close-in-While.ensures))
+    IfOk-weaker c.while_loop.result _ _ (λ laid is numbers line.
+    subst (λ x. EmitsLowered (stmt x (state (on_line c.args.c.now line) c.args.locals c.args.out.now)) c.args.c.now c.args.locals c.while_loop.new.c laid c.args.out.now c.while_loop.new.out) (sym tree_is)
+    (is s.place (subst StmtHasIntNumbers tree_is numbers) line)) c.while_loop.ensures.laid
 
-pub stmt-returns-in_ok-begin-in-DoWhile-clause-laid : goal.stmt-returns-in_ok-begin-in-DoWhile-clause-laid
-stmt-returns-in_ok-begin-in-DoWhile-clause-laid t c = λ numbers line.
+pub stmt-returns-in-DoWhile-clause-laid : goal.stmt-returns-in-DoWhile-clause-laid
+stmt-returns-in-DoWhile-clause-laid t c =
     let s = c.in-DoWhile in
     let tree_is = ap stmt_tree s.is ∙ do_while_is s.place s.body s.test in
-    let n = subst StmtHasIntNumbers tree_is numbers in
-    let opened = c.in_ok-opened-in-DoWhile in
-    let first = c.in_ok-laid-in-DoWhile.laid in
-    let kept = c.in_ok-laid-in-DoWhile.ensures.context in
-    let cond : EmitsTested (condition (state (on_line c.args.c.now line) first.locals c.nested-in-DoWhile.new.out) (expr_tree s.test)) c.args.c.now.first_temp c.nested-in-DoWhile.new.out c.tested-in-DoWhile.new.out =
-    subst (λ (x : Context). EmitsTested (condition (state (on_line x line) first.locals c.nested-in-DoWhile.new.out) (expr_tree s.test)) x.first_temp c.nested-in-DoWhile.new.out c.tested-in-DoWhile.new.out) kept
-    (c.in_ok-tested-in-DoWhile.ensures n.1 line first.locals) in
-    subst (λ x. EmitsLowered (stmt x (state (on_line c.args.c.now line) c.args.locals c.args.out.now)) c.args.c.now c.args.locals c.nested-in-DoWhile.new.c (record { begin = c.in_ok-begin-in-DoWhile.begin; locals = first.locals }) c.args.out.now c.close_behind.new.out)
-    (sym tree_is)
-    (subst (λ x. EmitsLowered (stmt (tree.Stmt.DoWhile s.place (stmt_tree s.body.value) (expr_tree s.test)) (state (on_line c.args.c.now line) c.args.locals c.args.out.now)) c.args.c.now c.args.locals x (record { begin = c.in_ok-begin-in-DoWhile.begin; locals = first.locals }) c.args.out.now c.close_behind.new.out)
-    (sym kept)
-    (do_laid c.args.c.now line c.args.locals opened.opened.head opened.opened.index c.len-from-in-DoWhile.result opened.opened.visible.items s.place (expr_tree s.test) (stmt_tree s.body.value) first
-    c.in_ok-begin-in-DoWhile.begin c.args.out.now c.nested-in-DoWhile.new.out c.tested-in-DoWhile.new.out c.close_behind.new.out opened.ensures.head opened.ensures.index opened.ensures.visible
-    c.len-from-in-DoWhile.ensures (c.in_ok-laid-in-DoWhile.ensures.laid n.0 line) cond c.in_ok-begin-in-DoWhile.ensures))
+    IfOk-weaker c.do_loop.result _ _ (λ laid is numbers line.
+    subst (λ x. EmitsLowered (stmt x (state (on_line c.args.c.now line) c.args.locals c.args.out.now)) c.args.c.now c.args.locals c.do_loop.new.c laid c.args.out.now c.do_loop.new.out) (sym tree_is)
+    (is s.place (subst StmtHasIntNumbers tree_is numbers) line)) c.do_loop.ensures.laid
 
-pub stmt-returns-in_ok-close-in-For-clause-laid : goal.stmt-returns-in_ok-close-in-For-clause-laid
-stmt-returns-in_ok-close-in-For-clause-laid t c = λ numbers line.
+pub stmt-returns-in-For-clause-laid : goal.stmt-returns-in-For-clause-laid
+stmt-returns-in-For-clause-laid t c =
     let s = c.in-For in
-    let tree_is = ap stmt_tree s.is ∙ for_is s.place s.first s.test s.last s.body in
-    let n = subst StmtHasIntNumbers tree_is numbers in
-    let opened = c.in_ok-opened-in-For in
-    let first = c.in_ok-begun-in-For.begun in
-    let second = c.in_ok-laid-in-For.laid in
-    let third = c.in_ok-stepped-in-For.stepped in
-    let kept = c.in_ok-laid-in-For.ensures.context in
+    let tree_is = ap stmt_tree s.is ∙ for_is s.place s.init s.test s.step s.body in
+    IfOk-weaker c.for_loop.result _ _ (λ laid is numbers line.
+    subst (λ x. EmitsLowered (stmt x (state (on_line c.args.c.now line) c.args.locals c.args.out.now)) c.args.c.now c.args.locals c.for_loop.new.c laid c.args.out.now c.for_loop.new.out) (sym tree_is)
+    (is (subst StmtHasIntNumbers tree_is numbers) line)) c.for_loop.ensures.laid
+
+pub while_loop-returns-clause-laid : goal.while_loop-returns-clause-laid
+while_loop-returns-clause-laid t c = λ place n line.
+    let test = expr_tree c.args.test.now in
+    let body = stmt_tree c.args.body.now.value in
+    let opened = c.in_ok-opened in
+    let first = c.in_ok-laid.laid in
+    subst (λ x. EmitsLowered (stmt (tree.Stmt.While place test body) (state (on_line c.args.c.now line) c.args.locals c.args.out.now)) c.args.c.now c.args.locals x (record { begin = c.at.result; locals = first.locals }) c.args.out.now c.close.new.out)
+    (sym c.in_ok-laid.ensures.context)
+    (while_laid c.args.c.now line c.args.locals opened.opened.head opened.opened.index c.len-from.result c.len-past.result opened.opened.visible.items place test body first
+    c.at.result c.args.out.now c.tested.new.out c.nested.new.out c.close.new.out opened.ensures.head opened.ensures.index opened.ensures.visible c.len-from.ensures
+    c.len-past.ensures c.at.ensures (c.in_ok-tested.ensures n.0 line c.args.locals) (c.in_ok-laid.ensures.laid n.1 line) c.in_ok-close.ensures)
+
+pub do_loop-returns-clause-laid : goal.do_loop-returns-clause-laid
+do_loop-returns-clause-laid t c = λ place n line.
+    let test = expr_tree c.args.test.now in
+    let body = stmt_tree c.args.body.now.value in
+    let opened = c.in_ok-opened in
+    let first = c.in_ok-laid.laid in
+    let kept = c.in_ok-laid.ensures.context in
+    let cond : EmitsTested (condition (state (on_line c.args.c.now line) first.locals c.nested.new.out) test) c.args.c.now.first_temp c.nested.new.out c.tested.new.out =
+    subst (λ (x : Context). EmitsTested (condition (state (on_line x line) first.locals c.nested.new.out) test) x.first_temp c.nested.new.out c.tested.new.out) kept
+    (c.in_ok-tested.ensures n.1 line first.locals) in
+    subst (λ x. EmitsLowered (stmt (tree.Stmt.DoWhile place body test) (state (on_line c.args.c.now line) c.args.locals c.args.out.now)) c.args.c.now c.args.locals x (record { begin = c.in_ok-begin.begin; locals = first.locals }) c.args.out.now c.close_behind.new.out)
+    (sym kept)
+    (do_laid c.args.c.now line c.args.locals opened.opened.head opened.opened.index c.len-from.result opened.opened.visible.items place test body first
+    c.in_ok-begin.begin c.args.out.now c.nested.new.out c.tested.new.out c.close_behind.new.out opened.ensures.head opened.ensures.index opened.ensures.visible
+    c.len-from.ensures (c.in_ok-laid.ensures.laid n.0 line) cond c.in_ok-begin.ensures)
+
+pub for_loop-returns-clause-laid : goal.for_loop-returns-clause-laid
+for_loop-returns-clause-laid t c = λ n line.
+    let place = c.args.place in
+    let starts = init_tree c.args.first.now in
+    let test = option_map expr_tree c.args.test.now in
+    let ends = option_map for_step_tree c.args.last.now in
+    let body = stmt_tree c.args.body.now.value in
+    let opened = c.in_ok-opened in
+    let first = c.in_ok-begun.begun in
+    let second = c.in_ok-laid.laid in
+    let third = c.in_ok-stepped.stepped in
+    let kept = c.in_ok-laid.ensures.context in
     let inner = c.init.new.c in
-    let within : IsWithin (within_scope c.args.c.now) inner = entered_within c.args.c.now c.enter-mark.new.self inner c.enter-mark.ensures.scope c.in_ok-begun-in-For.ensures.within in
+    let within : IsWithin (within_scope c.args.c.now) inner = entered_within c.args.c.now c.enter-scope.new.self inner c.enter-scope.ensures.scope c.in_ok-begun.ensures.within in
     let left : c.leave.new.self ≡ c.args.c.now =
-    c.leave.ensures c.args.c.now (subst (IsWithin (within_scope c.args.c.now)) (sym kept) within) c.enter-mark.ensures.begin c.enter-mark.ensures.bound in
-    let inits : (line : ℕ) → EmitsLowered (for_init (state (on_line (within_scope c.args.c.now) line) c.args.locals c.args.out.now) s.place (init_tree s.first)) (within_scope c.args.c.now) c.args.locals inner first c.args.out.now c.init.new.out =
-    subst (λ x. (line : ℕ) → EmitsLowered (for_init (state (on_line x line) c.args.locals c.args.out.now) s.place (init_tree s.first)) x c.args.locals inner first c.args.out.now c.init.new.out) c.enter-mark.ensures.scope
-    (c.in_ok-begun-in-For.ensures.laid n.0) in
-    let steps : (line : ℕ) → EmitsWithin (for_step (state (on_line inner line) second.locals c.nested-in-For.new.out) (option_map for_step_tree s.last)) inner second.locals third c.nested-in-For.new.out c.step.new.out =
-    subst (λ x. (line : ℕ) → EmitsWithin (for_step (state (on_line x line) second.locals c.nested-in-For.new.out) (option_map for_step_tree s.last)) x second.locals third c.nested-in-For.new.out c.step.new.out) kept
-    (c.in_ok-stepped-in-For.ensures n.2) in
-    subst (λ x. EmitsLowered (stmt x (state (on_line c.args.c.now line) c.args.locals c.args.out.now)) c.args.c.now c.args.locals c.leave.new.self (record { begin = c.followed_by.result; locals = third.locals }) c.args.out.now c.lead_next.new.self)
-    (sym tree_is)
-    (subst (λ x. EmitsLowered (stmt (tree.Stmt.For s.place (init_tree s.first) (option_map expr_tree s.test) (option_map for_step_tree s.last) (stmt_tree s.body.value)) (state (on_line c.args.c.now line) c.args.locals c.args.out.now)) c.args.c.now c.args.locals x (record { begin = c.followed_by.result; locals = third.locals }) c.args.out.now c.lead_next.new.self)
+    c.leave.ensures c.args.c.now (subst (IsWithin (within_scope c.args.c.now)) (sym kept) within) c.enter-scope.ensures.begin c.enter-scope.ensures.bound in
+    let inits : (line : ℕ) → EmitsLowered (for_init (state (on_line (within_scope c.args.c.now) line) c.args.locals c.args.out.now) place starts) (within_scope c.args.c.now) c.args.locals inner first c.args.out.now c.init.new.out =
+    subst (λ x. (line : ℕ) → EmitsLowered (for_init (state (on_line x line) c.args.locals c.args.out.now) place starts) x c.args.locals inner first c.args.out.now c.init.new.out) c.enter-scope.ensures.scope
+    (c.in_ok-begun.ensures.laid n.0) in
+    let steps : (line : ℕ) → EmitsWithin (for_step (state (on_line inner line) second.locals c.nested.new.out) ends) inner second.locals third c.nested.new.out c.step.new.out =
+    subst (λ x. (line : ℕ) → EmitsWithin (for_step (state (on_line x line) second.locals c.nested.new.out) ends) x second.locals third c.nested.new.out c.step.new.out) kept
+    (c.in_ok-stepped.ensures n.2) in
+    subst (λ x. EmitsLowered (stmt (tree.Stmt.For place starts test ends body) (state (on_line c.args.c.now line) c.args.locals c.args.out.now)) c.args.c.now c.args.locals x (record { begin = c.followed_by.result; locals = third.locals }) c.args.out.now c.lead_next.new.self)
     (sym left)
-    (for_laid c.args.c.now inner line c.args.locals c.len-start.result opened.opened.head opened.opened.index c.len-from-in-For.result c.len-past-in-For.result opened.opened.visible.items s.place (init_tree s.first)
-    (option_map expr_tree s.test) (option_map for_step_tree s.last) (stmt_tree s.body.value) first second third c.followed_by.result c.at-target.result c.args.out.now c.init.new.out c.tested_for.new.out
-    c.nested-in-For.new.out c.step.new.out c.close-in-For.new.out c.lead_next.new.self within c.len-start.ensures opened.ensures.head opened.ensures.index opened.ensures.visible c.len-from-in-For.ensures
-    c.len-past-in-For.ensures c.at-target.ensures inits (λ l. c.in_ok-tested_for-in-For.ensures n.1 l first.locals) (c.in_ok-laid-in-For.ensures.laid n.3) steps c.in_ok-close-in-For.ensures
-    c.lead_next.ensures c.followed_by.ensures))
+    (for_laid c.args.c.now inner line c.args.locals c.len-start.result opened.opened.head opened.opened.index c.len-from.result c.len-past.result opened.opened.visible.items place starts
+    test ends body first second third c.followed_by.result c.at-label.result c.args.out.now c.init.new.out c.tested_for.new.out
+    c.nested.new.out c.step.new.out c.close.new.out c.lead_next.new.self within c.len-start.ensures opened.ensures.head opened.ensures.index opened.ensures.visible c.len-from.ensures
+    c.len-past.ensures c.at-label.ensures inits (λ l. c.in_ok-tested_for.ensures n.1 l first.locals) (c.in_ok-laid.ensures.laid n.3) steps c.in_ok-close.ensures
+    c.lead_next.ensures c.followed_by.ensures)
 
 pub stmts-loop-one-preserved : goal.stmts-loop-one-preserved
 stmts-loop-one-preserved t c =

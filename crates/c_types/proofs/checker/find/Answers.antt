@@ -6,8 +6,8 @@ use Rattle.c_tree.specs.declared.items.Item.{Item}
 use Rattle.c_tree.specs.declared.items.Unit.{Unit}
 use Rattle.c_tree.specs.Syntax.{item_tree, unit_tree}
 use Rattle.c_types_stmts.proofs.Adding.{same}
-use Rattle.c_types.specs.Firsts.{first_with}
-use Rattle.c_types.proofs.Firsts.{first_with-nil, first_with-is}
+use Rattle.c_types.specs.FirstRefusals.{first_with}
+use Rattle.c_types.proofs.FirstRefusals.{first_with-nil, first_with-is}
 use Rattle.c_types.proofs.Files.{refusal_next, kinds_next}
 use Rattle.c_types.proofs.checker.find.Goals as goal
 

@@ -4,7 +4,7 @@ use Rattle.c_types_rules.specs.Items.{param_refusals, each_param_refusals, liste
 use Rattle.c_tree.specs.declared.names.Param.{Param}
 use Rattle.c_tree.specs.declared.names.Params.{Params}
 use Rattle.c_tree.specs.Syntax.{param_tree, params_tree}
-use Rattle.c_types_names.proofs.Lowering.{nothing, then, same}
+use Rattle.c_types_names.proofs.FirstRefusals.{nothing, then, same}
 use Rattle.c_types.proofs.Naming.{lists_none}
 use Rattle.c_types.proofs.heads.each_param_refusals.Goals as goal
 

@@ -3,7 +3,7 @@ use Rattle.std.proofs.lemmas.List.{at_drop_more, at_drop_all}
 use Rattle.c_types_rules.specs.Items.{with_name, param_refusals, each_param_refusals}
 use Rattle.c_tree.specs.declared.names.Param.{Param}
 use Rattle.c_tree.specs.Syntax.{param_tree}
-use Rattle.c_types_names.proofs.Lowering.{turn, over}
+use Rattle.c_types_names.proofs.FirstRefusals.{turn, over}
 use Rattle.c_types.proofs.heads.more_param_refusals.Goals as goal
 
 pub loop-param-init : goal.loop-param-init

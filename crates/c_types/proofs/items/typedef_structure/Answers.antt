@@ -2,7 +2,7 @@ use Rattle.std.proofs.Common.{◌++◌, map, ap}
 use Rattle.c_grammar.specs.Trees.{Name}
 use Rattle.c_types_rules.specs.Items.{structure_refusals, alias_refusals}
 use Rattle.c_tree.specs.Syntax.{ident_tree, fields_tree}
-use Rattle.c_types_names.proofs.Lowering.{then, same}
+use Rattle.c_types_names.proofs.FirstRefusals.{then, same}
 use Rattle.c_types.proofs.items.typedef_structure.Goals as goal
 
 pub returns-in-Err : goal.returns-in-Err

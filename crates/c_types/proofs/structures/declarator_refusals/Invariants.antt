@@ -1,10 +1,10 @@
 use Rattle.std.proofs.Common.{◌≡◌, map, drop}
 use Rattle.c_types_rules.specs.Items.{declarator_refusals}
 use Rattle.c_tree.specs.Syntax.{specifier_tree, declarator_tree}
-use Rattle.c_types_names.specs.Lowered.{lowered}
+use Rattle.c_types_names.specs.FirstRefusal.{with_refusals}
 use Rattle.c_types.proofs.structures.declarator_refusals.Given as goal
 
 abbrev pub invariant-loop-one : goal.invariant-loop-one
 invariant-loop-one l =
-    lowered l.first (declarator_refusals (specifier_tree l.specifier) (map declarator_tree (drop l.one-index l.ones)))
-    ≡ lowered l.initial.first (declarator_refusals (specifier_tree l.specifier) (map declarator_tree l.ones))
+    with_refusals l.first (declarator_refusals (specifier_tree l.specifier) (map declarator_tree (drop l.one-index l.ones)))
+    ≡ with_refusals l.initial.first (declarator_refusals (specifier_tree l.specifier) (map declarator_tree l.ones))

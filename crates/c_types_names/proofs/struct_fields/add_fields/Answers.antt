@@ -1,7 +1,7 @@
 use Rattle.std.proofs.Common.{◌≡◌, false, is_some, ◌∙◌, ap, rules}
 use Rattle.std.specs.Str.{bytes_eq}
 use Rattle.std.proofs.lemmas.Map.Text.{hash_map_updates_str}
-use Rattle.c_types_names.specs.Firsts.{first_of, or_first}
+use Rattle.c_types_names.specs.FirstOfName.{first_of, or_first}
 use Rattle.c_types_names.proofs.Noting.{from_ok, put_first}
 use Rattle.c_types_names.proofs.struct_fields.add_fields.Goals as goal
 

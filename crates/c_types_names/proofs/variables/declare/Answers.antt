@@ -3,7 +3,7 @@ use Rattle.std.proofs.lemmas.List.{length-reverse}
 use Rattle.std.proofs.lemmas.Map.Text.{hash_map_updates_str}
 use Rattle.std.specs.Option.{option_flatten}
 use Rattle.std.specs.Str.{bytes_eq}
-use Rattle.c_types_names.specs.Firsts.{first_of}
+use Rattle.c_types_names.specs.FirstOfName.{first_of}
 use Rattle.c_types_names.specs.declared.variables.Binding.{Binding}
 use Rattle.c_types_names.specs.declared.variables.Declared.{Declared}
 use Rattle.c_types_names.specs.Bindings.{AreLinked, binding_in, bound_of}

@@ -1,7 +1,7 @@
 use Rattle.std.proofs.Common.{◌≡◌, ℕ, true, List, [], ◌∷◌, ◌++◌, reverse, is_some, Some, cond, ap, subst, ◌∙◌, rules}
 use Rattle.std.proofs.lemmas.Map.Text.{hash_map_updates_str}
 use Rattle.std.specs.Str.{bytes_eq}
-use Rattle.c_types_names.specs.Firsts.{first_of}
+use Rattle.c_types_names.specs.FirstOfName.{first_of}
 use Rattle.c_types_names.specs.Bindings.{AreLinked, binding_in, bound_of}
 use Rattle.c_types_names.proofs.Noting.{from_ok}
 use Rattle.c_types_names.proofs.Binding.{reverse-last, bound_there, must_be_ok, forgotten_found}

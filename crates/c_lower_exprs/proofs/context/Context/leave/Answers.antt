@@ -8,13 +8,13 @@ use Rattle.c_lower_exprs.proofs.context.Context.leave.Goals as goal
 pub invariant_of-self : goal.invariant_of-self
 invariant_of-self c = λ tag n.
     subst (λ t. field_place t tag n < 4294967296)
-    (sym (left_tables c.self.inside.env c.leave.new.self c.args.mark.begin
-    (subst (λ (x : Context). c.args.mark.begin ≤ length x.env.scopes.around) (sym c.self.view_is) c.requires) c.leave.ensures))
+    (sym (left_tables c.self.inside.env c.leave.new.self c.args.scope.begin
+    (subst (λ (x : Context). c.args.scope.begin ≤ length x.env.scopes.around) (sym c.self.view_is) c.requires) c.leave.ensures))
     (c.self.invariant tag n)
 
 pub returns : goal.returns
 returns c = λ outer within begin bound.
     ap (λ (x : Context). record x { env = c.leave.new.self; bound = stacked c.truncate.new.self.items }) c.self.view_is
     ∙ ap (λ bs. record c.args.self.now { env = c.leave.new.self; bound = stacked bs }) c.truncate.ensures.items
-    ∙ context_left outer c.args.self.now c.self.inside.env c.self.inside.bound.items c.leave.new.self c.args.mark.begin c.args.mark.bound
+    ∙ context_left outer c.args.self.now c.self.inside.env c.self.inside.bound.items c.leave.new.self c.args.scope.begin c.args.scope.bound
     (ap (λ (x : Context). x.env) (sym c.self.view_is)) (ap (λ (x : Context). x.bound) (sym c.self.view_is)) c.leave.ensures within begin bound

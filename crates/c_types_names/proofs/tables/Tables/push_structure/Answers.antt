@@ -3,7 +3,7 @@ use Rattle.std.specs.Map.{lookup}
 use Rattle.std.specs.Str.{bytes_eq}
 use Rattle.c_types_rules.specs.Tables.{Structure, structure_in}
 use Rattle.c_tree.specs.Syntax.{fields_tree}
-use Rattle.c_types_names.specs.Firsts.{or_first}
+use Rattle.c_types_names.specs.FirstOfName.{or_first}
 use Rattle.c_types_names.specs.StructFields.{fields_of}
 use Rattle.c_types_names.proofs.Fields.{more_fields}
 use Rattle.c_types_names.proofs.tables.Tables.push_structure.Goals as goal

@@ -1,0 +1,326 @@
+//! What is refused in an expression. The calls nest as deep as the expression does.
+ghost use Rattle.std.specs.Prelude.{◌≡◌, ◌∷◌, ◌++◌, map, option_map, length};
+ghost use Rattle.c_tokens.specs.Places.{refusal};
+ghost use Rattle.c_types_rules.specs.Tables.{field_of, param_kind, param_kinds, procedure_in};
+ghost use Rattle.c_types_rules.specs.Expressions.{
+  member_refusals,
+  members_refusals,
+  cast_refusals,
+  malloc_refusals,
+  same_number,
+  all_fit,
+  callee_refusals,
+  expr_refusals,
+  links_refusals,
+  args_refusals,
+  call_refusals,
+  whole_refusals,
+  lacks,
+  kind_of_member,
+};
+ghost use Rattle.c_grammar.specs.Trees.{Expr as ExprTree};
+ghost use Rattle.c_tree.specs.Syntax.{ident_tree, specifier_tree, param_tree, params_tree, expr_tree, links_tree, args_tree};
+ghost use Rattle.c_types_names.specs.Seen.{kind_seen};
+ghost use Rattle.c_types_exprs.specs.Seen.{given_seen};
+ghost use Rattle.c_types_names.specs.FirstRefusal.{with_refusals};
+
+use crate::exprs::{is_null, kind_of, kind_of_binary, kind_of_member};
+use crate::value_types::{Given, fits, given_by, may_stand_behind, may_stand_by};
+use c_tree::places::place_of_expr;
+use c_tree::{Expr, Ident, Link, Name, Param, Params, Place, TypeSpecifier};
+use c_types_names::env::Env;
+use c_types_names::first_refusal::FirstRefusal;
+use c_types_names::hiding::specifier_refusals_in;
+use c_types_names::kinds::{CType, Kind};
+use c_types_names::objects::{
+    ARGUMENTS, CLASH, LEFT_OUT, UNDECLARED, field_of, is_defined, names_structure, param_kind,
+};
+use c_types_names::tables::Tables;
+
+/// Whether the structure of the tag is defined and lacks the field.
+fn lacks(tables: &Tables, tag: &Name, field: &Name) -> bool
+    ensures { result ≡ lacks tables.now tag.now (field_of tables.now tag.now field.now) }
+{
+    match field_of(tables, tag, field) {
+        None => is_defined(tables, tag),
+        Some(_) => false,
+    }
+}
+
+/// Refuses a field that is none of the structure that a pointer points to, and a field of what is no pointer.
+#[tactic(auto, using(c_types_names::proofs::FirstRefusals::more_refusals))]
+fn member_refusals<'a>(
+    tables: &Tables<'a>,
+    place: Place,
+    kind: Kind<'a>,
+    field: &Ident,
+    first: &mut FirstRefusal,
+)
+    ensures { first.new ≡ with_refusals first.old (member_refusals tables.now place (kind_seen kind.entry) (ident_tree field.now)) }
+{
+    match kind {
+        None => {}
+        Some(CType::Pointer(tag)) => {
+            let lacking = lacks(tables, tag, &field.text);
+            first.unless(!lacking, field.place, UNDECLARED);
+        }
+        Some(CType::Int) => first.unless(false, place, CLASH),
+        Some(CType::Void) => first.unless(false, place, CLASH),
+    }
+}
+
+/// Refuses one field after another.
+#[tactic(auto, using(c_types_names::proofs::FirstRefusals::more_refusals))]
+fn members_refusals<'a>(
+    tables: &Tables<'a>,
+    place: Place,
+    kind: Kind<'a>,
+    fields: &[Ident],
+    first: &mut FirstRefusal,
+)
+    ensures { first.new ≡ with_refusals first.old (members_refusals tables.now place (kind_seen kind.entry) (map ident_tree fields.now)) }
+{
+    let mut current = kind;
+    for field in fields {
+        member_refusals(tables, place, current, field, first);
+        current = kind_of_member(tables, current, field);
+    }
+}
+
+/// Refuses a cast to what is no pointer to a structure.
+#[tactic(auto, using(c_types_names::proofs::FirstRefusals::more_refusals))]
+fn cast_refusals(env: &Env, place: Place, as_type: &Option<TypeSpecifier>, first: &mut FirstRefusal)
+    ensures { first.new ≡ with_refusals first.old (cast_refusals env.now place (option_map specifier_tree as_type.now)) }
+{
+    match as_type {
+        None => {}
+        Some(as_type) => {
+            specifier_refusals_in(env, as_type, first);
+            first.unless(names_structure(as_type), place, LEFT_OUT);
+        }
+    }
+}
+
+/// Refuses a `malloc` of what is no structure.
+#[tactic(auto, using(c_types_names::proofs::FirstRefusals::more_refusals))]
+pub fn malloc_refusals(
+    env: &Env,
+    place: Place,
+    as_type: &Option<TypeSpecifier>,
+    target: &TypeSpecifier,
+    first: &mut FirstRefusal,
+)
+    ensures { first.new ≡ with_refusals first.old (malloc_refusals env.now place (option_map specifier_tree as_type.now)
+        (specifier_tree target.now)) }
+{
+    cast_refusals(env, place, as_type, first);
+    specifier_refusals_in(env, target, first);
+    first.unless(names_structure(target), place, LEFT_OUT);
+}
+
+/// Whether there are as many arguments as parameters.
+#[tactic(auto, using(crate::proofs::Arguments::arguments))]
+fn same_number(tables: &Tables, params: &Params, args: &[Expr]) -> bool
+    ensures { result ≡ same_number (param_kinds tables.now (params_tree params.now)) (args_tree args.now) }
+{
+    match params {
+        Params::Empty => args.is_empty(),
+        Params::Void(_) => args.is_empty(),
+        Params::Listed(_, others) => match args {
+            [] => false,
+            [_, rest @ ..] => others.len() == rest.len(),
+        },
+    }
+}
+
+/// Whether each argument may be assigned to its parameter.
+#[tactic(auto, using(crate::proofs::Arguments::arguments))]
+fn all_fit_among<'a>(env: &Env<'a>, params: &'a [Param], args: &'a [Expr]) -> bool
+    ensures { result ≡ all_fit env.now (map (param_kind env.now.tables) (map param_tree params.now)) (args_tree args.now) }
+{
+    for (place, arg) in args.iter().enumerate() {
+        if place >= params.len() {
+            return true;
+        }
+        if !fits(env, param_kind(env.tables(), &params[place]), arg) {
+            return false;
+        }
+    }
+    true
+}
+
+/// Whether each argument may be assigned to its parameter.
+#[tactic(auto, using(crate::proofs::Arguments::arguments))]
+fn all_fit<'a>(env: &Env<'a>, params: &'a Params, args: &'a [Expr]) -> bool
+    ensures { result ≡ all_fit env.now (param_kinds env.now.tables (params_tree params.now)) (args_tree args.now) }
+{
+    match params {
+        Params::Empty => true,
+        Params::Void(_) => true,
+        Params::Listed(param, others) => match args {
+            [] => true,
+            [arg, rest @ ..] => {
+                fits(env, param_kind(env.tables(), param), arg)
+                    && all_fit_among(env, others.as_slice(), rest)
+            }
+        },
+    }
+}
+
+/// Refuses a call of a name that is no procedure's, and one whose arguments are not those that the procedure takes.
+#[tactic(auto, using(c_types_names::proofs::FirstRefusals::more_refusals), unfolding(c_types_names::specs::Seen::procedure_seen))]
+fn callee_refusals<'a>(env: &Env<'a>, callee: &Ident, args: &'a [Expr], first: &mut FirstRefusal)
+    ensures { first.new ≡ with_refusals first.old (callee_refusals env.now (procedure_in env.now.tables.procedures callee.now.text)
+        (ident_tree callee.now) (args_tree args.now)) }
+{
+    match env.tables().procedure(&callee.text) {
+        None => first.unless(false, callee.place, UNDECLARED),
+        Some(found) => {
+            if same_number(env.tables(), &found.head.params, args) {
+                first.unless(all_fit(env, &found.head.params, args), callee.place, CLASH);
+            } else {
+                first.unless(false, callee.place, ARGUMENTS);
+            }
+        }
+    }
+}
+
+/// Refuses a variable that is not declared.
+#[tactic(auto, using(c_types_names::proofs::FirstRefusals::more_refusals))]
+fn variable_refusals(env: &Env, name: &Ident, first: &mut FirstRefusal)
+    ensures { first.new ≡ with_refusals first.old (expr_refusals env.now (ExprTree.Variable (ident_tree name.now))) }
+{
+    match env.variable(&name.text) {
+        None => first.unless(false, name.place, UNDECLARED),
+        Some(_) => {}
+    }
+}
+
+/// What is refused in an expression where no call and no `malloc` may stand.
+#[cycle(refused)]
+#[tactic(auto, using(c_types_names::proofs::FirstRefusals::more_refusals))]
+pub fn expr_refusals<'a>(env: &Env<'a>, expr: &'a Expr, first: &mut FirstRefusal)
+    ensures { first.new ≡ with_refusals first.old (expr_refusals env.now (expr_tree expr.now)) }
+{
+    match expr {
+        Expr::Chain(operand, others) => {
+            expr_refusals(env, operand, first);
+            let left = Operand {
+                kind: kind_of(env, operand),
+                given: given_by(env, operand),
+                null: is_null(operand),
+            };
+            links_refusals(env, place_of_expr(operand), left, others, first);
+        }
+        Expr::Prefix(place, op, inner) => {
+            expr_refusals(env, inner, first);
+            first.unless(may_stand_behind(*op, given_by(env, inner)), *place, CLASH);
+        }
+        Expr::Members(base, field, others) => {
+            expr_refusals(env, base, first);
+            let place = place_of_expr(base);
+            let kind = kind_of(env, base);
+            member_refusals(env.tables(), place, kind, field, first);
+            let kind = kind_of_member(env.tables(), kind, field);
+            members_refusals(env.tables(), place, kind, others.as_slice(), first);
+        }
+        Expr::Variable(name) => variable_refusals(env, name, first),
+        Expr::Number(_, _) => {}
+        Expr::Null(_) => {}
+        Expr::Paren(_, inner) => expr_refusals(env, inner, first),
+        Expr::Call(callee, args) => {
+            first.unless(false, callee.place, LEFT_OUT);
+            args_refusals(env, args, first);
+            callee_refusals(env, callee, args.as_slice(), first);
+        }
+        Expr::Malloc(place, types) => {
+            first.unless(false, *place, LEFT_OUT);
+            malloc_refusals(env, *place, &types.cast, &types.target, first);
+        }
+    }
+}
+
+/// What stands on the left of an operator: its type, what it gives, and whether it is a null pointer.
+#[derive(Clone, Copy)]
+struct Operand<'a> {
+    kind: Kind<'a>,
+    given: Given<'a>,
+    null: bool,
+}
+
+/// What is refused in the other operands of a chain.
+#[cycle(refused)]
+#[tactic(auto, using(c_types_names::proofs::FirstRefusals::more_refusals))]
+fn links_refusals<'a>(
+    env: &Env<'a>,
+    place: Place,
+    left: Operand<'a>,
+    links: &'a Vec<Link>,
+    first: &mut FirstRefusal,
+)
+    ensures { let operand = left.entry in
+        first.new ≡ with_refusals first.old (links_refusals env.now place (kind_seen operand.kind) (given_seen operand.given) operand.null
+        (links_tree links.now.items)) }
+{
+    let mut kind = left.kind;
+    let mut given = left.given;
+    let mut null = left.null;
+    for link in links {
+        expr_refusals(env, &link.operand, first);
+        let fit = may_stand_by(
+            link.op,
+            given,
+            null,
+            given_by(env, &link.operand),
+            is_null(&link.operand),
+        );
+        first.unless(fit, place, CLASH);
+        kind = kind_of_binary(link.op, kind, kind_of(env, &link.operand));
+        given = Given::OfKind(kind);
+        null = false;
+    }
+}
+
+/// What is refused in arguments.
+#[cycle(refused)]
+#[tactic(auto, using(c_types_names::proofs::FirstRefusals::more_refusals))]
+fn args_refusals<'a>(env: &Env<'a>, args: &'a Vec<Expr>, first: &mut FirstRefusal)
+    ensures { first.new ≡ with_refusals first.old (args_refusals env.now (args_tree args.now.items)) }
+{
+    for arg in args {
+        expr_refusals(env, arg, first);
+    }
+}
+
+/// What is refused in a call where one may stand.
+#[tactic(auto, using(c_types_names::proofs::FirstRefusals::more_refusals))]
+pub fn call_refusals<'a>(
+    env: &Env<'a>,
+    callee: &Ident,
+    args: &'a Vec<Expr>,
+    first: &mut FirstRefusal,
+)
+    ensures { first.new ≡ with_refusals first.old (call_refusals env.now (ident_tree callee.now) (args_tree args.now.items)) }
+{
+    args_refusals(env, args, first);
+    callee_refusals(env, callee, args.as_slice(), first);
+}
+
+/// What is refused in an expression that may be a call or `malloc` as a whole.
+pub fn whole_refusals<'a>(env: &Env<'a>, expr: &'a Expr, first: &mut FirstRefusal)
+    ensures { first.new ≡ with_refusals first.old (whole_refusals env.now (expr_tree expr.now)) }
+{
+    match expr {
+        Expr::Chain(_, _) => expr_refusals(env, expr, first),
+        Expr::Prefix(_, _, _) => expr_refusals(env, expr, first),
+        Expr::Members(_, _, _) => expr_refusals(env, expr, first),
+        Expr::Variable(_) => expr_refusals(env, expr, first),
+        Expr::Number(_, _) => expr_refusals(env, expr, first),
+        Expr::Null(_) => expr_refusals(env, expr, first),
+        Expr::Paren(_, inner) => whole_refusals(env, inner, first),
+        Expr::Call(callee, args) => call_refusals(env, callee, args, first),
+        Expr::Malloc(place, types) => {
+            malloc_refusals(env, *place, &types.cast, &types.target, first);
+        }
+    }
+}
