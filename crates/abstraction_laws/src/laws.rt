@@ -1,6 +1,27 @@
 //! Laws of abstraction, each the contract of a function that does nothing.
-ghost use Rattle.abstraction_laws.specs.Laws.{AbstractExitWeakens, AbstractHeadWeakens, ForgetWeakens, JoinPairIsDone, ReduceIsDone, ReduceWeakens};
-ghost use Rattle.abstraction_laws.specs.Results.{AbstractExitHasNoMoreParts, AbstractExitIsNormal, AbstractExitIsWellFormed, AbstractHeadHasNoMoreParts, AbstractHeadIsNormal, AbstractHeadIsWellFormed, AbstractPairHasNoMoreParts, AbstractPairIsNormal, AbstractPairIsWellFormed, AbstractPairIsWithin, AbstractPreHasNoMoreParts, AbstractPreIsNormal, AbstractPreIsWellFormed};
+ghost use Rattle.abstraction_laws.specs.Laws.{
+  AbstractExitWeakens,
+  AbstractHeadWeakens,
+  ForgetWeakens,
+  JoinPairIsDone,
+  ReduceIsDone,
+  ReduceWeakens,
+};
+ghost use Rattle.abstraction_laws.specs.Results.{
+  AbstractExitHasNoMoreParts,
+  AbstractExitIsNormal,
+  AbstractExitIsWellFormed,
+  AbstractHeadHasNoMoreParts,
+  AbstractHeadIsNormal,
+  AbstractHeadIsWellFormed,
+  AbstractPairHasNoMoreParts,
+  AbstractPairIsNormal,
+  AbstractPairIsWellFormed,
+  AbstractPairIsWithin,
+  AbstractPreHasNoMoreParts,
+  AbstractPreIsNormal,
+  AbstractPreIsWellFormed,
+};
 ghost use Rattle.abstraction_laws.specs.Rooms.{CellsHaveFewFields, JoinedPairHasRoom, LargePairHasRoom, WellFormedIsWithinRoom};
 
 /// Whatever locals and heap meet a state meet its abstraction at the head of a loop, and whatever result and heap meet a post

@@ -8,7 +8,25 @@ ghost use Rattle.exec_laws.specs.Examples.{post};
 ghost use Rattle.certificate_laws.specs.Examples.{get_cert, get_flow, length_flow, one_node, read_cert, walk_flow, whole_list};
 ghost use Rattle.annotation_laws.specs.declared.parts.Annotated.TheVariants.{Done, Fail, Spent};
 ghost use Rattle.annotation_laws.specs.Annotation.{all_done, annotate, turns, MOST_TURNS};
-ghost use Rattle.annotation_laws.specs.Examples.{exits_before, large_heap, large_state, length_cut_cert, listed, listing, no_heap, nothing_cert, null_heap, null_state, read_task, reads_null, reads_unowned, strict, unknown, walk_whole_cert, x_state};
+ghost use Rattle.annotation_laws.specs.Examples.{
+  exits_before,
+  large_heap,
+  large_state,
+  length_cut_cert,
+  listed,
+  listing,
+  no_heap,
+  nothing_cert,
+  null_heap,
+  null_state,
+  read_task,
+  reads_null,
+  reads_unowned,
+  strict,
+  unknown,
+  walk_whole_cert,
+  x_state,
+};
 ghost use Rattle.annotation_laws.specs.Listing.{exit_comes, state_comes, Ends, Goes};
 
 /// A procedure that reads a field: from one node; from null, and from nothing, which fail on its line; and from what no heap meets, where
@@ -45,7 +63,8 @@ pub fn calls_itself()
 /// It is listed, and queued, behind the others.
 #[tactic(auto, unfolding(sym_matching::specs::Steps::contradicts))]
 pub fn counts_states()
-    ensures sixteenth { state_comes 0 x_state (listing (listed 15) [] ((1, null_state) ∷ [])) ≡ Goes (listing (listed 15 ++ x_state ∷ []) [] ((1, null_state) ∷ (0, x_state) ∷ [])) }
+    ensures sixteenth { state_comes 0 x_state (listing (listed 15) [] ((1, null_state) ∷ []))
+        ≡ Goes (listing (listed 15 ++ x_state ∷ []) [] ((1, null_state) ∷ (0, x_state) ∷ [])) }
     ensures seventeenth { state_comes 0 x_state (listing (listed 16) [] []) ≡ Ends (Spent budget.States 17) }
     ensures covered { state_comes 0 null_state (listing (listed 16) [] []) ≡ Goes (listing (listed 16) [] []) }
     ensures small { state_comes 0 (large_state 96) (listing [] [] []) ≡ Goes (listing (large_state 96 ∷ []) [] ((0, large_state 96) ∷ [])) }
@@ -55,7 +74,8 @@ pub fn counts_states()
 /// Likewise an exit, which waits for no turn.
 #[tactic(auto, unfolding(sym_matching::specs::Steps::contradicts))]
 pub fn counts_exits()
-    ensures sixteenth { exit_comes (post (Var 0) (heap [] [])) (listing [] (exits_before 15) []) ≡ Goes (listing [] (exits_before 15 ++ post (Var 0) (heap [] []) ∷ []) []) }
+    ensures sixteenth { exit_comes (post (Var 0) (heap [] [])) (listing [] (exits_before 15) [])
+        ≡ Goes (listing [] (exits_before 15 ++ post (Var 0) (heap [] []) ∷ []) []) }
     ensures seventeenth { exit_comes (post (Var 0) (heap [] [])) (listing [] (exits_before 16) []) ≡ Ends (Spent budget.States 17) }
     ensures covered { exit_comes (post null (heap [] [])) (listing [] (exits_before 16) []) ≡ Goes (listing [] (exits_before 16) []) }
     ensures small { exit_comes (post null (large_heap 96)) (listing [] [] []) ≡ Goes (listing [] (post null (large_heap 96) ∷ []) []) }
@@ -67,7 +87,8 @@ pub fn counts_exits()
 pub fn counts_turns()
     ensures most { MOST_TURNS ≡ 2048 }
     ensures null_first { turns 1 (strict get_flow []) (listing [] [] ((0, reads_null) ∷ (0, reads_unowned) ∷ [])) ≡ Fail fault.Null 1 }
-    ensures unowned_first { turns 1 (strict get_flow []) (listing [] [] ((0, reads_unowned) ∷ (0, reads_null) ∷ [])) ≡ Fail fault.Unowned 1 }
+    ensures unowned_first { turns 1 (strict get_flow []) (listing [] [] ((0, reads_unowned) ∷ (0, reads_null) ∷ []))
+        ≡ Fail fault.Unowned 1 }
     ensures spent { turns 0 (strict get_flow []) (listing [] [] ((0, reads_null) ∷ [])) ≡ Spent budget.Turns 2049 }
     ensures ended { turns 0 (strict get_flow []) (listing [] [] []) ≡ all_done (listing [] [] []) }
 {}

@@ -22,11 +22,14 @@ pub fn summary_places(
     kept: &[Kept],
 ) -> Result<Vec<Place>, AllocError>
     requires program { IsProgram program.now }
-    requires right { (answer_of : Key → Answer) × AreRight answer_of × (answers_kept kept.now ≡ answers_in (known_by answer_of program.now)) }
+    requires right { (answer_of : Key → Answer) × AreRight answer_of
+        × (answers_kept kept.now ≡ answers_in (known_by answer_of program.now)) }
     ensures one_each { IfOk result (λ places. length places.items ≡ length program.now.procs) }
     ensures there { IfOk result (λ places. All (λ place. IsSome (summary_in (answers_kept kept.now) place)) places.items) }
-    ensures summaries { (answer_of : Key → Answer) → AreRight answer_of → answers_kept kept.now ≡ answers_in (known_by answer_of program.now) →
-        IfOk result (λ places. filter_map (summary_in (answers_kept kept.now)) places.items ≡ summaries_for (known_by answer_of program.now) program.now.procs) }
+    ensures summaries { (answer_of : Key → Answer) → AreRight answer_of
+        → answers_kept kept.now ≡ answers_in (known_by answer_of program.now)
+        → IfOk result (λ places. filter_map (summary_in (answers_kept kept.now)) places.items
+        ≡ summaries_for (known_by answer_of program.now) program.now.procs) }
 {
     places_named(alloc, program.procs.as_slice(), kept)
 }

@@ -78,7 +78,8 @@ fn first_place(firsts: &FirstPlaces<'_>, name: &Name) -> Place
 /// Where the first summaries of these procedures' names stand among the answers.
 pub fn places_named(alloc: Global, procs: &[Proc], kept: &[Kept]) -> Result<Vec<Place>, AllocError>
     requires { All (λ proc. IsSome (summary_among (answers_kept kept.now) proc.flow.name)) procs.now }
-    ensures { IfOk result (λ places. map (summary_in (answers_kept kept.now)) places.items ≡ map (λ proc. summary_among (answers_kept kept.now) proc.flow.name) procs.now) }
+    ensures { IfOk result (λ places. map (summary_in (answers_kept kept.now)) places.items
+        ≡ map (λ proc. summary_among (answers_kept kept.now) proc.flow.name) procs.now) }
 {
     let firsts = first_places(alloc, procs.len(), kept)?;
     let mut places = Vec::with_capacity(alloc, procs.len())?;

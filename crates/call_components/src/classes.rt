@@ -33,8 +33,10 @@ fn put(
 ) -> Result<(), AllocError>
     requires kind { kind < length slots.old.items }
     requires places { (place : ℕ) → slice_index_or slots.old.items kind None ≡ Some place → place < length classes.old.items }
-    ensures lists { OnOk result (rows classes.new.items ≡ put_list (slice_index_or slots.old.items kind None) number (rows classes.old.items)) }
-    ensures slots { OnOk result (slots.new.items ≡ put_slot (slice_index_or slots.old.items kind None) kind (length classes.old.items) slots.old.items) }
+    ensures lists { OnOk result
+        (rows classes.new.items ≡ put_list (slice_index_or slots.old.items kind None) number (rows classes.old.items)) }
+    ensures slots { OnOk result
+        (slots.new.items ≡ put_slot (slice_index_or slots.old.items kind None) kind (length classes.old.items) slots.old.items) }
 {
     match slots[kind] {
         Some(place) => classes[place].push(number)?,

@@ -1,9 +1,40 @@
 //! The search for classes: a depth-first walk over all numbers that puts open numbers together as soon as they call one another
 //! (Gabow 2000). It takes time in proportion to the numbers and the calls.
-ghost use Rattle.std.specs.Prelude.{◌≡◌, ◌≢◌, ℕ, ◌+◌, ◌-◌, ◌<◌, ◌≤◌, ◌++◌, ◌∷◌, [], if◌then◌else◌, length, map, take, All, IfOk, OnOk, slice_get, slice_set};
+ghost use Rattle.std.specs.Prelude.{
+  ◌≡◌,
+  ◌≢◌,
+  ℕ,
+  ◌+◌,
+  ◌-◌,
+  ◌<◌,
+  ◌≤◌,
+  ◌++◌,
+  ◌∷◌,
+  [],
+  if◌then◌else◌,
+  length,
+  map,
+  take,
+  All,
+  IfOk,
+  OnOk,
+  slice_get,
+  slice_set,
+};
 ghost use Rattle.std.specs.declared.option.Option.TheVariants.{Some};
 ghost use Rattle.call_components.specs.declared.marks.Entry.{Entry as Set};
-ghost use Rattle.call_components.specs.Searching.{AreClassed, AreMerged, AreMet, AreRising, IsLast, IsSearch, IsSearched, kind_of_mark, mark_of, work_left};
+ghost use Rattle.call_components.specs.Searching.{
+  AreClassed,
+  AreMerged,
+  AreMet,
+  AreRising,
+  IsLast,
+  IsSearch,
+  IsSearched,
+  kind_of_mark,
+  mark_of,
+  work_left,
+};
 ghost use Rattle.call_components.specs.Reaching.{AreDefined, rows};
 ghost use Rattle.call_components.specs.Tables.{AreKinds};
 ghost use Rattle.component_keys.specs.Components.{calls_of, holds};
@@ -15,9 +46,12 @@ use std::alloc::{AllocError, Global};
 /// Puts a number that is met on the stack, as a set of its own, and its calls behind those to follow.
 fn visit(calls: &[Vec<u32>], search: &mut Search, number: u32) -> Result<(), AllocError>
     requires { number < length search.old.marks.items }
-    ensures marks { OnOk result (search.new.marks.items ≡ slice_set search.old.marks.items number (Mark.Open (length search.old.stack.items))) }
+    ensures marks { OnOk result
+        (search.new.marks.items ≡ slice_set search.old.marks.items number (Mark.Open (length search.old.stack.items))) }
     ensures stack { OnOk result (search.new.stack.items ≡ search.old.stack.items ++ number ∷ []) }
-    ensures entries { OnOk result (search.new.entries.items ≡ search.old.entries.items ++ record { first = length search.old.stack.items; todo = length search.old.todo.items } ∷ []) }
+    ensures entries { OnOk result
+        (search.new.entries.items
+        ≡ search.old.entries.items ++ record { first = length search.old.stack.items; todo = length search.old.todo.items } ∷ []) }
     ensures todo { OnOk result (search.new.todo.items ≡ search.old.todo.items ++ calls_of (rows calls.now) number) }
     ensures done { search.new.done.items ≡ search.old.done.items }
 {
@@ -59,7 +93,8 @@ fn merge(entries: &mut Vec<Entry>, place: usize)
 fn class_all(numbers: &[u32], class: usize, marks: &mut Vec<Mark>)
     requires { All (λ number. number < length marks.old.items) numbers.now }
     ensures lengths { length marks.new.items ≡ length marks.old.items }
-    ensures classed { (number : ℕ) → mark_of marks.new.items number ≡ (if holds numbers.now number then Mark.Done class else mark_of marks.old.items number) }
+    ensures classed { (number : ℕ)
+        → mark_of marks.new.items number ≡ (if holds numbers.now number then Mark.Done class else mark_of marks.old.items number) }
 {
     for number in numbers {
         marks[*number as usize] = Mark::Done(class);
@@ -71,7 +106,8 @@ fn close(search: &mut Search, first: usize) -> Result<(), AllocError>
     requires first { first < length search.old.stack.items }
     requires numbers { All (λ number. number < length search.old.marks.items) search.old.stack.items }
     ensures lengths { OnOk result (length search.new.marks.items ≡ length search.old.marks.items) }
-    ensures classed { OnOk result (AreClassed first (length search.old.done.items) search.old.stack.items search.old.marks.items search.new.marks.items) }
+    ensures classed { OnOk result
+        (AreClassed first (length search.old.done.items) search.old.stack.items search.old.marks.items search.new.marks.items) }
     ensures stack { OnOk result (search.new.stack.items ≡ take first search.old.stack.items) }
     ensures entries { OnOk result (search.new.entries.items ≡ take (length search.old.entries.items - 1) search.old.entries.items) }
     ensures todo { search.new.todo.items ≡ search.old.todo.items }

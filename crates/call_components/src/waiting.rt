@@ -5,7 +5,16 @@ ghost use Rattle.std.specs.List.{list_any};
 ghost use Rattle.component_keys.specs.Components.{calls_of, holds};
 ghost use Rattle.call_components.specs.Reaching.{AreDefined, marked, rows};
 ghost use Rattle.call_components.specs.Sorting.{below};
-ghost use Rattle.call_components.specs.Waiting.{AreNeeded, AreWaiting, IsBounded, IsFirst, calls_outside, is_listed as is_listed_in, outside_of, places_in};
+ghost use Rattle.call_components.specs.Waiting.{
+  AreNeeded,
+  AreWaiting,
+  IsBounded,
+  IsFirst,
+  calls_outside,
+  is_listed as is_listed_in,
+  outside_of,
+  places_in,
+};
 
 use crate::calls::{callees_of, empty_rows};
 use crate::classes::are_of_kind;
@@ -108,7 +117,9 @@ fn look_at(listed: &[bool], place: usize, waiting: &mut Waiting) -> Result<(), A
     requires bounded { IsBounded (length waiting.old.needs.items) (length waiting.old.waits.items) waiting.old }
     requires place { place < length waiting.old.needs.items }
     ensures bounded { OnOk result (IsBounded (length waiting.old.needs.items) (length waiting.old.waits.items) waiting.new) }
-    ensures looked { OnOk result ((all outs : List (List ℕ)) (wakes rest : List ℕ) → AreWaiting all outs listed.now wakes (place ∷ rest) waiting.old → AreWaiting all outs listed.now wakes rest waiting.new) }
+    ensures looked { OnOk result
+        ((all outs : List (List ℕ)) (wakes rest : List ℕ) → AreWaiting all outs listed.now wakes (place ∷ rest) waiting.old
+        → AreWaiting all outs listed.now wakes rest waiting.new) }
 {
     match last_missing(listed, &mut waiting.needs[place]) {
         Some(number) => waiting.waits[number as usize].push(place)?,
@@ -122,7 +133,9 @@ fn look_at_each(listed: &[bool], places: &[usize], waiting: &mut Waiting) -> Res
     requires bounded { IsBounded (length waiting.old.needs.items) (length waiting.old.waits.items) waiting.old }
     requires places { All (λ place. place < length waiting.old.needs.items) places.now }
     ensures bounded { OnOk result (IsBounded (length waiting.old.needs.items) (length waiting.old.waits.items) waiting.new) }
-    ensures looked { OnOk result ((all outs : List (List ℕ)) (wakes : List ℕ) → AreWaiting all outs listed.now wakes places.now waiting.old → AreWaiting all outs listed.now wakes [] waiting.new) }
+    ensures looked { OnOk result
+        ((all outs : List (List ℕ)) (wakes : List ℕ) → AreWaiting all outs listed.now wakes places.now waiting.old
+        → AreWaiting all outs listed.now wakes [] waiting.new) }
 {
     for place in places {
         look_at(listed, *place, waiting)?;
@@ -140,7 +153,8 @@ pub fn waiting_for(
 ) -> Result<Waiting, AllocError>
     requires { AreDefined (rows calls.now) }
     ensures bounded { IfOk result (IsBounded (length all.now) (length calls.now)) }
-    ensures waiting { IfOk result (AreWaiting (rows all.now) (map (outside_of kinds.now (rows calls.now)) (rows all.now)) listed.now [] []) }
+    ensures waiting { IfOk result
+        (AreWaiting (rows all.now) (map (outside_of kinds.now (rows calls.now)) (rows all.now)) listed.now [] []) }
 {
     let mut waiting = Waiting {
         needs: all_outside(alloc, calls, kinds, all)?,
@@ -162,7 +176,9 @@ fn wake(
     requires bounded { IsBounded (length waiting.old.needs.items) (length waiting.old.waits.items) waiting.old }
     requires number { number < length waiting.old.waits.items }
     ensures bounded { OnOk result (IsBounded (length waiting.old.needs.items) (length waiting.old.waits.items) waiting.new) }
-    ensures woken { OnOk result ((all outs : List (List ℕ)) (wakes : List ℕ) → AreWaiting all outs listed.now (number ∷ wakes) [] waiting.old → AreWaiting all outs listed.now wakes [] waiting.new) }
+    ensures woken { OnOk result
+        ((all outs : List (List ℕ)) (wakes : List ℕ) → AreWaiting all outs listed.now (number ∷ wakes) [] waiting.old
+        → AreWaiting all outs listed.now wakes [] waiting.new) }
 {
     let places = mem::replace(&mut waiting.waits[number as usize], Vec::new(alloc));
     look_at_each(listed, &places, waiting)
@@ -178,7 +194,9 @@ pub fn wake_each(
     requires bounded { IsBounded (length waiting.old.needs.items) (length waiting.old.waits.items) waiting.old }
     requires numbers { All (λ number. number < length waiting.old.waits.items) numbers.now }
     ensures bounded { OnOk result (IsBounded (length waiting.old.needs.items) (length waiting.old.waits.items) waiting.new) }
-    ensures woken { OnOk result ((all outs : List (List ℕ)) → AreWaiting all outs listed.now numbers.now [] waiting.old → AreWaiting all outs listed.now [] [] waiting.new) }
+    ensures woken { OnOk result
+        ((all outs : List (List ℕ)) → AreWaiting all outs listed.now numbers.now [] waiting.old
+        → AreWaiting all outs listed.now [] [] waiting.new) }
 {
     for number in numbers {
         wake(alloc, listed, *number, waiting)?;

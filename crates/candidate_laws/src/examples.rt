@@ -6,7 +6,31 @@ ghost use Rattle.shape_laws.specs.Examples.{bad_flow};
 ghost use Rattle.certificate_laws.specs.Examples.{get_flow, length_flow, length_spec, one_node, read_flow, walk_flow, whole_list};
 ghost use Rattle.exec_laws.specs.declared.parts.Case.TheVariants.{Drops};
 ghost use Rattle.candidate_laws.specs.Candidates.{candidates, cases_of_pair, turn_of, turns, MOST_TURNS};
-ghost use Rattle.candidate_laws.specs.Examples.{at_second, calling, drop_at, found, found_before, found_but, known_by, large_pair, last_node, length_calling, list_pair, listed, never_pair, no_length, node_and_list, null_by_equation, null_heap, null_pair, read_task, searching, spin_flow, twice_task, x_pair};
+ghost use Rattle.candidate_laws.specs.Examples.{
+  at_second,
+  calling,
+  drop_at,
+  found,
+  found_before,
+  found_but,
+  known_by,
+  large_pair,
+  last_node,
+  length_calling,
+  list_pair,
+  listed,
+  never_pair,
+  no_length,
+  node_and_list,
+  null_by_equation,
+  null_heap,
+  null_pair,
+  read_task,
+  searching,
+  spin_flow,
+  twice_task,
+  x_pair,
+};
 ghost use Rattle.candidate_laws.specs.Searching.{candidate_comes, pair_comes};
 
 /// A procedure that reads a field needs one node; of one that frees it before, no path is left: x may be null, and then the read is
@@ -47,22 +71,29 @@ pub fn calls_itself()
 /// A pair that comes to a node: its parts are counted first, then it is compared with those that are listed, and then these are counted.
 /// It waits behind the others. The first drop stays.
 pub fn counts_pairs()
-    ensures sixteenth { pair_comes 7 0 x_pair (searching (listed 15) [] [] None) ≡ searching (listed 15 ++ x_pair ∷ []) ((0, x_pair) ∷ []) [] None }
-    ensures last { pair_comes 7 0 x_pair (searching [] ((1, null_pair) ∷ []) [] None) ≡ searching (x_pair ∷ []) ((1, null_pair) ∷ (0, x_pair) ∷ []) [] None }
+    ensures sixteenth { pair_comes 7 0 x_pair (searching (listed 15) [] [] None)
+        ≡ searching (listed 15 ++ x_pair ∷ []) ((0, x_pair) ∷ []) [] None }
+    ensures last { pair_comes 7 0 x_pair (searching [] ((1, null_pair) ∷ []) [] None)
+        ≡ searching (x_pair ∷ []) ((1, null_pair) ∷ (0, x_pair) ∷ []) [] None }
     ensures seventeenth { pair_comes 7 0 x_pair (searching (listed 16) [] [] None) ≡ searching (listed 16) [] [] (drop_at fault.States 7) }
     ensures known { pair_comes 7 0 null_pair (searching (listed 16) [] [] None) ≡ searching (listed 16) [] [] None }
-    ensures small { pair_comes 7 0 (large_pair 96) (searching [] [] [] None) ≡ searching (large_pair 96 ∷ []) ((0, large_pair 96) ∷ []) [] None }
-    ensures large { pair_comes 7 0 (large_pair 97) (searching (large_pair 97 ∷ []) [] [] None) ≡ searching (large_pair 97 ∷ []) [] [] (drop_at fault.Parts 7) }
-    ensures dropped { pair_comes 7 0 (large_pair 97) (searching [] [] [] (drop_at fault.Null 3)) ≡ searching [] [] [] (drop_at fault.Null 3) }
+    ensures small { pair_comes 7 0 (large_pair 96) (searching [] [] [] None)
+        ≡ searching (large_pair 96 ∷ []) ((0, large_pair 96) ∷ []) [] None }
+    ensures large { pair_comes 7 0 (large_pair 97) (searching (large_pair 97 ∷ []) [] [] None)
+        ≡ searching (large_pair 97 ∷ []) [] [] (drop_at fault.Parts 7) }
+    ensures dropped { pair_comes 7 0 (large_pair 97) (searching [] [] [] (drop_at fault.Null 3))
+        ≡ searching [] [] [] (drop_at fault.Null 3) }
 {}
 
 /// After eight candidates the rest is left out; and where no turn is left, a pair that waits is dropped at the line of its node.
 pub fn counts_candidates_and_turns()
     ensures most { MOST_TURNS ≡ 2048 }
-    ensures eighth { candidate_comes 7 null_heap (searching [] [] (found_before 7) None) ≡ searching [] [] (found_before 7 ++ null_heap ∷ []) None }
+    ensures eighth { candidate_comes 7 null_heap (searching [] [] (found_before 7) None)
+        ≡ searching [] [] (found_before 7 ++ null_heap ∷ []) None }
     ensures ninth { candidate_comes 7 null_heap (searching [] [] (found_before 8) None) ≡ searching [] [] (found_before 8) None }
     ensures known { candidate_comes 7 last_node (searching [] [] (found_before 1) None) ≡ searching [] [] (found_before 1) None }
-    ensures last_turn { turns 0 read_task (searching [] ((1, x_pair) ∷ []) [] None) ≡ searching [] ((1, x_pair) ∷ []) [] (drop_at fault.Turns 2) }
+    ensures last_turn { turns 0 read_task (searching [] ((1, x_pair) ∷ []) [] None)
+        ≡ searching [] ((1, x_pair) ∷ []) [] (drop_at fault.Turns 2) }
     ensures ended { turns 0 read_task (searching [] [] [] None) ≡ searching [] [] [] None }
 {}
 

@@ -1,5 +1,12 @@
 //! What comes to a node or an exit is well formed.
-ghost use Rattle.certificate_laws.specs.Results.{AtExitIsWellFormed, AtNodeIsWellFormed, NormalPostIsWellFormed, NormalStateIsWellFormed, StartAtNodeIsWellFormed, StartIsWellFormed};
+ghost use Rattle.certificate_laws.specs.Results.{
+  AtExitIsWellFormed,
+  AtNodeIsWellFormed,
+  NormalPostIsWellFormed,
+  NormalStateIsWellFormed,
+  StartAtNodeIsWellFormed,
+  StartIsWellFormed,
+};
 
 /// Normal forms, the start state, and what comes to a node or to an exit are well formed where what was given is.
 pub fn results_are_well_formed()

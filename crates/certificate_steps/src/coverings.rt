@@ -1,7 +1,12 @@
 //! Whether one of a list of states, or of posts, covers another.
 ghost use Rattle.std.specs.Prelude.{◌≡◌, All, IfOk};
 ghost use Rattle.subtraction.specs.Conditions.{IsPostWithinSizes, IsStateWithinSizes};
-ghost use Rattle.certificate_laws.specs.Coverings.{covers_post as covers_post_of, covers_state as covers_state_of, is_covered as is_covered_by, is_post_covered as is_post_covered_by};
+ghost use Rattle.certificate_laws.specs.Coverings.{
+  covers_post as covers_post_of,
+  covers_state as covers_state_of,
+  is_covered as is_covered_by,
+  is_post_covered as is_post_covered_by,
+};
 
 use shape_data::symbolic::{Post, SymState};
 use std::alloc::{AllocError, Global};

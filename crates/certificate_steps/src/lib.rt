@@ -1,5 +1,5 @@
-//! What comes to a node and to an exit of a procedure, and whether what is listed there covers it: code that the search for preconditions, annotation
-//! and the checker of certificates share. It stands on the definitions of `certificate_laws`.
+//! What comes to a node and to an exit of a procedure, and whether what is listed there covers it: code that the search for preconditions,
+//! annotation and the checker of certificates share. It stands on the definitions of `certificate_laws`.
 #![tactic(auto)]
 
 pub mod coming;

@@ -142,7 +142,12 @@ impl Model for Claim {
 
     ghost Value = { Claimed };
 
-    ghost view = { λ claim. record { number = claim.number; component = claim.component; revision = claim.revision; key = claim.key.value } };
+    ghost view = { λ claim. record {
+      number = claim.number;
+      component = claim.component;
+      revision = claim.revision;
+      key = claim.key.value;
+    } };
 
     ghost invariant = { λ claim. IsJobKey claim.key.value };
 }

@@ -3,7 +3,15 @@
 //! stands on the components and keys of `component_keys`, and knows nothing of heaps.
 #![tactic(auto)]
 
-ghost use Rattle.claim_laws.specs.Claims.{ClaimedArePresent, ClaimedOnce, ClaimedWhereNew, SettledStays, SlotsSolve, SlotsWerePublished, StandingsAreAsDefined};
+ghost use Rattle.claim_laws.specs.Claims.{
+  ClaimedArePresent,
+  ClaimedOnce,
+  ClaimedWhereNew,
+  SettledStays,
+  SlotsSolve,
+  SlotsWerePublished,
+  StandingsAreAsDefined,
+};
 ghost use Rattle.claim_laws.specs.Invariant.{WorldsAreKept};
 ghost use Rattle.claim_laws.specs.Waits.{WaitsOnOut};
 

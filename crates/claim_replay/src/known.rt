@@ -46,7 +46,8 @@ fn specs_of(alloc: Global, answer: &Answer, name: &Name) -> Result<Row<Spec>, Al
 
 /// A procedure as a callee, with the specs that an answer has for it.
 fn callee_of(alloc: Global, flow: &Flow, answer: &Answer) -> Result<Callee, AllocError>
-    ensures { IfOk result (λ callee. callee ≡ record { name = flow.now.name; params = flow.now.params; specs = specs_in answer.now flow.now.name }) }
+    ensures { IfOk result (λ callee. callee
+        ≡ record { name = flow.now.name; params = flow.now.params; specs = specs_in answer.now flow.now.name }) }
 {
     Ok(Callee {
         name: copy_of(&flow.name)?,
@@ -164,8 +165,12 @@ fn standing_of(
     requires structures { AreStructures program.now.structs structures.now }
     requires members { All (λ number. number < length program.now.procs) row.now.members.items }
     requires outer { All (λ outer. outer.number < length program.now.procs) row.now.outer.items }
-    ensures due { IfOk result (λ standing. standing.due ≡ option_map (key_over program.now.structs (filter_map (slice_get (flows_of program.now)) row.now.members.items)) (given_rows (flows_of program.now) (map slot_value slots.now) known.now row.now.outer.items)) }
-    ensures settled { IfOk result (λ standing. at_place (map slot_value slots.now) standing.settled ≡ settled_by (slot_of (map slot_value slots.now) (names_of (filter_map (slice_get (flows_of program.now)) row.now.members.items))) standing.due) }
+    ensures due { IfOk result (λ standing. standing.due
+        ≡ option_map (key_over program.now.structs (filter_map (slice_get (flows_of program.now)) row.now.members.items))
+        (given_rows (flows_of program.now) (map slot_value slots.now) known.now row.now.outer.items)) }
+    ensures settled { IfOk result (λ standing. at_place (map slot_value slots.now) standing.settled
+        ≡ settled_by (slot_of (map slot_value slots.now) (names_of (filter_map (slice_get (flows_of program.now)) row.now.members.items)))
+        standing.due) }
 {
     let names = names_at(alloc, program, &row.members)?;
     let callees = given(alloc, program, slots, known, &row.outer)?;

@@ -3,9 +3,34 @@ ghost use Rattle.std.specs.Prelude.{◌≡◌, ◌+◌, ◌<◌, ◌≤◌, ◌=
 ghost use Rattle.std.specs.List.{filter, filter_map, list_any};
 ghost use Rattle.call_components.specs.Tables.{at_place};
 ghost use Rattle.claim_core.specs.Told.{event_of, events_of};
-ghost use Rattle.claim_replay.specs.Values.{AreKnown, IsFormed, IsWhole, due_is, is_of_rows, out_value, outcome_by, row_names, slot_value, world_value};
+ghost use Rattle.claim_replay.specs.Values.{
+  AreKnown,
+  IsFormed,
+  IsWhole,
+  due_is,
+  is_of_rows,
+  out_value,
+  outcome_by,
+  row_names,
+  slot_value,
+  world_value,
+};
 ghost use Rattle.claim_laws.specs.Logs.{first_world, replay};
-ghost use Rattle.claim_laws.specs.World.{Event as Named, after, but, is_claimable, is_kept_outcome, out_of, outcome, put_slot, slot_for, slots_with, standing_at, standings, without};
+ghost use Rattle.claim_laws.specs.World.{
+  Event as Named,
+  after,
+  but,
+  is_claimable,
+  is_kept_outcome,
+  out_of,
+  outcome,
+  put_slot,
+  slot_for,
+  slots_with,
+  standing_at,
+  standings,
+  without,
+};
 ghost use Rattle.component_keys.specs.Components.{same_names};
 ghost use Rattle.component_keys.specs.Keys.{flows_of, names_of};
 ghost use Rattle.component_keys.specs.Tests.{flows_test, key_test, program_test};
@@ -79,7 +104,9 @@ fn is_of_program(
     slot: &Slot,
 ) -> Result<bool, AllocError>
     requires { All (λ row. All (λ number. number < length program.now.procs) row.members.items) rows.now }
-    ensures { IfOk result (λ is. is ≡ list_any (λ row. same_names (names_of (filter_map (slice_get (flows_of program.now)) row.members.items)) slot.now.members) rows.now) }
+    ensures { IfOk result (λ is. is
+        ≡ list_any (λ row. same_names (names_of (filter_map (slice_get (flows_of program.now)) row.members.items)) slot.now.members)
+        rows.now) }
 {
     for row in rows {
         let names = names_at(alloc, program, &row.members)?;
@@ -138,7 +165,8 @@ fn slots_but(alloc: Global, slots: Row<Slot>, members: &[Name]) -> Result<Row<Sl
 /// The place behind the slots of no later claims.
 fn place_for(slots: &[Slot], claim: u64) -> usize
     ensures within { result ≤ length slots.now }
-    ensures put { (slot : Slot) → slot.claim ≡ claim → map slot_value (insert slots.now result slot) ≡ put_slot (slot_value slot) (map slot_value slots.now) }
+    ensures put { (slot : Slot) → slot.claim ≡ claim
+        → map slot_value (insert slots.now result slot) ≡ put_slot (slot_value slot) (map slot_value slots.now) }
 {
     for (place, slot) in slots.iter().enumerate() {
         if claim < slot.claim {
@@ -326,7 +354,8 @@ fn revise(
 ) -> Result<Present, AllocError>
     requires whole { IsWhole present }
     requires formed { IsProgram program.now.value }
-    ensures world { IfOk result (λ later. world_value later.world ≡ after (world_value present.world) (Named.Revise revision program.now.value)) }
+    ensures world { IfOk result (λ later. world_value later.world
+        ≡ after (world_value present.world) (Named.Revise revision program.now.value)) }
     ensures whole { IfOk result IsWhole }
 {
     if same_program(program, &present.world.program) || !is_next(revision, present.world.revision) {
@@ -371,7 +400,8 @@ fn claim(
     key: &Arc<Key>,
 ) -> Result<Present, AllocError>
     requires { IsWhole present }
-    ensures world { IfOk result (λ later. world_value later.world ≡ after (world_value present.world) (Named.Claim number worker component key.now.value)) }
+    ensures world { IfOk result (λ later. world_value later.world
+        ≡ after (world_value present.world) (Named.Claim number worker component key.now.value)) }
     ensures whole { IfOk result IsWhole }
 {
     if !is_next(number, present.world.made)
@@ -445,7 +475,8 @@ fn slots_after(
     claim: &Out,
     answer: &Arc<Answer>,
 ) -> Result<Row<Slot>, AllocError>
-    ensures { IfOk result (λ later. map slot_value later ≡ slots_with (map slot_value slots) kept answer.now.value (Some (out_value claim.now))) }
+    ensures { IfOk result (λ later. map slot_value later
+        ≡ slots_with (map slot_value slots) kept answer.now.value (Some (out_value claim.now))) }
 {
     if kept {
         Ok(slots_put(alloc, slots, claim, answer)?)
@@ -461,7 +492,8 @@ fn slots_put(
     claim: &Out,
     answer: &Arc<Answer>,
 ) -> Result<Row<Slot>, AllocError>
-    ensures { IfOk result (λ later. map slot_value later ≡ put_slot (slot_for (out_value claim.now) answer.now.value) (but (map slot_value slots) (names_of claim.now.key.value.procs))) }
+    ensures { IfOk result (λ later. map slot_value later
+        ≡ put_slot (slot_for (out_value claim.now) answer.now.value) (but (map slot_value slots) (names_of claim.now.key.value.procs))) }
 {
     let members = names_in(alloc, &claim.key.procs)?;
     let mut kept = slots_but(alloc, slots, &members)?;
@@ -485,7 +517,8 @@ fn publish(
     kept: bool,
 ) -> Result<Present, AllocError>
     requires { IsWhole present }
-    ensures world { IfOk result (λ later. world_value later.world ≡ after (world_value present.world) (Named.Publish number answer.now.value kept)) }
+    ensures world { IfOk result (λ later. world_value later.world
+        ≡ after (world_value present.world) (Named.Publish number answer.now.value kept)) }
     ensures whole { IfOk result IsWhole }
 {
     let Some(place) = claim_place(&present.world.out, number) else {

@@ -1,6 +1,6 @@
 //! The words behind the program's name. They are read with `clap` as one simple command: a positional, which is `session`, an option
-//! `--workers` with a number, and an option `--store` with a path. Which words are taken is `clap`'s own definition (`specs/Words`); its texts
-//! are not shown.
+//! `--workers` with a number, and an option `--store` with a path. Which words are taken is `clap`'s own definition (`specs/Words`); its
+//! texts are not shown.
 #![tactic(auto)]
 
 ghost use Rattle.std.specs.Prelude.{◌≡◌, ◌≤◌, IfOk, IfSome, codes, map, option_map};

@@ -7,7 +7,16 @@ ghost use Rattle.certificate_laws.specs.Limits.{analysable};
 ghost use Rattle.certificate_steps.specs.InTask.{task_in};
 ghost use Rattle.comp_solve.specs.Tests.{test_of};
 ghost use Rattle.solve_laws.specs.Attempts.{count_of as count_of_all};
-ghost use Rattle.solve_laws.specs.Solving.{again_with, all_again as all_again_of, all_passes as all_passes_of, attempt_again as attempt_again_of, attempts_again as attempts_again_of, checked_again as checked_again_of, pass as pass_of, strictly as strictly_of};
+ghost use Rattle.solve_laws.specs.Solving.{
+  again_with,
+  all_again as all_again_of,
+  all_passes as all_passes_of,
+  attempt_again as attempt_again_of,
+  attempts_again as attempts_again_of,
+  checked_again as checked_again_of,
+  pass as pass_of,
+  strictly as strictly_of,
+};
 ghost use Rattle.solve_laws.specs.Standing.{AllStanding, AreFormed, AreTasks, IsFormed, OfStanding};
 
 use crate::attempts::try_pre;

@@ -3,7 +3,13 @@ ghost use Rattle.std.specs.Prelude.{◌≡◌, All, IfOk, IfSome};
 ghost use Rattle.shape_data.specs.WellFormed.{HasReason, IsAnswer, IsKey};
 ghost use Rattle.certificate_laws.specs.Inductive.{Inductive};
 ghost use Rattle.certificate_laws.specs.Limits.{analysable};
-ghost use Rattle.solve_laws.specs.Solving.{after_rounds as after_rounds_of, solve as solve_of, solve_alone as solve_alone_of, solve_together as solve_together_of, summaries_by};
+ghost use Rattle.solve_laws.specs.Solving.{
+  after_rounds as after_rounds_of,
+  solve as solve_of,
+  solve_alone as solve_alone_of,
+  solve_together as solve_together_of,
+  summaries_by,
+};
 ghost use Rattle.solve_laws.specs.Standing.{AreFormed};
 
 use crate::attempts::attempts_under;

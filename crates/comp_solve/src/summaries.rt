@@ -1,6 +1,12 @@
 //! Summaries of procedures: what stands, or the reason why nothing does.
 ghost use Rattle.std.specs.Prelude.{◌≡◌, length, map, IfOk};
-ghost use Rattle.solve_laws.specs.Attempts.{no_path as no_path_of, reason_of as reason_of_one, summaries_of as summaries_of_all, summary_of as summary_of_one, why_none as why_none_of};
+ghost use Rattle.solve_laws.specs.Attempts.{
+  no_path as no_path_of,
+  reason_of as reason_of_one,
+  summaries_of as summaries_of_all,
+  summary_of as summary_of_one,
+  why_none as why_none_of,
+};
 ghost use Rattle.solve_laws.specs.Solving.{without_specs as without_specs_of};
 
 use crate::rounds::MOST_ROUNDS;

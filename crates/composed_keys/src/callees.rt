@@ -25,7 +25,8 @@ fn called(alloc: Global, outer: &[Outer]) -> Result<Vec<u32>, AllocError>
 
 /// For each component the numbers of the components that it calls. The only error is want of memory.
 pub fn calls_of(alloc: Global, components: &[Component]) -> Result<Vec<Vec<u32>>, AllocError>
-    ensures { IfOk result (λ calls. rows calls.items ≡ map (λ (row : ComponentRow). map (λ (one : OuterRow). one.component) row.outer.items) components.now) }
+    ensures { IfOk result (λ calls. rows calls.items
+        ≡ map (λ (row : ComponentRow). map (λ (one : OuterRow). one.component) row.outer.items) components.now) }
 {
     let mut calls = Vec::with_capacity(alloc, components.len())?;
     for component in components {

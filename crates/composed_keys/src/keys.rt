@@ -105,7 +105,8 @@ pub fn is_key_of(
     requires small { length program.now.structs < 4294967296 }
     requires members { All (λ number. number < length program.now.procs) members.now }
     requires structures { AreStructures program.now.structs structures.now }
-    ensures { IfOk result (λ is. IsTrue is ↔ (key.now ≡ key_over program.now.structs (filter_map (slice_get (flows_of program.now)) members.now) key.now.callees)) }
+    ensures { IfOk result (λ is. IsTrue is
+        ↔ (key.now ≡ key_over program.now.structs (filter_map (slice_get (flows_of program.now)) members.now) key.now.callees)) }
 {
     if !are_flows(program, members, &key.procs) {
         return Ok(false);

@@ -1,6 +1,25 @@
 //! Whom the components of a program call outside of themselves: each procedure, in order of the names, goes to the components that
 //! call it.
-ghost use Rattle.std.specs.Prelude.{◌≡◌, ◌≢◌, [], ◌∷◌, ℕ, ◌<◌, ◌++◌, ◌==◌, if◌then◌else◌, map, length, replicate, All, AllPairs, IfOk, OnOk, slice_index_or, slice_set};
+ghost use Rattle.std.specs.Prelude.{
+  ◌≡◌,
+  ◌≢◌,
+  [],
+  ◌∷◌,
+  ℕ,
+  ◌<◌,
+  ◌++◌,
+  ◌==◌,
+  if◌then◌else◌,
+  map,
+  length,
+  replicate,
+  All,
+  AllPairs,
+  IfOk,
+  OnOk,
+  slice_index_or,
+  slice_set,
+};
 ghost use Rattle.call_components.specs.Reaching.{AreDefined, rows};
 ghost use Rattle.component_keys.specs.Components.{calls_of, holds};
 ghost use Rattle.composed_keys.specs.Outside.{AreAhead, AreCallers, AreNoted, ArePlaced, ArePutBy, noted_once, outers};
@@ -56,7 +75,10 @@ fn note_once(component: &mut Component, outer: Outer) -> Result<(), AllocError>
 fn note_at(place: u32, outer: Outer, made: &mut Vec<Component>) -> Result<(), AllocError>
     requires { place < length made.old.items }
     ensures members { OnOk result (map (λ row. row.members.items) made.new.items ≡ map (λ row. row.members.items) made.old.items) }
-    ensures outer { OnOk result (outers made.new.items ≡ (if place == outer.component then outers made.old.items else slice_set (outers made.old.items) place (noted_once (slice_index_or (outers made.old.items) place []) outer))) }
+    ensures outer { OnOk result
+        (outers made.new.items
+        ≡ (if place == outer.component then outers made.old.items else slice_set (outers made.old.items) place
+        (noted_once (slice_index_or (outers made.old.items) place []) outer))) }
 {
     if place == outer.component {
         return Ok(());

@@ -1,5 +1,6 @@
 //! The components of a program by the numbers of its procedures: who calls whom, by name, and for each component whom it calls
-//! outside of itself. It takes time in proportion to the procedures and the calls, times a logarithm, beside what the order of the components takes.
+//! outside of itself. It takes time in proportion to the procedures and the calls, times a logarithm, beside what the order of the
+//! components takes.
 ghost use Rattle.std.specs.Prelude.{◌≡◌, ◌<◌, map, length, All, IfOk};
 ghost use Rattle.std.specs.List.{filter_map};
 ghost use Rattle.call_components.specs.Reaching.{rows};

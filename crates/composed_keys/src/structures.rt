@@ -2,7 +2,21 @@
 ghost use Rattle.std.specs.Prelude.{◌≡◌, ◌<◌, ◌++◌, [], ◌∷◌, map, length, All, IfOk, IfSome, OnOk, slice_get};
 ghost use Rattle.std.specs.List.{filter, filter_map, flat_map};
 ghost use Rattle.call_components.specs.Reaching.{marked, rows};
-ghost use Rattle.component_keys.specs.Structures.{atom_struct, command_struct, named_by_callee, named_by_flow, named_by_heap, named_by_spec, named_numbers, pointed_by, pointed_rows, struct_number, struct_numbers, structs_used, type_struct};
+ghost use Rattle.component_keys.specs.Structures.{
+  atom_struct,
+  command_struct,
+  named_by_callee,
+  named_by_flow,
+  named_by_heap,
+  named_by_spec,
+  named_numbers,
+  pointed_by,
+  pointed_rows,
+  struct_number,
+  struct_numbers,
+  structs_used,
+  type_struct,
+};
 ghost use Rattle.composed_keys.specs.Used.{AreStructures, noted};
 
 use crate::rows::Structures;
@@ -118,7 +132,8 @@ fn note_nodes(
     numbers: &mut Vec<u32>,
 ) -> Result<(), AllocError>
     requires { length structs.now < 4294967296 }
-    ensures { OnOk result (numbers.new.items ≡ numbers.old.items ++ struct_numbers structs.now (filter_map (λ node. command_struct node.cmd) nodes.now)) }
+    ensures { OnOk result
+        (numbers.new.items ≡ numbers.old.items ++ struct_numbers structs.now (filter_map (λ node. command_struct node.cmd) nodes.now)) }
 {
     for node in nodes {
         note_node(structs, node, numbers)?;
@@ -147,7 +162,8 @@ fn note_posts(
     numbers: &mut Vec<u32>,
 ) -> Result<(), AllocError>
     requires { length structs.now < 4294967296 }
-    ensures { OnOk result (numbers.new.items ≡ numbers.old.items ++ struct_numbers structs.now (flat_map (λ post. named_by_heap post.heap) posts.now)) }
+    ensures { OnOk result
+        (numbers.new.items ≡ numbers.old.items ++ struct_numbers structs.now (flat_map (λ post. named_by_heap post.heap) posts.now)) }
 {
     for post in posts {
         note_heap(structs, &post.heap, numbers)?;

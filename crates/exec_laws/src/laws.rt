@@ -1,5 +1,19 @@
 //! Laws of execution, each the contract of a function that does nothing.
-ghost use Rattle.exec_laws.specs.Laws.{AllAnswersAreWellFormed, AllRowsKeepWellFormed, AnswersAreForms, AnswersAreWellFormed, CallsKeepWellFormed, ExecutionIsSound, ExecutionIsSoundBesideFrames, ExecutionIsSoundOnAnyStack, FoundFitsAreWithin, MoreTurnsChangeNothing, RowsKeepWellFormed, SearchCasesAreWellFormed, SubtractedFitsAreWithin};
+ghost use Rattle.exec_laws.specs.Laws.{
+  AllAnswersAreWellFormed,
+  AllRowsKeepWellFormed,
+  AnswersAreForms,
+  AnswersAreWellFormed,
+  CallsKeepWellFormed,
+  ExecutionIsSound,
+  ExecutionIsSoundBesideFrames,
+  ExecutionIsSoundOnAnyStack,
+  FoundFitsAreWithin,
+  MoreTurnsChangeNothing,
+  RowsKeepWellFormed,
+  SearchCasesAreWellFormed,
+  SubtractedFitsAreWithin,
+};
 
 /// Where strict execution answers `Next`, the node's command, in each program whose structures contain those of the call, leads from
 /// whatever meets the state to what meets one of the successors or exits. First with nothing beside its heap and nobody waiting for it,

@@ -3,7 +3,20 @@ ghost use Rattle.std.specs.Prelude.{◌≡◌, ◌↔◌, ◌+◌, ◌≤◌, le
 ghost use Rattle.std.specs.Option.{IsSomeAnd};
 ghost use Rattle.shape_data.specs.declared.answer.Callee.{Callee as AnyCallee};
 ghost use Rattle.shape_data.specs.Heap.{struct_named};
-ghost use Rattle.shape_data.specs.WellFormed.{widest as within, FitCalls, FitsCall, IsAtom, IsCallee, IsExp, IsFact, IsField, IsPost, IsSpec, IsState, IsSymHeap};
+ghost use Rattle.shape_data.specs.WellFormed.{
+  widest as within,
+  FitCalls,
+  FitsCall,
+  IsAtom,
+  IsCallee,
+  IsExp,
+  IsFact,
+  IsField,
+  IsPost,
+  IsSpec,
+  IsState,
+  IsSymHeap,
+};
 ghost use Rattle.exec_laws.specs.Laws.{IsTable, callees_of};
 
 use exec_laws::Table;

@@ -3,7 +3,28 @@ ghost use Rattle.std.specs.Prelude.{◌≡◌, Some, map, IfOk, IfErr, IsUtf8};
 ghost use Rattle.shape_data.specs.declared.program.Cmd.TheVariants as cmd;
 ghost use Rattle.serde_json.specs.Data.{string};
 ghost use Rattle.serde_json.specs.View.{view};
-ghost use Rattle.flow_json.specs.Commands.{any_parts, arith_data, cmd_data, arith_of, arith_parts, branch_parts, call_parts, cell_cmd, cmd_of, copy_parts, free_parts, load_parts, new_parts, read_arith, read_test, return_parts, slot_cmd, store_parts, test_data, test_of};
+ghost use Rattle.flow_json.specs.Commands.{
+  any_parts,
+  arith_data,
+  cmd_data,
+  arith_of,
+  arith_parts,
+  branch_parts,
+  call_parts,
+  cell_cmd,
+  cmd_of,
+  copy_parts,
+  free_parts,
+  load_parts,
+  new_parts,
+  read_arith,
+  read_test,
+  return_parts,
+  slot_cmd,
+  store_parts,
+  test_data,
+  test_of,
+};
 ghost use Rattle.flow_json.specs.Forms.{count_data, option_data, read_count, read_option};
 ghost use Rattle.flow_json.specs.Types.{TyIsText};
 ghost use Rattle.flow_json.specs.Unread.{IsUnread};

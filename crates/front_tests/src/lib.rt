@@ -1,4 +1,5 @@
-//! Tests of the front end, beside the rows that `front_rows` reads. Tests alone: beside the libraries they would have these proved a second time.
+//! Tests of the front end, beside the rows that `front_rows` reads. Tests alone: beside the libraries they would have these proved a second
+//! time.
 #![tactic(auto)]
 
 #[cfg(test)]

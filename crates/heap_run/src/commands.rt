@@ -3,7 +3,22 @@
 ghost use Rattle.std.specs.Prelude.{◌≡◌, ◌<◌, ℕ, pos, [], ◌∷◌, ◌++◌, length, map, slice_get, slice_index_or, All, IfOk, if◌then◌else◌};
 ghost use Rattle.std.specs.Option.{IfSome, IsSomeAnd};
 ghost use Rattle.shape_data.specs.Heap.{cell_at, put, with_field, AreRising, IsHeap};
-ghost use Rattle.shape_data.specs.Machine.{any_step, arith_value, at_cell, called, free_step, go_to as goes_to, go_with as goes_with, new_step, operand_value, proc_named_from, returned, step_cmd, test_passes, top_of};
+ghost use Rattle.shape_data.specs.Machine.{
+  any_step,
+  arith_value,
+  at_cell,
+  called,
+  free_step,
+  go_to as goes_to,
+  go_with as goes_with,
+  new_step,
+  operand_value,
+  proc_named_from,
+  returned,
+  step_cmd,
+  test_passes,
+  top_of,
+};
 ghost use Rattle.shape_data.specs.WellFormed.{IsCmd, IsCountable, IsOperand, ReturnsInto};
 ghost use Rattle.heap_run.specs.Access.{HaveField};
 
@@ -68,7 +83,8 @@ impl Machine {
     fn copy(self, to: u32, from: Operand, next: u32) -> Result<Stepped, AllocError>
         requires to { to < length self.frame.locals }
         requires from { IsOperand (length self.frame.locals) from }
-        ensures { IfOk result (λ stepped. stepped ≡ goes_with self.below self.frame self.heap to (operand_value self.frame.locals from) next) }
+        ensures { IfOk result (λ stepped. stepped
+            ≡ goes_with self.below self.frame self.heap to (operand_value self.frame.locals from) next) }
     {
         let value = value_of(&self.frame.locals, from);
         self.go_with(to, value, next)
@@ -226,7 +242,8 @@ impl Machine {
     fn free_cell(mut self, base: u32, next: u32) -> Result<Stepped, AllocError>
         requires base { base < length self.frame.locals }
         requires heap { AreRising (pos 0) self.heap }
-        ensures { IfOk result (λ stepped. stepped ≡ free_step self.below self.frame self.heap (slice_index_or self.frame.locals base (pos 0)) self.line next) }
+        ensures { IfOk result (λ stepped. stepped
+            ≡ free_step self.below self.frame self.heap (slice_index_or self.frame.locals base (pos 0)) self.line next) }
     {
         let at = value_of(&self.frame.locals, Operand::Slot(base));
         if at == 0 || take_cell(&mut self.heap, at) {
@@ -261,7 +278,8 @@ impl Machine {
 
     /// A frame stands on top of the one that ran, which waits at a node.
     fn enter(self, next: u32, callee: Frame) -> Result<Stepped, AllocError>
-        ensures { IfOk result (λ stepped. stepped ≡ Stepped.On (record { stack = self.below ++ record self.frame { node = next } ∷ callee ∷ []; heap = self.heap })) }
+        ensures { IfOk result (λ stepped. stepped
+            ≡ Stepped.On (record { stack = self.below ++ record self.frame { node = next } ∷ callee ∷ []; heap = self.heap })) }
     {
         let Machine {
             mut below,
@@ -299,7 +317,8 @@ impl Machine {
     fn return_value(self, value: Operand) -> Result<Stepped, AllocError>
         requires value { IsOperand (length self.frame.locals) value }
         requires to { ReturnsInto (top_of self.below) self.frame }
-        ensures { IfOk result (λ stepped. stepped ≡ returned self.below self.frame self.heap (operand_value self.frame.locals value) (top_of self.below)) }
+        ensures { IfOk result (λ stepped. stepped
+            ≡ returned self.below self.frame self.heap (operand_value self.frame.locals value) (top_of self.below)) }
     {
         let value = value_of(&self.frame.locals, value);
         let Machine {

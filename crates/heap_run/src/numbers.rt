@@ -2,7 +2,14 @@
 //! `Copy`, `Arith`, `Any` and `Branch`, and stand on no heap.
 ghost use Rattle.std.specs.Prelude.{◌≡◌, length, All, IfOk, map};
 ghost use Rattle.std.specs.Int.{int_wrap, w32};
-ghost use Rattle.shape_data.specs.Machine.{arith_value, are_of_fields as are_numbers_of, has_32_bits as fits_32_bits, is_of_type as is_number_of, operand_value, test_passes};
+ghost use Rattle.shape_data.specs.Machine.{
+  arith_value,
+  are_of_fields as are_numbers_of,
+  has_32_bits as fits_32_bits,
+  is_of_type as is_number_of,
+  operand_value,
+  test_passes,
+};
 ghost use Rattle.shape_data.specs.WellFormed.{IsOperand};
 
 use shape_data::machine::Value;

@@ -37,7 +37,8 @@ pub fn start(
 ) -> Result<Config, AllocError>
     requires proc { IsSomeAnd (slice_get program.now.procs proc) (λ found. length args.now ≡ length found.flow.params) }
     requires heap { IsHeap program.now.structs heap.now }
-    ensures config { IfOk result (λ config. IsSomeAnd (slice_get program.now.procs proc) (λ found. config ≡ start_of found.flow proc args.now heap.now)) }
+    ensures config { IfOk result (λ config. IsSomeAnd (slice_get program.now.procs proc) (λ found. config
+        ≡ start_of found.flow proc args.now heap.now)) }
     ensures well_formed { IfOk result (λ config. IsProgram program.now → IsConfig program.now config) }
 {
     let flow = &program.procs[proc as usize].flow;

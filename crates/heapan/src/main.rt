@@ -1,4 +1,5 @@
-//! The program. It hands the real words, standard input, standard output and files to the top call, with a gate that is always open and a reporter that counts, and ends with the number of its status; what is promised of it is that call's contract.
+//! The program. It hands the real words, standard input, standard output and files to the top call, with a gate that is always open and a
+//! reporter that counts, and ends with the number of its status; what is promised of it is that call's contract.
 #![tactic(auto)]
 
 use heapan_top::run;

@@ -1,6 +1,26 @@
 //! A source, a sink and a keeper in memory of which given calls fail, for tests of faults in mid-stream. Each is the
 //! steady one beside the numbers of those calls; calls are numbered from 0.
-ghost use Rattle.std.specs.Prelude.{◌≡◌, ◌≢◌, ◌≤◌, ◌<◌, ◌↔◌, ℕ, List, [], ◌++◌, length, take, min, if◌then◌else◌, is_err, IfOk, OnOk, OnErr, IsErr, Contains};
+ghost use Rattle.std.specs.Prelude.{
+  ◌≡◌,
+  ◌≢◌,
+  ◌≤◌,
+  ◌<◌,
+  ◌↔◌,
+  ℕ,
+  List,
+  [],
+  ◌++◌,
+  length,
+  take,
+  min,
+  if◌then◌else◌,
+  is_err,
+  IfOk,
+  OnOk,
+  OnErr,
+  IsErr,
+  Contains,
+};
 ghost use Rattle.std.specs.declared.option.Option.TheVariants.{Some, None};
 ghost use Rattle.std.specs.Option.{option_map};
 ghost use Rattle.io_ports.specs.Counts.{next_count};

@@ -1,5 +1,11 @@
 //! Laws of limits, each the contract of a function that does nothing.
-ghost use Rattle.limit_laws.specs.Laws.{CandidatesAreStorable, ComposedKeysHaveSizes, DoneIsStorable, ExecutionKeepsLogical, ExitsKeepLogical};
+ghost use Rattle.limit_laws.specs.Laws.{
+  CandidatesAreStorable,
+  ComposedKeysHaveSizes,
+  DoneIsStorable,
+  ExecutionKeepsLogical,
+  ExitsKeepLogical,
+};
 ghost use Rattle.limit_laws.specs.Laws.{FormsHaveLowExistentials, NodesKeepLogical, SolvedIsStorable};
 
 /// The existential variables of a canonical form have the first numbers.

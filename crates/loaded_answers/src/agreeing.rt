@@ -17,7 +17,8 @@ fn agrees_with(loaded: &LoadedAnswers, entry: &Kept) -> bool
     }
 }
 
-/// Whether each entry has the answer of the first loaded entry with its key, or, where there is none, an answer that was read from no store.
+/// Whether each entry has the answer of the first loaded entry with its key, or, where there is none, an answer that was read from no
+/// store.
 pub fn agrees(loaded: &LoadedAnswers, entries: &[Kept]) -> bool
     ensures { IsTrue result ↔ All (λ entry. Agrees loaded.now (solution_of entry)) entries.now }
 {

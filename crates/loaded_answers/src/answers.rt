@@ -34,7 +34,9 @@ impl Model for LoadedAnswers {
 
 /// Adds an entry to what is found, unless one with its key is found already.
 fn add_entry(found: &mut IndexMap<EntryKey, Arc<Answer>>, entry: &Kept) -> Result<(), AllocError>
-    ensures { OnOk result ((loaded : List Solution) → AreFound (λ answer. answer.value) loaded found.old → AreFound (λ answer. answer.value) (loaded ++ solution_of entry.now ∷ []) found.new) }
+    ensures { OnOk result
+        ((loaded : List Solution) → AreFound (λ answer. answer.value) loaded found.old
+        → AreFound (λ answer. answer.value) (loaded ++ solution_of entry.now ∷ []) found.new) }
 {
     if found.contains_key(SoughtKey { key: &entry.key }) {
         return Ok(());

@@ -8,7 +8,16 @@ ghost use Rattle.sym_matching.specs.declared.matching.Wanted.{Wanted as AnyWante
 ghost use Rattle.sym_matching.specs.NewVariables.{HasRoom};
 ghost use Rattle.sym_matching.specs.Rooms.{fields_of, fields_wanted, names_of, names_wanted};
 ghost use Rattle.sym_matching.specs.Steps.{and_then};
-ghost use Rattle.sym_matching.specs.WantedAtoms.{first_number as first_number_of, has_end as has_end_of, has_source as has_source_of, next_place as next_place_of, want_at, want_atom as want_atom_of, want_atoms as want_atoms_of, wanted_from as wanted_from_of};
+ghost use Rattle.sym_matching.specs.WantedAtoms.{
+  first_number as first_number_of,
+  has_end as has_end_of,
+  has_source as has_source_of,
+  next_place as next_place_of,
+  want_at,
+  want_atom as want_atom_of,
+  want_atoms as want_atoms_of,
+  wanted_from as wanted_from_of,
+};
 ghost use Rattle.matching_steps.specs.InSetting.{rules_in};
 
 use crate::segments::want_segment;
@@ -74,7 +83,8 @@ fn has_end(setting: &Setting, m: &Matching, atom: &Atom) -> bool
 
 /// The place of the first wanted atom whose source and end are determined.
 fn first_ready(setting: &Setting, m: &Matching, wanted: &[Wanted]) -> Option<usize>
-    ensures first { result ≡ position (λ w. has_source_of (rules_in setting.now) m.now w.atom && has_end_of (rules_in setting.now) m.now w.atom) wanted.now }
+    ensures first { result
+        ≡ position (λ w. has_source_of (rules_in setting.now) m.now w.atom && has_end_of (rules_in setting.now) m.now w.atom) wanted.now }
     ensures within { IfSome result (λ place. place < length wanted.now) }
 {
     wanted.iter().position(|w| has_source(setting, m, &w.atom) && has_end(setting, m, &w.atom))
@@ -118,7 +128,9 @@ fn want_next(
 ) -> Result<Turned, AllocError>
     requires room { HasRoom (fields_wanted wanted.old) m.used }
     requires names { m.next + names_wanted wanted.old < 4294967296 }
-    ensures goes { IfOk result (λ turned. (go_on : List AnyWanted → AnyMatching → AnyTurned) → want_at (rules_in setting.now) m wanted.old go_on (next_place_of (rules_in setting.now) m wanted.old) ≡ and_then (go_on wanted.new) turned) }
+    ensures goes { IfOk result (λ turned. (go_on : List AnyWanted → AnyMatching → AnyTurned)
+        → want_at (rules_in setting.now) m wanted.old go_on (next_place_of (rules_in setting.now) m wanted.old)
+        ≡ and_then (go_on wanted.new) turned) }
     ensures room { IfOk result (λ turned. (n : AnyMatching) → turned ≡ On n → HasRoom (fields_wanted wanted.new) n.used) }
     ensures names { IfOk result (λ turned. (n : AnyMatching) → turned ≡ On n → n.next + names_wanted wanted.new < 4294967296) }
 {
@@ -156,7 +168,8 @@ pub fn want_atoms(
 
 /// Puts the atom behind the wanted ones, unless it is Junk.
 fn add_wanted(all: &mut Row<Wanted>, number: u32, atom: &Atom) -> Result<(), AllocError>
-    ensures { IfOk result (λ _. (atoms : List AnyAtom) → all.old ++ wanted_from_of number (atom.now ∷ atoms) ≡ all.new ++ wanted_from_of (number + 1) atoms) }
+    ensures { IfOk result (λ _. (atoms : List AnyAtom)
+        → all.old ++ wanted_from_of number (atom.now ∷ atoms) ≡ all.new ++ wanted_from_of (number + 1) atoms) }
 {
     match atom {
         Atom::Points { .. } => all.push(Wanted {

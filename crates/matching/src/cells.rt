@@ -4,7 +4,13 @@ ghost use Rattle.std.specs.Str.{bytes_eq};
 ghost use Rattle.sym_laws.specs.Expressions.{same_exp};
 ghost use Rattle.sym_matching.specs.NewVariables.{HasRoom};
 ghost use Rattle.sym_matching.specs.Steps.{whole as whole_of};
-ghost use Rattle.sym_matching.specs.WantedCells.{is_to_unfold as is_to_unfold_of, take_cell as take_cell_of, take_field as take_field_of, take_fields as take_fields_of, take_unfolded as take_unfolded_of};
+ghost use Rattle.sym_matching.specs.WantedCells.{
+  is_to_unfold as is_to_unfold_of,
+  take_cell as take_cell_of,
+  take_field as take_field_of,
+  take_fields as take_fields_of,
+  take_unfolded as take_unfolded_of,
+};
 ghost use Rattle.matching_steps.specs.InSetting.{rules_in};
 
 use matching_steps::new_variables::{as_exps, fresh_variables};
@@ -86,7 +92,8 @@ pub fn take_cell(
     place: usize,
 ) -> Result<Turned, AllocError>
     requires { place < length m.left }
-    ensures { IfOk result (λ turned. turned ≡ take_cell_of (rules_in setting.now) number kind.now wants.now m place (slice_get m.left place)) }
+    ensures { IfOk result (λ turned. turned
+        ≡ take_cell_of (rules_in setting.now) number kind.now wants.now m place (slice_get m.left place)) }
 {
     let mut m = m;
     let atom = m.left.remove(place);
@@ -158,7 +165,8 @@ pub fn place_of_segment(
     kind: &Name,
     m: &Matching,
 ) -> Result<Option<usize>, AllocError>
-    ensures first { IfOk result (λ found. found ≡ position (is_to_unfold_of (whole_of (rules_in setting.now) m.now) e kind.now) m.now.left) }
+    ensures first { IfOk result (λ found. found
+        ≡ position (is_to_unfold_of (whole_of (rules_in setting.now) m.now) e kind.now) m.now.left) }
     ensures within { IfOk result (λ found. IfSome found (λ place. place < length m.now.left)) }
 {
     let all = whole(alloc, setting, m)?;

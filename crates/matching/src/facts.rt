@@ -3,7 +3,16 @@ ghost use Rattle.std.specs.Prelude.{◌≡◌, ◌<◌, ◌+◌, IfOk, length};
 ghost use Rattle.shape_data.specs.declared.symbolic.Fact.TheVariants.{Eq, Ne};
 ghost use Rattle.sym_pure.specs.Sources.{differs as differs_of};
 ghost use Rattle.sym_matching.specs.Steps.{whole as whole_of};
-ghost use Rattle.sym_matching.specs.WantedFacts.{miss_disequality as miss_disequality_of, miss_equation as miss_equation_of, want_all_owed as want_all_owed_of, want_apart as want_apart_of, want_fact as want_fact_of, want_facts as want_facts_of, want_owed as want_owed_of, want_same as want_same_of};
+ghost use Rattle.sym_matching.specs.WantedFacts.{
+  miss_disequality as miss_disequality_of,
+  miss_equation as miss_equation_of,
+  want_all_owed as want_all_owed_of,
+  want_apart as want_apart_of,
+  want_fact as want_fact_of,
+  want_facts as want_facts_of,
+  want_owed as want_owed_of,
+  want_same as want_same_of,
+};
 ghost use Rattle.matching_steps.specs.InSetting.{rules_in};
 
 use matching_steps::missing::miss_fact;

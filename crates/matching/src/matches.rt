@@ -1,6 +1,14 @@
 //! The match as a whole.
 ghost use Rattle.std.specs.Prelude.{◌≡◌, ◌++◌, ◌+◌, ◌<◌, ◌≤◌, IfOk, length};
-ghost use Rattle.sym_matching.specs.Matches.{answer_abd, argument_variables as argument_variables_of, matching, rules_of, start_of, want_heap as want_heap_of, want_spatial as want_spatial_of};
+ghost use Rattle.sym_matching.specs.Matches.{
+  answer_abd,
+  argument_variables as argument_variables_of,
+  matching,
+  rules_of,
+  start_of,
+  want_heap as want_heap_of,
+  want_spatial as want_spatial_of,
+};
 ghost use Rattle.sym_matching.specs.NewVariables.{HasRoom};
 ghost use Rattle.sym_matching.specs.Rooms.{IsWithinSizes, fields_of_all};
 ghost use Rattle.sym_matching.specs.Steps.{and_then};
@@ -53,7 +61,9 @@ fn want_pure(
     m: Matching,
 ) -> Result<Turned, AllocError>
     requires { length b.now.spatial + length b.now.pure < 4294967296 }
-    ensures { IfOk result (λ turned. turned ≡ and_then (want_facts_of (rules_in setting.now) (length b.now.spatial) b.now.pure) (want_all_owed_of (rules_in setting.now) m.owed m)) }
+    ensures { IfOk result (λ turned. turned
+        ≡ and_then (want_facts_of (rules_in setting.now) (length b.now.spatial) b.now.pure)
+        (want_all_owed_of (rules_in setting.now) m.owed m)) }
 {
     match want_left_over(alloc, setting, m)? {
         Turned::On(n) => {
@@ -186,7 +196,8 @@ pub fn find(
     requires flexible { AreSmall flexible.now }
     requires avoid { AreSmall avoid.now }
     requires next { next ≤ 65536 }
-    ensures { IfOk result (λ found. found ≡ answer_abd (rules_of mode a.now flexible.now) b.now (matching mode a.now b.now bound.now flexible.now avoid.now next)) }
+    ensures { IfOk result (λ found. found
+        ≡ answer_abd (rules_of mode a.now flexible.now) b.now (matching mode a.now b.now bound.now flexible.now avoid.now next)) }
 {
     let used = used_variables(alloc, a, b, bound, flexible, avoid)?;
     let m = start(alloc, a, bound, used, next)?;

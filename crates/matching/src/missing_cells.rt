@@ -3,7 +3,18 @@ ghost use Rattle.std.specs.Prelude.{◌≡◌, ◌+◌, ◌<◌, ◌≤◌, IfOk
 ghost use Rattle.std.specs.List.{list_all, list_any};
 ghost use Rattle.sym_matching.specs.NewVariables.{HasRoom};
 ghost use Rattle.sym_matching.specs.Reading.{is_logical as is_logical_of, read as read_of};
-ghost use Rattle.sym_matching.specs.WantedCells.{is_atom_from as is_atom_from_of, is_to_part as is_to_part_of, miss_cell as miss_cell_of, miss_named as miss_named_of, miss_read as miss_read_of, name_field as name_field_of, name_fields as name_fields_of, part_at as part_at_of, place_to_part as place_to_part_of, take_parted as take_parted_of};
+ghost use Rattle.sym_matching.specs.WantedCells.{
+  is_atom_from as is_atom_from_of,
+  is_to_part as is_to_part_of,
+  miss_cell as miss_cell_of,
+  miss_named as miss_named_of,
+  miss_read as miss_read_of,
+  name_field as name_field_of,
+  name_fields as name_fields_of,
+  part_at as part_at_of,
+  place_to_part as place_to_part_of,
+  take_parted as take_parted_of,
+};
 ghost use Rattle.matching_steps.specs.InSetting.{rules_in};
 
 use crate::cells::{is_from, take_unfolded};
@@ -113,7 +124,8 @@ fn miss_named(
     m: Matching,
 ) -> Result<Turned, AllocError>
     requires { m.next + length wants.now < 4294967296 }
-    ensures { IfOk result (λ turned. turned ≡ miss_named_of (rules_in setting.now) number kind.now wants.now e (name_fields_of (rules_in setting.now) wants.now m)) }
+    ensures { IfOk result (λ turned. turned
+        ≡ miss_named_of (rules_in setting.now) number kind.now wants.now e (name_fields_of (rules_in setting.now) wants.now m)) }
 {
     let n = name_fields(setting, wants, m)?;
     let fields = read_all(alloc, setting, &n, wants)?;
@@ -216,7 +228,8 @@ pub fn want_missing(
 ) -> Result<Turned, AllocError>
     requires room { HasRoom (length wants.now) m.used }
     requires names { m.next + length wants.now < 4294967296 }
-    ensures { IfOk result (λ turned. turned ≡ part_at_of (rules_in setting.now) number kind.now wants.now e m (place_to_part_of setting.now.mode e kind.now m.left)) }
+    ensures { IfOk result (λ turned. turned
+        ≡ part_at_of (rules_in setting.now) number kind.now wants.now e m (place_to_part_of setting.now.mode e kind.now m.left)) }
 {
     match place_to_part(setting.mode, e, kind, m.left.as_slice()) {
         Some(place) => take_parted(alloc, setting, number, wants, m, place),

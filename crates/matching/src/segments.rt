@@ -3,7 +3,18 @@ ghost use Rattle.std.specs.Prelude.{◌≡◌, ◌&&◌, ◌==◌, ◌+◌, ◌<
 ghost use Rattle.shape_data.specs.declared.symbolic.Exp.{Exp as AnyExp};
 ghost use Rattle.sym_matching.specs.declared.matching.Matching.{Matching as AnyMatching};
 ghost use Rattle.sym_matching.specs.declared.matching.Turned.{Turned as AnyTurned};
-ghost use Rattle.sym_matching.specs.WantedSegments.{bind_end as bind_end_of, is_cell_of as is_cell_of_kind, is_segment_of as is_segment_of_kind, miss_segment as miss_segment_of, next_of as next_of_atom, piece as piece_of, reach as reach_of, take_piece as take_piece_of, walk as walk_of, want_segment as want_segment_of};
+ghost use Rattle.sym_matching.specs.WantedSegments.{
+  bind_end as bind_end_of,
+  is_cell_of as is_cell_of_kind,
+  is_segment_of as is_segment_of_kind,
+  miss_segment as miss_segment_of,
+  next_of as next_of_atom,
+  piece as piece_of,
+  reach as reach_of,
+  take_piece as take_piece_of,
+  walk as walk_of,
+  want_segment as want_segment_of,
+};
 ghost use Rattle.matching_steps.specs.InSetting.{rules_in};
 
 use crate::cells::is_from;
@@ -88,7 +99,8 @@ fn piece(kind: &Name, link: u32, e: Exp, atoms: &[Atom]) -> Option<usize>
 /// Takes the atom at a place; where it leads to.
 fn take_piece(link: u32, m: &mut Matching, place: usize) -> Result<Exp, AllocError>
     requires { place < length m.old.left }
-    ensures { IfOk result (λ next. (number : ℕ) (go_on : AnyExp → AnyMatching → AnyTurned) → take_piece_of number link m.old go_on place (slice_get m.old.left place) ≡ go_on next m.new) }
+    ensures { IfOk result (λ next. (number : ℕ) (go_on : AnyExp → AnyMatching → AnyTurned)
+        → take_piece_of number link m.old go_on place (slice_get m.old.left place) ≡ go_on next m.new) }
 {
     let atom = m.left.remove(place);
     let next = next_of(link, &atom);

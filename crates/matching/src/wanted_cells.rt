@@ -2,7 +2,11 @@
 ghost use Rattle.std.specs.Prelude.{◌≡◌, ◌+◌, ◌<◌, IfOk, length, position};
 ghost use Rattle.sym_matching.specs.NewVariables.{HasRoom};
 ghost use Rattle.sym_matching.specs.Steps.{whole as whole_of};
-ghost use Rattle.sym_matching.specs.WantedCells.{is_to_unfold as is_to_unfold_of, unfold_place as unfold_place_of, want_cell as want_cell_of};
+ghost use Rattle.sym_matching.specs.WantedCells.{
+  is_to_unfold as is_to_unfold_of,
+  unfold_place as unfold_place_of,
+  want_cell as want_cell_of,
+};
 ghost use Rattle.matching_steps.specs.InSetting.{rules_in};
 
 use crate::cells::{place_of_segment, take_cell, take_unfolded};
@@ -26,7 +30,9 @@ fn want_out_of_segment(
 ) -> Result<Turned, AllocError>
     requires room { HasRoom (length wants.now) m.used }
     requires names { m.next + length wants.now < 4294967296 }
-    ensures { IfOk result (λ turned. turned ≡ unfold_place_of (rules_in setting.now) number kind.now wants.now e m (position (is_to_unfold_of (whole_of (rules_in setting.now) m) e kind.now) m.left)) }
+    ensures { IfOk result (λ turned. turned
+        ≡ unfold_place_of (rules_in setting.now) number kind.now wants.now e m
+        (position (is_to_unfold_of (whole_of (rules_in setting.now) m) e kind.now) m.left)) }
 {
     match place_of_segment(alloc, setting, e, kind, &m)? {
         Some(place) => take_unfolded(alloc, setting, number, wants, m, place),

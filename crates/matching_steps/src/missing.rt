@@ -1,7 +1,13 @@
 //! Saying that a part is missing. Where the whole heap with it, or all that is missing by itself, is a contradiction, the match is
 //! stuck.
 ghost use Rattle.std.specs.Prelude.{◌≡◌, ◌||◌, IfOk};
-ghost use Rattle.sym_matching.specs.Steps.{contradicts as contradicts_of, miss_atom as miss_atom_of, miss_fact as miss_fact_of, unless_contradiction as unless_contradiction_of, whole as whole_of};
+ghost use Rattle.sym_matching.specs.Steps.{
+  contradicts as contradicts_of,
+  miss_atom as miss_atom_of,
+  miss_fact as miss_fact_of,
+  unless_contradiction as unless_contradiction_of,
+  whole as whole_of,
+};
 ghost use Rattle.matching_steps.specs.InSetting.{rules_in};
 
 use crate::reading::Setting;

@@ -1,6 +1,11 @@
 //! Reading the expressions of the wanted heap: through the binding, and through the heap's equations.
 ghost use Rattle.std.specs.Prelude.{◌≡◌};
-ghost use Rattle.sym_matching.specs.Reading.{is_logical as is_logical_of, is_logical_variable as is_logical_variable_of, is_unbound as is_unbound_of, read as read_of};
+ghost use Rattle.sym_matching.specs.Reading.{
+  is_logical as is_logical_of,
+  is_logical_variable as is_logical_variable_of,
+  is_unbound as is_unbound_of,
+  read as read_of,
+};
 
 use shape_data::symbolic::{Exp, FIRST_EXISTENTIAL, Fact};
 use sym_matching::Mode;

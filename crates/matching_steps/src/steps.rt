@@ -70,7 +70,11 @@ pub fn put_unfolded(
     fields: Row<Exp>,
 ) -> Result<Matching, AllocError>
     requires { place ≤ length m.left }
-    ensures { IfOk result (λ n. n ≡ record m { left = insert m.left place (Seg kind link (slice_index_or fields link (Const (pos 0))) to); gone = m.gone ++ Points from kind fields ∷ [] }) }
+    ensures { IfOk result (λ n. n
+        ≡ record m {
+          left = insert m.left place (Seg kind link (slice_index_or fields link (Const (pos 0))) to);
+          gone = m.gone ++ Points from kind fields ∷ [];
+        }) }
 {
     let mut m = m;
     let next = exp_at(fields.as_slice(), link);

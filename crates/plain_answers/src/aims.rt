@@ -67,7 +67,8 @@ fn reached_by(
 ) -> Result<Vec<bool>, AllocError>
     requires rows { AreRows program.now components.now }
     requires start { start < length components.now }
-    ensures { IfOk result (λ marks. (component : ℕ) → marked marks.items component ≡ holds (reached (component_calls program.now) start) component) }
+    ensures { IfOk result (λ marks. (component : ℕ)
+        → marked marks.items component ≡ holds (reached (component_calls program.now) start) component) }
 {
     let calls = calls_of(alloc, components)?;
     reach(alloc, &calls, &[start])

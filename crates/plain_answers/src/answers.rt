@@ -90,7 +90,8 @@ fn table_of<R: Wait, G: Gate>(
     requires loaded { All IsStoredEntry loaded.now }
     requires rows { AreRows program.now components.now }
     requires closed { IsClosed program.now (marked marks.now) }
-    ensures { IfOk result (λ table. IsTable (marked marks.now) (known_by (lookup loaded.now) program.now) (length components.now) table.items) }
+    ensures { IfOk result (λ table. IsTable (marked marks.now) (known_by (lookup loaded.now) program.now) (length components.now)
+        table.items) }
 {
     known_is_storable();
     let structures = structures_of(alloc, &program.structs)?;

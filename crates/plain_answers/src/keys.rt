@@ -64,7 +64,8 @@ fn callees_of(
     outers: &[Outer],
 ) -> Result<Row<Callee>, AllocError>
     requires { All (λ outer. outer.number < length program.now.procs) outers.now }
-    ensures { IfOk result (λ callees. callees ≡ map (callee_over (answer_at table.now)) (filter_map (outer_value (flows_of program.now)) outers.now)) }
+    ensures { IfOk result (λ callees. callees
+        ≡ map (callee_over (answer_at table.now)) (filter_map (outer_value (flows_of program.now)) outers.now)) }
 {
     let mut callees = Row::new(alloc);
     for outer in outers {

@@ -2,7 +2,13 @@
 ghost use Rattle.std.specs.Prelude.{◌≡◌, length, All, IfOk, OnOk};
 ghost use Rattle.shape_data.specs.WellFormed.{IsSymHeap};
 ghost use Rattle.subtraction.specs.Conditions.{IsPostWithinSizes};
-ghost use Rattle.annotation_laws.specs.Annotation.{all_done as all_done_of, annotate as annotate_of, empty_listing as empty_listing_of, kept as kept_of, started as started_by};
+ghost use Rattle.annotation_laws.specs.Annotation.{
+  all_done as all_done_of,
+  annotate as annotate_of,
+  empty_listing as empty_listing_of,
+  kept as kept_of,
+  started as started_by,
+};
 ghost use Rattle.certificate_laws.specs.Conditions.{IsTask};
 ghost use Rattle.certificate_laws.specs.Limits.{analysable};
 ghost use Rattle.post_gen.specs.Conditions.{IsListing};

@@ -2,7 +2,14 @@
 //! node, and of exits.
 ghost use Rattle.std.specs.Prelude.{◌≡◌, ◌<◌, ◌≤◌, [], length, ltb, map, IfOk, OnOk};
 ghost use Rattle.annotation_laws.specs.Annotation.{empty_listing as empty_listing_of};
-ghost use Rattle.annotation_laws.specs.Listing.{MOST_PARTS as most_parts, exit_comes as exit_comes_of, parts_of, state_comes as state_comes_of, with_exit, with_state};
+ghost use Rattle.annotation_laws.specs.Listing.{
+  MOST_PARTS as most_parts,
+  exit_comes as exit_comes_of,
+  parts_of,
+  state_comes as state_comes_of,
+  with_exit,
+  with_state,
+};
 ghost use Rattle.certificate_laws.specs.Conditions.{IsTask, IsTaskPost, IsTaskState};
 ghost use Rattle.post_gen.specs.Conditions.{IsListing};
 ghost use Rattle.post_gen.specs.InListing.{course_of, listing_in};

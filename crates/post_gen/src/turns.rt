@@ -1,6 +1,12 @@
 //! Turns: the first state of the queue is executed, and what comes of it is abstracted and comes to its node or to the exits.
 ghost use Rattle.std.specs.Prelude.{◌≡◌, ◌<◌, length, All, IfOk, OnOk};
-ghost use Rattle.annotation_laws.specs.Annotation.{after_step as after_step_of, post_comes as post_comes_of, result_comes as result_comes_of, turn_of as turn_by, turns as turns_of};
+ghost use Rattle.annotation_laws.specs.Annotation.{
+  after_step as after_step_of,
+  post_comes as post_comes_of,
+  result_comes as result_comes_of,
+  turn_of as turn_by,
+  turns as turns_of,
+};
 ghost use Rattle.annotation_laws.specs.Listing.{all_come};
 ghost use Rattle.certificate_laws.specs.Conditions.{AreNexts, GoesOnWithin, IsGivenState, IsGivenStep, IsTask, IsTaskPost, IsTaskState};
 ghost use Rattle.post_gen.specs.Conditions.{AreWithin, IsListing};
@@ -28,7 +34,8 @@ fn result_comes(
     requires listing { IsListing (task_in task.now) (listing_in listing.old) }
     requires node { node < length task.now.flow.now.nodes }
     requires state { IsTaskState (task_in task.now) state.now }
-    ensures value { IfOk result (λ ended. course_of ended (listing_in listing.new) ≡ result_comes_of (task_in task.now) (node, state.now) (listing_in listing.old)) }
+    ensures value { IfOk result (λ ended. course_of ended (listing_in listing.new)
+        ≡ result_comes_of (task_in task.now) (node, state.now) (listing_in listing.old)) }
     ensures listing { OnOk result (IsListing (task_in task.now) (listing_in listing.new)) }
 {
     match at_node(alloc, task, node, state)? {
@@ -48,7 +55,8 @@ fn results_come(
     requires listing { IsListing (task_in task.now) (listing_in listing.old) }
     requires nexts { AreNexts (task_in task.now) nexts.now }
     requires within { AreWithin (task_in task.now) nexts.now }
-    ensures value { IfOk result (λ ended. course_of ended (listing_in listing.new) ≡ all_come (result_comes_of (task_in task.now)) nexts.now (listing_in listing.old)) }
+    ensures value { IfOk result (λ ended. course_of ended (listing_in listing.new)
+        ≡ all_come (result_comes_of (task_in task.now)) nexts.now (listing_in listing.old)) }
     ensures listing { OnOk result (IsListing (task_in task.now) (listing_in listing.new)) }
 {
     for next in nexts {
@@ -69,7 +77,8 @@ fn post_comes(
     requires task { IsTask (task_in task.now) }
     requires listing { IsListing (task_in task.now) (listing_in listing.old) }
     requires post { IsTaskPost (task_in task.now) post.now }
-    ensures value { IfOk result (λ ended. course_of ended (listing_in listing.new) ≡ post_comes_of (task_in task.now) post.now (listing_in listing.old)) }
+    ensures value { IfOk result (λ ended. course_of ended (listing_in listing.new)
+        ≡ post_comes_of (task_in task.now) post.now (listing_in listing.old)) }
     ensures listing { OnOk result (IsListing (task_in task.now) (listing_in listing.new)) }
 {
     match at_exit(alloc, task, post)? {
@@ -88,7 +97,8 @@ fn posts_come(
     requires task { IsTask (task_in task.now) }
     requires listing { IsListing (task_in task.now) (listing_in listing.old) }
     requires posts { All (IsTaskPost (task_in task.now)) posts.now }
-    ensures value { IfOk result (λ ended. course_of ended (listing_in listing.new) ≡ all_come (post_comes_of (task_in task.now)) posts.now (listing_in listing.old)) }
+    ensures value { IfOk result (λ ended. course_of ended (listing_in listing.new)
+        ≡ all_come (post_comes_of (task_in task.now)) posts.now (listing_in listing.old)) }
     ensures listing { OnOk result (IsListing (task_in task.now) (listing_in listing.new)) }
 {
     for post in posts {
@@ -110,7 +120,8 @@ fn after_step(
     requires listing { IsListing (task_in task.now) (listing_in listing.old) }
     requires step { IsGivenStep (task_in task.now) step.now }
     requires within { GoesOnWithin (task_in task.now) step.now }
-    ensures value { IfOk result (λ ended. course_of ended (listing_in listing.new) ≡ after_step_of (task_in task.now) step.now (listing_in listing.old)) }
+    ensures value { IfOk result (λ ended. course_of ended (listing_in listing.new)
+        ≡ after_step_of (task_in task.now) step.now (listing_in listing.old)) }
     ensures listing { OnOk result (IsListing (task_in task.now) (listing_in listing.new)) }
 {
     match step {
@@ -138,7 +149,8 @@ fn turn_of(
     requires task { IsTask (task_in task.now) }
     requires listing { IsListing (task_in task.now) (listing_in listing.old) }
     requires state { IsGivenState (task_in task.now) state.now }
-    ensures value { IfOk result (λ ended. course_of ended (listing_in listing.new) ≡ turn_by (task_in task.now) node state.now (listing_in listing.old)) }
+    ensures value { IfOk result (λ ended. course_of ended (listing_in listing.new)
+        ≡ turn_by (task_in task.now) node state.now (listing_in listing.old)) }
     ensures listing { OnOk result (IsListing (task_in task.now) (listing_in listing.new)) }
 {
     let step = exec(alloc, task.flow, task.structs, node, state, task.table)?;
@@ -154,7 +166,8 @@ pub fn turns(
 ) -> Result<Option<Ended>, AllocError>
     requires task { IsTask (task_in task.now) }
     requires listing { IsListing (task_in task.now) (listing_in listing.old) }
-    ensures value { IfOk result (λ ended. annotated_of ended (listing_in listing.new) ≡ turns_of most (task_in task.now) (listing_in listing.old)) }
+    ensures value { IfOk result (λ ended. annotated_of ended (listing_in listing.new)
+        ≡ turns_of most (task_in task.now) (listing_in listing.old)) }
     ensures listing { OnOk result (IsListing (task_in task.now) (listing_in listing.new)) }
 {
     for _turn in 0..most {

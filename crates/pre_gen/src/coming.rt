@@ -6,7 +6,13 @@ ghost use Rattle.abstraction_laws.specs.Pairs.{beside_nothing as beside_nothing_
 ghost use Rattle.abstraction_laws.specs.Rooms.{HaveFewFields};
 ghost use Rattle.certificate_laws.specs.Conditions.{IsTask};
 ghost use Rattle.certificate_steps.specs.InTask.{task_in};
-ghost use Rattle.candidate_laws.specs.Coming.{candidate_of as candidate_of_missing, in_form as in_form_of, pair_at_node as pair_at_node_of, start_pair as start_pair_of, start_pair_at_node as start_pair_at_node_of};
+ghost use Rattle.candidate_laws.specs.Coming.{
+  candidate_of as candidate_of_missing,
+  in_form as in_form_of,
+  pair_at_node as pair_at_node_of,
+  start_pair as start_pair_of,
+  start_pair_at_node as start_pair_at_node_of,
+};
 ghost use Rattle.candidate_laws.specs.Conditions.{IsPairWithinRoom};
 
 use certificate_steps::Task;

@@ -3,7 +3,14 @@ ghost use Rattle.std.specs.Prelude.{◌≡◌, ◌<◌, length, leb, ltb, OnOk};
 ghost use Rattle.std.specs.List.{list_any};
 ghost use Rattle.certificate_laws.specs.Sameness.{same_heap};
 ghost use Rattle.candidate_laws.specs.Coming.{has_many_parts as has_many_parts_of, parts_of, same_pair};
-ghost use Rattle.candidate_laws.specs.Searching.{candidate_comes as candidate_comes_of, drops as drops_of, listed_at, pair_comes as pair_comes_of, with_candidate as with_candidate_of, with_pair as with_pair_of};
+ghost use Rattle.candidate_laws.specs.Searching.{
+  candidate_comes as candidate_comes_of,
+  drops as drops_of,
+  listed_at,
+  pair_comes as pair_comes_of,
+  with_candidate as with_candidate_of,
+  with_pair as with_pair_of,
+};
 ghost use Rattle.pre_gen.specs.InSearch.{search_in};
 
 use candidate_laws::Dropped;

@@ -2,7 +2,17 @@
 ghost use Rattle.std.specs.Prelude.{◌≡◌, length, All, IfOk, OnOk};
 ghost use Rattle.certificate_laws.specs.Conditions.{IsTask};
 ghost use Rattle.certificate_steps.specs.InTask.{task_in};
-ghost use Rattle.candidate_laws.specs.Candidates.{candidates as candidates_of, case_comes as case_comes_of, cases_come as cases_come_of, cases_of_pair as cases_of_pair_at, empty_search as empty_search_of, started as started_of, turn_of, turns as turns_of, without_turns as without_turns_of};
+ghost use Rattle.candidate_laws.specs.Candidates.{
+  candidates as candidates_of,
+  case_comes as case_comes_of,
+  cases_come as cases_come_of,
+  cases_of_pair as cases_of_pair_at,
+  empty_search as empty_search_of,
+  started as started_of,
+  turn_of,
+  turns as turns_of,
+  without_turns as without_turns_of,
+};
 ghost use Rattle.candidate_laws.specs.Conditions.{IsGivenCase, IsSearch, IsTaskPair, MayCome, MayLeave};
 ghost use Rattle.candidate_laws.specs.Coming.{candidate_of as candidate_of_missing, pair_at_node as pair_at_node_of};
 ghost use Rattle.candidate_laws.specs.Searching.{candidate_comes as candidate_comes_of, pair_comes as pair_comes_of, unless_none};
@@ -38,7 +48,9 @@ fn goes_on(
     requires task { IsTask (task_in task.now) }
     requires pair { MayCome (task_in task.now) node pair }
     requires nodes { length search.old.nodes.items ≡ length task.now.flow.now.nodes }
-    ensures { OnOk result (search_in search.new ≡ unless_none (pair_comes_of line node) (pair_at_node_of (task_in task.now) node pair) (search_in search.old)) }
+    ensures { OnOk result
+        (search_in search.new
+        ≡ unless_none (pair_comes_of line node) (pair_at_node_of (task_in task.now) node pair) (search_in search.old)) }
 {
     match pair_at_node(alloc, task, node, pair)? {
         None => Ok(()),
@@ -56,7 +68,9 @@ fn leaves(
 ) -> Result<(), AllocError>
     requires task { IsTask (task_in task.now) }
     requires missing { MayLeave (task_in task.now) missing }
-    ensures { OnOk result (search_in search.new ≡ unless_none (candidate_comes_of line) (candidate_of_missing (task_in task.now) missing) (search_in search.old)) }
+    ensures { OnOk result
+        (search_in search.new
+        ≡ unless_none (candidate_comes_of line) (candidate_of_missing (task_in task.now) missing) (search_in search.old)) }
 {
     match candidate_of(alloc, task, missing)? {
         None => Ok(()),

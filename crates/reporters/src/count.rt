@@ -38,7 +38,8 @@ impl Reporter for CountReporter {
     fn take(&mut self, _alloc: Global, entry: &Entry) -> Result<Go, TakeFault>
         ensures more { result ≡ Ok Go.More }
         ensures count { self.new.count ≡ next_count self.old.count }
-        ensures without_spec { self.new.without_spec ≡ (if length entry.now.summary.specs == 0 then next_count self.old.without_spec else self.old.without_spec) }
+        ensures without_spec { self.new.without_spec
+            ≡ (if length entry.now.summary.specs == 0 then next_count self.old.without_spec else self.old.without_spec) }
     {
         self.count = self.count.saturating_add(1);
         if entry.summary.specs.is_empty() {

@@ -23,7 +23,13 @@ impl Model for MemoryReporter {
 
     ghost Value = { ReporterScript };
 
-    ghost view = { λ r. record { entries = r.entries.items; stop_at = r.stop_at; fail_at = r.calls.fail_at; calls = r.calls.calls; faults = r.calls.faults } };
+    ghost view = { λ r. record {
+      entries = r.entries.items;
+      stop_at = r.stop_at;
+      fail_at = r.calls.fail_at;
+      calls = r.calls.calls;
+      faults = r.calls.faults;
+    } };
 }
 
 /// The same entry again, whose summary is shared.

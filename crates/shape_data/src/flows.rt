@@ -3,7 +3,22 @@
 ghost use Rattle.std.specs.Prelude.{◌≡◌, ◌↔◌, ◌<◌, length, All, IsTrue};
 ghost use Rattle.std.specs.Option.{option_copied, IfSome};
 ghost use Rattle.shape_data.specs.Heap.{struct_named};
-ghost use Rattle.shape_data.specs.WellFormed.{IsCountable, IsTy, IsStruct, AreStructs, AreParams, IsOperand, IsKind, IsField, IsCmd, IsMark, IsNode, IsFlow, FitsCall, FitCalls};
+ghost use Rattle.shape_data.specs.WellFormed.{
+  IsCountable,
+  IsTy,
+  IsStruct,
+  AreStructs,
+  AreParams,
+  IsOperand,
+  IsKind,
+  IsField,
+  IsCmd,
+  IsMark,
+  IsNode,
+  IsFlow,
+  FitsCall,
+  FitCalls,
+};
 
 use crate::names::{Callable, have_different_names, is_c_name};
 use shape_types::name::Name;

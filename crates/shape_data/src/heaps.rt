@@ -4,7 +4,18 @@
 ghost use Rattle.std.specs.Prelude.{◌≡◌, ◌↔◌, ◌+◌, ◌<◌, ◌≤◌, length, All, IsTrue};
 ghost use Rattle.std.specs.Option.{IsSomeAnd};
 ghost use Rattle.shape_data.specs.Heap.{struct_named};
-ghost use Rattle.shape_data.specs.WellFormed.{storable as within, IsExp, IsFact, IsAtom, IsSymHeap, IsState, IsPost, IsSpec, AreStates, IsCert};
+ghost use Rattle.shape_data.specs.WellFormed.{
+  storable as within,
+  IsExp,
+  IsFact,
+  IsAtom,
+  IsSymHeap,
+  IsState,
+  IsPost,
+  IsSpec,
+  AreStates,
+  IsCert,
+};
 
 use crate::flows::{is_countable, is_field, struct_of};
 use shape_types::name::Name;

@@ -2,7 +2,23 @@
 //! exactly where the definition holds, takes no memory and never fails. Keys and answers are tested within
 //! the limits of a store, from which they may come.
 ghost use Rattle.std.specs.Prelude.{◌≡◌, ◌≢◌, ◌↔◌, length, All, IsTrue};
-ghost use Rattle.shape_data.specs.WellFormed.{storable as within, HasLines, FitCalls, IsFlow, IsProgram, IsCallee, AreInNameOrder, AreKeyProcs, AreCallees, FitKeyCalls, IsStorableKey, IsSummary, AreSummaries, HasReason, IsStorableAnswer};
+ghost use Rattle.shape_data.specs.WellFormed.{
+  storable as within,
+  HasLines,
+  FitCalls,
+  IsFlow,
+  IsProgram,
+  IsCallee,
+  AreInNameOrder,
+  AreKeyProcs,
+  AreCallees,
+  FitKeyCalls,
+  IsStorableKey,
+  IsSummary,
+  AreSummaries,
+  HasReason,
+  IsStorableAnswer,
+};
 
 use crate::flows::{are_params, are_structs, fit_calls, is_countable, is_flow};
 use crate::heaps::{MOST_SPECS, are_specs, is_cert};

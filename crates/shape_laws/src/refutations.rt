@@ -4,7 +4,16 @@ ghost use Rattle.std.specs.Prelude.{pos};
 ghost use Rattle.shape_data.specs.declared.symbolic.Exp.TheVariants.{Const, Var};
 ghost use Rattle.shape_data.specs.Valid.{Valid};
 ghost use Rattle.shape_laws.specs.Examples.{bad_flow};
-ghost use Rattle.shape_laws.specs.Refuted.{CycleMeets, IsNeverValid, NoEmptySegment, TwoCellsAreApart, cell_at_x, drop_flow, list_between, set_flow};
+ghost use Rattle.shape_laws.specs.Refuted.{
+  CycleMeets,
+  IsNeverValid,
+  NoEmptySegment,
+  TwoCellsAreApart,
+  cell_at_x,
+  drop_flow,
+  list_between,
+  set_flow,
+};
 ghost use Rattle.shape_laws.specs.Returns.{identity_program, returns_value};
 ghost use Rattle.shape_laws.specs.Symbolic.{emp};
 

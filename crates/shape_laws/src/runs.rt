@@ -14,5 +14,6 @@ pub fn run_without_choice_is_running()
 
 /// A run over two lists of choices is the run over the first and then, if it goes on, over the second.
 pub fn run_continues()
-    ensures { (program : Program) (config : Config) (first second : List Choice) → run program config (first ++ second) ≡ continued program (length first) second (run program config first) }
+    ensures { (program : Program) (config : Config) (first second : List Choice)
+        → run program config (first ++ second) ≡ continued program (length first) second (run program config first) }
 {}

@@ -1,6 +1,33 @@
 //! Lists of structures that contain others: what is well formed, or holds, over the structures of a key is so over those of its
 //! program. Where a law of the analysis speaks of the key's structures, these carry it to each program that has them.
-ghost use Rattle.shape_laws.specs.Containing.{AtomCarries, CalleeCarries, CalleesCarry, CertCarries, CmdCarries, ContainsItself, ContainsThrough, FieldCarries, FlowCarries, HeapCarries, HoldsAlike, HoldsCarries, HoldsOverOwnKinds, KindCarries, MeetsAlike, MeetsPostAlike, MeetsStateAlike, PostCarries, ProcsCarry, SpecCarries, StateCarries, StatesCarry, SumCarries, SumOverOwnShapes, SummaryCarries, SymHeapCarries};
+ghost use Rattle.shape_laws.specs.Containing.{
+  AtomCarries,
+  CalleeCarries,
+  CalleesCarry,
+  CertCarries,
+  CmdCarries,
+  ContainsItself,
+  ContainsThrough,
+  FieldCarries,
+  FlowCarries,
+  HeapCarries,
+  HoldsAlike,
+  HoldsCarries,
+  HoldsOverOwnKinds,
+  KindCarries,
+  MeetsAlike,
+  MeetsPostAlike,
+  MeetsStateAlike,
+  PostCarries,
+  ProcsCarry,
+  SpecCarries,
+  StateCarries,
+  StatesCarry,
+  SumCarries,
+  SumOverOwnShapes,
+  SummaryCarries,
+  SymHeapCarries,
+};
 
 /// Containing is reflexive and transitive.
 pub fn containing_is_a_preorder()

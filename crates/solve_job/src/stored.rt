@@ -9,7 +9,8 @@ use shape_data::answer::Kept;
 use std::alloc::{AllocError, Global};
 use std::marker::Model;
 
-/// Entries that were loaded from a store, each marked so, inductive for its key and within the limits of a store. Contracts see the entries.
+/// Entries that were loaded from a store, each marked so, inductive for its key and within the limits of a store. Contracts see the
+/// entries.
 #[derive(Drop)]
 pub struct StoredAnswers {
     loaded: LoadedAnswers,

@@ -5,7 +5,17 @@ ghost use Rattle.shape_data.specs.declared.answer.Budget.TheVariants as budget;
 ghost use Rattle.shape_data.specs.declared.answer.Fault.TheVariants as fault;
 ghost use Rattle.shape_data.specs.declared.answer.Reason.TheVariants as reason;
 ghost use Rattle.shape_laws.specs.Examples.{bad_flow};
-ghost use Rattle.certificate_laws.specs.Examples.{answer_of, get_cert, get_flow, get_key, get_spec, key_of, length_flow, length_key, read_flow};
+ghost use Rattle.certificate_laws.specs.Examples.{
+  answer_of,
+  get_cert,
+  get_flow,
+  get_key,
+  get_spec,
+  key_of,
+  length_flow,
+  length_key,
+  read_flow,
+};
 ghost use Rattle.candidate_laws.specs.Examples.{spin_flow};
 ghost use Rattle.solve_laws.specs.Examples.{answer_without, forever_flow, length_specs, specs_of_all};
 ghost use Rattle.solve_laws.specs.Solving.{after_rounds, no_specs, rounds, solve, MOST_ROUNDS};

@@ -1,5 +1,14 @@
 //! Laws of solving, each the contract of a function that does nothing but call the laws that it stands on.
-ghost use Rattle.solve_laws.specs.Laws.{SolvedHasReasons, SolvedIsFew, SolvedIsInductive, SolvedIsWellFormed, SpecsFitKeys, StandingIsWellFormed, StandingStaysWellFormed, TasksAreWellFormed};
+ghost use Rattle.solve_laws.specs.Laws.{
+  SolvedHasReasons,
+  SolvedIsFew,
+  SolvedIsInductive,
+  SolvedIsWellFormed,
+  SpecsFitKeys,
+  StandingIsWellFormed,
+  StandingStaysWellFormed,
+  TasksAreWellFormed,
+};
 
 use annotation_laws::laws::{done_is_inductive, done_is_well_formed};
 use candidate_laws::laws::candidates_are_well_formed;

@@ -1,5 +1,14 @@
 //! Where states and posts lead, and what that says of rows of execution.
-ghost use Rattle.sound_laws.specs.Leading.{CasesDo, CoveredPostLeads, CoveredStateLeads, ListedPostLeads, ListedStateLeads, PostLeadsOn, RowMayWeaken, StateLeadsOn};
+ghost use Rattle.sound_laws.specs.Leading.{
+  CasesDo,
+  CoveredPostLeads,
+  CoveredStateLeads,
+  ListedPostLeads,
+  ListedStateLeads,
+  PostLeadsOn,
+  RowMayWeaken,
+  StateLeadsOn,
+};
 
 /// What leads to cases leads to what each of them leads to.
 pub fn cases_lead_on()

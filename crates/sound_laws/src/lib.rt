@@ -4,7 +4,8 @@
 //! here nothing is said of that but which locals and heaps meet a state, and where a command leads from them.
 //!
 //! The definitions in `specs/` are read in this order: `Commands` (what a command does), `Leading` (where states lead), `Stacks` (a call
-//! on top of frames that wait), `Procedures`, `Certificates` (the law of claims), `Answers` (soundness of a key's answer), `BottomUp`, `Beside`.
+//! on top of frames that wait), `Procedures`, `Certificates` (the law of claims), `Answers` (soundness of a key's answer), `BottomUp`,
+//! `Beside`.
 #![tactic(auto)]
 
 pub mod answers;

@@ -164,8 +164,8 @@ fn what_is_no_key_is_not_read(rt: HostRuntime) -> Result<(), Fail> {
     Ok(())
 }
 
-/// Answers that the first key has none of: without a spec and a reason, of another name, with a certificate of another number of nodes, with
-/// a state of another number of locals, with two summaries, with a reason of no form, with a member too many.
+/// Answers that the first key has none of: without a spec and a reason, of another name, with a certificate of another number of nodes,
+/// with a state of another number of locals, with two summaries, with a reason of no form, with a member too many.
 const NO_ANSWERS: [&str; 7] = [
     "{\"procs\":[{\"certs\":[],\"name\":\"solo\",\"reason\":null,\"specs\":[]}]}",
     "{\"procs\":[{\"certs\":[],\"name\":\"sole\",\"reason\":[\"endless\"],\"specs\":[]}]}",

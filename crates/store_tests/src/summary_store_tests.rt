@@ -32,8 +32,8 @@ fn the_store_without_entries_has_91_bytes(rt: HostRuntime) -> Result<(), Fail> {
 }
 
 /// Stores with their hashes, the number of entries that are loaded, and of those that are dropped: none; `get`, which loads a field of its
-/// parameter; the same and a second procedure; `get` with a post that its certificate does not show, alone and before another entry; `get` with
-/// a weaker post, which is inductive, and not what solving finds; and a store that another implementation wrote.
+/// parameter; the same and a second procedure; `get` with a post that its certificate does not show, alone and before another entry; `get`
+/// with a weaker post, which is inductive, and not what solving finds; and a store that another implementation wrote.
 const LOADED: [(&str, &str, usize, u32); 7] = [
     (
         "{\"entries\":[],\"format\":1}",
@@ -138,8 +138,8 @@ fn check_unread(
     }
 }
 
-/// Texts with their hashes that are no stores: no JSON; another format, or one that is no integer or no number; objects with a member too few or
-/// too many; a slot that is not there; another procedure's answer; an item that is no entry.
+/// Texts with their hashes that are no stores: no JSON; another format, or one that is no integer or no number; objects with a member too
+/// few or too many; a slot that is not there; another procedure's answer; an item that is no entry.
 const UNREAD: [(&str, &str, Unread); 15] = [
     (
         "{\"entries\":[],\"format\":1",

@@ -2,7 +2,15 @@
 //! `sym_matching::laws::covering_is_met`.
 ghost use Rattle.std.specs.Prelude.{◌≡◌, ◌↔◌, ◌+◌, ◌<◌, [], IfOk, IsTrue, length};
 ghost use Rattle.sym_canon.specs.Canonical.{as_state as as_state_of, canon_post as canon_post_of, canon_state as canon_state_of};
-ghost use Rattle.sym_matching.specs.Covers.{PostCovers, StateCovers, apart_from as apart_from_of, equal_slots as equal_slots_of, match_state as match_state_of, matches_state as matches_state_of, takes_all as takes_all_of};
+ghost use Rattle.sym_matching.specs.Covers.{
+  PostCovers,
+  StateCovers,
+  apart_from as apart_from_of,
+  equal_slots as equal_slots_of,
+  match_state as match_state_of,
+  matches_state as matches_state_of,
+  takes_all as takes_all_of,
+};
 ghost use Rattle.sym_matching.specs.Matches.{want_heap as want_heap_of};
 ghost use Rattle.sym_matching.specs.NewVariables.{HasRoom};
 ghost use Rattle.sym_matching.specs.Rooms.{fields_of_all};
@@ -81,7 +89,8 @@ fn want_state(
     requires room { HasRoom (fields_of_all b.now.spatial) m.used }
     requires names { m.next + names_of_all b.now.spatial < 4294967296 }
     requires few { length b.now.spatial + length b.now.pure < 4294967296 }
-    ensures { IfOk result (λ turned. turned ≡ and_then (want_heap_of (rules_in setting.now) b.now) (want_all_owed_of (rules_in setting.now) slots.now m)) }
+    ensures { IfOk result (λ turned. turned
+        ≡ and_then (want_heap_of (rules_in setting.now) b.now) (want_all_owed_of (rules_in setting.now) slots.now m)) }
 {
     match want_all_owed(alloc, setting, slots, m)? {
         Turned::On(n) => want_heap(alloc, setting, b, n),

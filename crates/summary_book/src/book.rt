@@ -108,8 +108,11 @@ impl<J: Meaning> Book<J> {
     /// How many components are marked as settled. Not each settled component need be marked.
     pub fn marked(&self) -> u32
         ensures number { result ≡ count_marked self.now.marks }
-        ensures each { (component : ℕ) → marked self.now.marks component ≡ true → is_some (settled_at (replay self.now.log) component) ≡ true }
-        ensures settled { result ≤ count_by (λ component. is_some (settled_at (replay self.now.log) component)) (range_with_len 0 (length (standings (replay self.now.log)))) }
+        ensures each { (component : ℕ) → marked self.now.marks component ≡ true
+            → is_some (settled_at (replay self.now.log) component) ≡ true }
+        ensures settled { result
+            ≤ count_by (λ component. is_some (settled_at (replay self.now.log) component))
+            (range_with_len 0 (length (standings (replay self.now.log)))) }
     {
         count_set(&self.marks) as u32
     }
@@ -160,7 +163,8 @@ impl<J: Meaning> Book<J> {
         ensures log { IfOk result (λ next. self.new.log ≡ self.old.log ++ events_by worker next) }
         ensures own { IfOk result (λ next. IfYours next (λ claim. IsTrue (is_own (replay self.new.log) claim))) }
         ensures key { IfOk result (λ next. IfYours next (λ claim. IsJobKey claim.key)) }
-        ensures marked { IfOk result (λ next. IsAllAnswer next → count_aimed (replay self.old.log) (aimed (replay self.old.log).program aim.now) ≤ count_marked self.new.marks) }
+        ensures marked { IfOk result (λ next. IsAllAnswer next
+            → count_aimed (replay self.old.log) (aimed (replay self.old.log).program aim.now) ≤ count_marked self.new.marks) }
         ensures stay { StayMarked self.old.marks self.new.marks }
         ensures err { OnErr result (self.new.log ≡ self.old.log) }
     {
@@ -199,10 +203,12 @@ impl<J: Meaning> Book<J> {
     pub fn publish(&mut self, claim: Claim, solved: Solved<J>) -> Published
         requires own { IsTrue (is_own (replay self.old.log) claim) }
         requires key { claim.key ≡ solved.key }
-        ensures published { (out : Out) → out_of (replay self.old.log).out claim.number ≡ Some out → result ≡ outcome (replay self.old.log) out }
+        ensures published { (out : Out) → out_of (replay self.old.log).out claim.number ≡ Some out
+            → result ≡ outcome (replay self.old.log) out }
         ensures log { self.new.log ≡ self.old.log ++ Happening.Publish claim.number solved.answer (is_kept_outcome result) ∷ [] }
         ensures stay { StayMarked self.old.marks self.new.marks }
-        ensures settled { (component : ℕ) → IsDueAt (replay self.old.log) component claim.key → result ≡ Published.Kept → IsMarkedAnew self.old.marks self.new.marks component }
+        ensures settled { (component : ℕ) → IsDueAt (replay self.old.log) component claim.key → result ≡ Published.Kept
+            → IsMarkedAnew self.old.marks self.new.marks component }
     {
         let number = claim.number();
         let _key = claim.forget();
@@ -267,7 +273,8 @@ impl<J: Meaning> Book<J> {
     /// key, and both are within the limits of a store.
     pub fn collect(&self, alloc: Global, aim: &Aim) -> Result<Vec<Kept>, AllocError>
         requires { IsSettled (replay self.now.log) (aimed (replay self.now.log).program aim.now) }
-        ensures slots { IfOk result (λ kept. map solution_of kept.items ≡ map slot_solution (slots_by (replay self.now.log) (aimed (replay self.now.log).program aim.now))) }
+        ensures slots { IfOk result (λ kept. map solution_of kept.items
+            ≡ map slot_solution (slots_by (replay self.now.log) (aimed (replay self.now.log).program aim.now))) }
         ensures solutions { IfOk result (λ kept. All (λ one. IsSolution J.solves one.key.value one.answer.value) kept.items) }
     {
         let aim = aimed_in(alloc, &self.parts, aim)?;

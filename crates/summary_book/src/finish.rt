@@ -34,7 +34,8 @@ pub fn is_kept(published: Published) -> bool
 /// Whether the key of a claim is over the procedures at these places.
 fn has_flows(program: &Program, log: &[Event], members: &[u32], claimed: usize) -> bool
     requires { All (λ number. number < length program.now.procs) members.now }
-    ensures { (key : Key) → key_at log.now claimed ≡ Some key → result ≡ flows_test.0 key.procs (filter_map (slice_get (flows_of program.now)) members.now) }
+    ensures { (key : Key) → key_at log.now claimed ≡ Some key
+        → result ≡ flows_test.0 key.procs (filter_map (slice_get (flows_of program.now)) members.now) }
 {
     match key_at(log, claimed) {
         Some(key) => are_flows(program, members, &key.procs),
@@ -70,7 +71,8 @@ fn is_due(
     requires marks { AreMarks (replay (events_of log.now)) marks.now }
     requires exact { IsExactAt (replay (events_of log.now)) marks.now place }
     requires place { place < length parts.now.components.items }
-    ensures { (claim : Out) → IsOutRow log.now parts.now.program.value row.now claim → result ≡ is_due (due_in (standing_at (replay (events_of log.now)) place)) claim.key }
+    ensures { (claim : Out) → IsOutRow log.now parts.now.program.value row.now claim
+        → result ≡ is_due (due_in (standing_at (replay (events_of log.now)) place)) claim.key }
 {
     let component = &parts.components[place];
     if !are_marked(marks, &component.outer) {
@@ -95,7 +97,8 @@ pub fn outcome(
     ensures marks { AreMarks (replay (events_of log.now)) marks.new.items }
     ensures stay { StayMarked marks.old.items marks.new.items }
     ensures exact { (place : ℕ) → row.now.here ≡ Some place → AreExact (replay (events_of log.now)) marks.new.items place }
-    ensures outcome { (claim : Out) → IsOutRow log.now parts.now.program.value row.now claim → result ≡ outcome (replay (events_of log.now)) claim }
+    ensures outcome { (claim : Out) → IsOutRow log.now parts.now.program.value row.now claim
+        → result ≡ outcome (replay (events_of log.now)) claim }
 {
     let Some(here) = row.here else {
         return Published::Stale(Seen::Gone(revision));
@@ -143,7 +146,8 @@ pub fn mark(
     requires place { IfSome here (λ here. here < length parts.now.components.items) }
     ensures marks { AreMarks (replay (events_of log.now)) marks.new.items }
     ensures stay { StayMarked marks.old.items marks.new.items }
-    ensures found { (place : ℕ) → here ≡ Some place → IsExactAt (replay (events_of log.now)) marks.old.items place → is_some (settled_at (replay (events_of log.now)) place) ≡ true → marked marks.new.items place ≡ true }
+    ensures found { (place : ℕ) → here ≡ Some place → IsExactAt (replay (events_of log.now)) marks.old.items place
+        → is_some (settled_at (replay (events_of log.now)) place) ≡ true → marked marks.new.items place ≡ true }
 {
     if let Some(here) = here {
         look_at(parts, log, slots, marks, here as usize);

@@ -59,7 +59,9 @@ pub fn hand_out(
     ensures revision { IfOk result (λ claim. claim.revision ≡ revision) }
     ensures key { IfOk result (λ claim. claim.key ≡ key.value) }
     ensures log { OnOk result (log.new.items ≡ log.old.items ++ told.Claim number worker component key ∷ []) }
-    ensures out { OnOk result (out.new.items ≡ out.old.items ++ record { number = number; claimed = length log.old.items; here = Some component; fits = true } ∷ []) }
+    ensures out { OnOk result
+        (out.new.items
+        ≡ out.old.items ++ record { number = number; claimed = length log.old.items; here = Some component; fits = true } ∷ []) }
     ensures room { vec_len log.new + vec_len out.new ≤ vec_capacity log.new }
     ensures log_err { OnErr result (log.new.items ≡ log.old.items) }
     ensures out_err { OnErr result (out.new.items ≡ out.old.items) }

@@ -40,7 +40,8 @@ fn is_claim(log: &[Event], row: &OutRow, claim: &Claim) -> bool
 
 /// Whether one of the outstanding claims has the number and the key of this one.
 pub fn holds(log: &[Event], out: &[OutRow], claim: &Claim) -> bool
-    ensures { (program : Program) (claims : List Out) → AreOut log.now program out.now claims → result ≡ list_any (is_claim claim.now) claims }
+    ensures { (program : Program) (claims : List Out) → AreOut log.now program out.now claims
+        → result ≡ list_any (is_claim claim.now) claims }
 {
     for row in out {
         if is_claim(log, row, claim) {
@@ -111,7 +112,8 @@ pub fn collected(
 ) -> Result<Vec<Kept>, AllocError>
     requires sight { IsSight log.now parts.now slots.now }
     requires settled { IsSettled (replay (events_of log.now)) (marked aim.now) }
-    ensures { IfOk result (λ kept. map solution_of kept.items ≡ map slot_solution (slots_by (replay (events_of log.now)) (marked aim.now))) }
+    ensures { IfOk result (λ kept. map solution_of kept.items
+        ≡ map slot_solution (slots_by (replay (events_of log.now)) (marked aim.now))) }
 {
     let mut all = Vec::new(alloc);
     for place in 0..parts.components.len() {

@@ -61,7 +61,8 @@ pub fn are_known(
     callees: &[Callee],
 ) -> bool
     requires { All (λ (one : OuterRow). one.number < length program.now.procs) outer.now }
-    ensures { IsTrue result ↔ (map (known_row program.now log.now slots.now) outer.now ≡ map (λ (callee : Callee). Some callee) callees.now) }
+    ensures { IsTrue result
+        ↔ (map (known_row program.now log.now slots.now) outer.now ≡ map (λ (callee : Callee). Some callee) callees.now) }
 {
     if outer.len() != callees.len() {
         return false;
@@ -102,7 +103,8 @@ pub fn known_callees(
 ) -> Result<Row<Callee>, AllocError>
     requires numbers { All (λ (one : OuterRow). one.number < length program.now.procs) outer.now }
     requires answered { All (λ (one : OuterRow). IsSome (row_answer log.now (slice_index_or slots.now one.component None))) outer.now }
-    ensures { IfOk result (λ callees. map (known_row program.now log.now slots.now) outer.now ≡ map (λ (callee : Callee). Some callee) callees) }
+    ensures { IfOk result (λ callees. map (known_row program.now log.now slots.now) outer.now
+        ≡ map (λ (callee : Callee). Some callee) callees) }
 {
     let mut callees = Row::new(alloc);
     for one in outer {

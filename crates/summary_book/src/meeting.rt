@@ -142,7 +142,8 @@ pub fn slots_in(
 ) -> Result<Vec<Option<SlotRow>>, AllocError>
     requires sight { IsSight log.now old.now slots.now }
     requires parts { AreParts new.now }
-    ensures { IfOk result (λ rows. AreSlots log.now (filter (is_present new.now.program.value) (replay (events_of log.now)).slots) new.now.program.value rows.items) }
+    ensures { IfOk result (λ rows. AreSlots log.now (filter (is_present new.now.program.value) (replay (events_of log.now)).slots)
+        new.now.program.value rows.items) }
 {
     let same = is_same(&old.program.structs, &new.program.structs);
     let mut kept: Vec<Option<SlotRow>> = vec![in alloc; None; new.components.len()]?;

@@ -64,7 +64,8 @@ pub fn settling(
     requires marks { AreMarks (replay (events_of log.now)) marks.now }
     requires place { place < length parts.now.components.items }
     ensures sound { IfSome result (λ claim. option_map (λ slot. slot.claim) (settled_at (replay (events_of log.now)) place) ≡ Some claim) }
-    ensures exact { IsExactAt (replay (events_of log.now)) marks.now place → result ≡ option_map (λ slot. slot.claim) (settled_at (replay (events_of log.now)) place) }
+    ensures exact { IsExactAt (replay (events_of log.now)) marks.now place
+        → result ≡ option_map (λ slot. slot.claim) (settled_at (replay (events_of log.now)) place) }
 {
     let component = &parts.components[place];
     if !are_marked(marks, &component.outer) {
@@ -95,8 +96,10 @@ pub fn look_at(
     requires place { place < length parts.now.components.items }
     ensures marks { AreMarks (replay (events_of log.now)) marks.new.items }
     ensures stay { StayMarked marks.old.items marks.new.items }
-    ensures found { IsExactAt (replay (events_of log.now)) marks.old.items place → is_some (settled_at (replay (events_of log.now)) place) ≡ true → marked marks.new.items place ≡ true }
-    ensures exact { AreExact (replay (events_of log.now)) marks.old.items place → AreExact (replay (events_of log.now)) marks.new.items (place + 1) }
+    ensures found { IsExactAt (replay (events_of log.now)) marks.old.items place
+        → is_some (settled_at (replay (events_of log.now)) place) ≡ true → marked marks.new.items place ≡ true }
+    ensures exact { AreExact (replay (events_of log.now)) marks.old.items place
+        → AreExact (replay (events_of log.now)) marks.new.items (place + 1) }
 {
     if is_marked(marks, place) {
         return;

@@ -53,7 +53,8 @@ pub fn holds_due(
 ) -> bool
     requires sight { IsSight log.now parts.now slots.now }
     requires place { place < length parts.now.components.items }
-    ensures { (key : Key) (claim : Out) → IsDueAt (replay (events_of log.now)) place key → IsOutRow log.now parts.now.program.value row.now claim → result ≡ key_test.0 claim.key key }
+    ensures { (key : Key) (claim : Out) → IsDueAt (replay (events_of log.now)) place key
+        → IsOutRow log.now parts.now.program.value row.now claim → result ≡ key_test.0 claim.key key }
 {
     let here = Some(place as u32);
     if !is_same(&row.here, &here) {
@@ -77,7 +78,8 @@ fn holder(
     requires sight { IsSight log.now parts.now slots.now }
     requires out { AreOut log.now parts.now.program.value out.now (replay (events_of log.now)).out }
     requires place { place < length parts.now.components.items }
-    ensures { (key : Key) → IsDueAt (replay (events_of log.now)) place key → result ≡ option_map (λ claim. claim.number) (find (λ claim. key_test.0 claim.key key) (replay (events_of log.now)).out) }
+    ensures { (key : Key) → IsDueAt (replay (events_of log.now)) place key
+        → result ≡ option_map (λ claim. claim.number) (find (λ claim. key_test.0 claim.key key) (replay (events_of log.now)).out) }
 {
     for row in out {
         if holds_due(parts, log, slots, row, place) {
@@ -142,7 +144,8 @@ pub fn first_free(
     ensures marks { AreMarks (replay (events_of log.now)) marks.new.items }
     ensures stay { StayMarked marks.old.items marks.new.items }
     ensures found { IsFound (replay (events_of log.now)) (marked aim.now) result }
-    ensures all { IsAllFound result → (place : ℕ) → place < length parts.now.components.items → marked aim.now place ≡ true → marked marks.new.items place ≡ true }
+    ensures all { IsAllFound result → (place : ℕ) → place < length parts.now.components.items → marked aim.now place ≡ true
+        → marked marks.new.items place ≡ true }
 {
     let mut least: Option<u64> = None;
     for place in 0..parts.components.len() {

@@ -57,8 +57,8 @@ fn checked(alloc: Global, entries: &[Kept]) -> Result<Loaded, AllocError>
 }
 
 /// The entries of a store's bytes that are inductive, each answer marked `stored`, or why the bytes are no store. An entry is dropped
-/// exactly where it is not inductive. There are fewer than 2^32 bytes; what limit a store has is for the caller to say. The only error is want
-/// of memory.
+/// exactly where it is not inductive. There are fewer than 2^32 bytes; what limit a store has is for the caller to say. The only error is
+/// want of memory.
 pub fn load(alloc: Global, bytes: &[u8]) -> Result<Loaded, AllocError>
     requires { length bytes.now < 4294967296 }
     ensures value { IfOk result (λ loaded. IsLoaded bytes.now (contents_of loaded)) }

@@ -6,7 +6,21 @@ ghost use Rattle.shape_data.specs.Heap.{struct_named};
 ghost use Rattle.sym_canon.specs.Numbering.{sides};
 ghost use Rattle.sym_canon.specs.Placing.{exps_of};
 ghost use Rattle.sym_forms.specs.Sizes.{fields_of as fields_of_atom};
-ghost use Rattle.abstraction_laws.specs.Forgetting.{above, above_exp as above_exp_of, first_new as first_new_of, forget as forget_of, forget_atom as forget_atom_of, forget_atoms as forget_atoms_of, forget_cell as forget_cell_of, forget_fields as forget_fields_of, forget_slots as forget_slots_of, forget_value as forget_value_of, is_constant as is_constant_of, is_forgotten as is_forgotten_of, is_int as is_int_of};
+ghost use Rattle.abstraction_laws.specs.Forgetting.{
+  above,
+  above_exp as above_exp_of,
+  first_new as first_new_of,
+  forget as forget_of,
+  forget_atom as forget_atom_of,
+  forget_atoms as forget_atoms_of,
+  forget_cell as forget_cell_of,
+  forget_fields as forget_fields_of,
+  forget_slots as forget_slots_of,
+  forget_value as forget_value_of,
+  is_constant as is_constant_of,
+  is_forgotten as is_forgotten_of,
+  is_int as is_int_of,
+};
 ghost use Rattle.abstraction_laws.specs.Occurrences.{exps_of_atoms, exps_of_facts};
 ghost use Rattle.sym_forms.specs.Sizes.{fields_in};
 ghost use Rattle.abstraction_laws.specs.Rooms.{HasRoom};

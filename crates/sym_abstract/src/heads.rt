@@ -1,7 +1,16 @@
 //! Abstraction of a state at the head of a loop, and of a post at an exit.
 ghost use Rattle.std.specs.Prelude.{◌≡◌, ◌^◌, ◌<◌, length, IfOk};
 ghost use Rattle.sym_canon.specs.Canonical.{as_state as as_state_of, canon_post as canon_post_of};
-ghost use Rattle.abstraction_laws.specs.Heads.{abstract_exit as abstract_exit_of, abstract_head as abstract_head_of, at_exit as at_exit_of, at_head as at_head_of, forget_at_exit as forget_at_exit_of, forget_if_recursive as forget_if_recursive_of, post_of as post_of_state, reduced as reduced_of};
+ghost use Rattle.abstraction_laws.specs.Heads.{
+  abstract_exit as abstract_exit_of,
+  abstract_head as abstract_head_of,
+  at_exit as at_exit_of,
+  at_head as at_head_of,
+  forget_at_exit as forget_at_exit_of,
+  forget_if_recursive as forget_if_recursive_of,
+  post_of as post_of_state,
+  reduced as reduced_of,
+};
 ghost use Rattle.abstraction_laws.specs.Rooms.{HasRoom, HaveFewFields, IsWithinRoom};
 
 use crate::forgetting::{first_new, forget, forget_atoms, forget_value};

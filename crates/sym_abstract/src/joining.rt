@@ -6,7 +6,21 @@ ghost use Rattle.shape_data.specs.declared.symbolic.Atom.{Atom as AnyAtom};
 ghost use Rattle.shape_data.specs.declared.symbolic.Exp.{Exp};
 ghost use Rattle.shape_data.specs.declared.symbolic.Exp.TheVariants.{Var};
 ghost use Rattle.sym_laws.specs.Expressions.{same_exp};
-ghost use Rattle.abstraction_laws.specs.Joining.{IsJoin, Join, end_by as end_by_of, find_join as find_join_of, first_join, is_joint as is_joint_of, join_at as join_at_of, join_first as join_first_of, segment_by as segment_by_link, segment_of as segment_of_two, segment_to as segment_to_end, start_of as start_of_atom, with_join};
+ghost use Rattle.abstraction_laws.specs.Joining.{
+  IsJoin,
+  Join,
+  end_by as end_by_of,
+  find_join as find_join_of,
+  first_join,
+  is_joint as is_joint_of,
+  join_at as join_at_of,
+  join_first as join_first_of,
+  segment_by as segment_by_link,
+  segment_of as segment_of_two,
+  segment_to as segment_to_end,
+  start_of as start_of_atom,
+  with_join,
+};
 ghost use Rattle.abstraction_laws.specs.Occurrences.{exps_of_atoms};
 ghost use Rattle.sym_forms.specs.Sizes.{fields_of as fields_of_atom};
 ghost use Rattle.abstraction_laws.specs.Rooms.{HaveFewFields};
@@ -254,7 +268,8 @@ pub fn find_join<M: Middle>(counts: &Times, may: &M, atoms: &[Atom]) -> Option<P
 /// The atoms with the join at a place made: the segment stands in the first one's place, and the second goes.
 fn with_join_at(atoms: Vec<Atom>, place: Place) -> Result<Vec<Atom>, AllocError>
     requires few { HaveFewFields atoms.items }
-    ensures { (join : Join) → IsJoin atoms.items join → place ≡ place_of join → IfOk result (λ made. made.items ≡ with_join atoms.items (Some join)) }
+    ensures { (join : Join) → IsJoin atoms.items join → place ≡ place_of join
+        → IfOk result (λ made. made.items ≡ with_join atoms.items (Some join)) }
 {
     let mut atoms = atoms;
     if place.first < atoms.len() && place.second < atoms.len() {
@@ -273,7 +288,8 @@ fn with_join_at(atoms: Vec<Atom>, place: Place) -> Result<Vec<Atom>, AllocError>
 /// The atoms with a join that was found, if one was.
 pub fn join_found(atoms: Vec<Atom>, found: Option<Place>) -> Result<Vec<Atom>, AllocError>
     requires few { HaveFewFields atoms.items }
-    ensures { (may : ℕ → Bool) → found ≡ option_map place_of (find_join_of may atoms.items) → IfOk result (λ made. made.items ≡ with_join atoms.items (find_join_of may atoms.items)) }
+    ensures { (may : ℕ → Bool) → found ≡ option_map place_of (find_join_of may atoms.items)
+        → IfOk result (λ made. made.items ≡ with_join atoms.items (find_join_of may atoms.items)) }
 {
     match found {
         Some(place) => with_join_at(atoms, place),

@@ -4,7 +4,24 @@ ghost use Rattle.std.specs.declared.option.Option.TheVariants.{Some};
 ghost use Rattle.abstraction_laws.specs.Forgetting.{first_new as first_new_of};
 ghost use Rattle.abstraction_laws.specs.Joining.{find_join as find_join_of};
 ghost use Rattle.abstraction_laws.specs.Occurrences.{exps_of_atoms, exps_of_heap};
-ghost use Rattle.abstraction_laws.specs.Pairs.{abstract_pair as abstract_pair_of, abstract_pre as abstract_pre_of, beside_nothing as beside_nothing_of, exps_beside_facts, heap_with_join as heap_with_join_of, is_absent_or_joint as is_absent_or_joint_of, is_further as is_further_of, join_pair as join_pair_of, join_pair_once as join_pair_once_of, lose_equations as lose_equations_of, lose_in_pair as lose_in_pair_of, make_existential as make_existential_of, may_join, pair_in_forms as pair_in_forms_of, reduce_state as reduce_state_of, state_joined_at as state_joined_at_of};
+ghost use Rattle.abstraction_laws.specs.Pairs.{
+  abstract_pair as abstract_pair_of,
+  abstract_pre as abstract_pre_of,
+  beside_nothing as beside_nothing_of,
+  exps_beside_facts,
+  heap_with_join as heap_with_join_of,
+  is_absent_or_joint as is_absent_or_joint_of,
+  is_further as is_further_of,
+  join_pair as join_pair_of,
+  join_pair_once as join_pair_once_of,
+  lose_equations as lose_equations_of,
+  lose_in_pair as lose_in_pair_of,
+  make_existential as make_existential_of,
+  may_join,
+  pair_in_forms as pair_in_forms_of,
+  reduce_state as reduce_state_of,
+  state_joined_at as state_joined_at_of,
+};
 ghost use Rattle.abstraction_laws.specs.Rooms.{HasRoom, HaveFewFields, IsWithinRoom};
 ghost use Rattle.sym_laws.specs.Mapped.{on_state};
 ghost use Rattle.sym_abstract.specs.Counted.{Counts, is_lost_equation_by, made_existential_by};
@@ -107,7 +124,8 @@ fn find_pair_join(
 /// The heap with a join that was found, if one was.
 fn heap_with_join(heap: SymHeap, found: Option<Place>) -> Result<SymHeap, AllocError>
     requires few { HaveFewFields heap.spatial }
-    ensures { (may : ℕ → Bool) → found ≡ option_map place_of (find_join_of may heap.spatial) → IfOk result (λ made. made ≡ heap_with_join_of heap (find_join_of may heap.spatial)) }
+    ensures { (may : ℕ → Bool) → found ≡ option_map place_of (find_join_of may heap.spatial)
+        → IfOk result (λ made. made ≡ heap_with_join_of heap (find_join_of may heap.spatial)) }
 {
     let atoms = join_found(heap.spatial.into_vec(), found)?;
     Ok(SymHeap {

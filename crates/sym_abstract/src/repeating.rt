@@ -2,7 +2,12 @@
 ghost use Rattle.std.specs.Prelude.{◌≡◌, IfOk, filter, length};
 ghost use Rattle.sym_laws.specs.Junks.{is_other as is_other_of};
 ghost use Rattle.abstraction_laws.specs.Rooms.{HaveFewFields};
-ghost use Rattle.abstraction_laws.specs.Repeating.{join_inner as join_inner_of, reduce as reduce_of, reduce_once as reduce_once_of, size_of as size_of_heap};
+ghost use Rattle.abstraction_laws.specs.Repeating.{
+  join_inner as join_inner_of,
+  reduce as reduce_of,
+  reduce_once as reduce_once_of,
+  size_of as size_of_heap,
+};
 
 use crate::joining::{Middle, join_first};
 use crate::losing::lose;

@@ -1,7 +1,14 @@
 //! The order of the facts: equations by variable, then disequalities.
 ghost use Rattle.std.specs.Prelude.{◌≡◌, ◌≤◌, IfOk, length};
 ghost use Rattle.std.specs.List.{position_or_len};
-ghost use Rattle.sym_canon.specs.FactOrder.{are_sides_before as are_sides_before_of, is_before as is_before_of, is_fact_before as is_fact_before_of, sorted_facts as sorted_facts_of, with_fact, with_sides_in_order as with_sides_in_order_of};
+ghost use Rattle.sym_canon.specs.FactOrder.{
+  are_sides_before as are_sides_before_of,
+  is_before as is_before_of,
+  is_fact_before as is_fact_before_of,
+  sorted_facts as sorted_facts_of,
+  with_fact,
+  with_sides_in_order as with_sides_in_order_of,
+};
 
 use shape_data::symbolic::{Exp, Fact};
 use std::alloc::{AllocError, Global};

@@ -1,5 +1,11 @@
 //! Laws of the canonical form, each the contract of a function that does nothing.
-ghost use Rattle.sym_canon.specs.Laws.{CanonPairKeepsMeaning, CanonPostKeepsMeaning, CanonStateKeepsMeaning, FactsAreInOrder, MoreTurnsChangeNothing};
+ghost use Rattle.sym_canon.specs.Laws.{
+  CanonPairKeepsMeaning,
+  CanonPostKeepsMeaning,
+  CanonStateKeepsMeaning,
+  FactsAreInOrder,
+  MoreTurnsChangeNothing,
+};
 
 /// The same locals and heaps meet a state and its canonical form, under each assignment to the logical variables; and
 /// the same results and heaps a post and its form.

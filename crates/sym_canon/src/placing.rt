@@ -1,5 +1,22 @@
 //! The order of the atoms: as a search from the parameters and the locals comes to them, breadth first.
-ghost use Rattle.std.specs.Prelude.{◌≡◌, ℕ, ◌+◌, ◌<◌, IfOk, IfSome, List, ◌∷◌, ◌++◌, not, filter, drop, position, length, pos, slice_index_or};
+ghost use Rattle.std.specs.Prelude.{
+  ◌≡◌,
+  ℕ,
+  ◌+◌,
+  ◌<◌,
+  IfOk,
+  IfSome,
+  List,
+  ◌∷◌,
+  ◌++◌,
+  not,
+  filter,
+  drop,
+  position,
+  length,
+  pos,
+  slice_index_or,
+};
 ghost use Rattle.std.specs.List.{list_any};
 ghost use Rattle.shape_data.specs.declared.symbolic.Atom.{Atom as AnyAtom};
 ghost use Rattle.shape_data.specs.declared.symbolic.Exp.{Exp};
@@ -7,7 +24,22 @@ ghost use Rattle.shape_data.specs.declared.symbolic.Exp.TheVariants.{Const};
 ghost use Rattle.sym_laws.specs.Addresses.{addresses};
 ghost use Rattle.sym_laws.specs.Expressions.{is_among};
 ghost use Rattle.sym_laws.specs.Junks.{is_junk as is_junk_of, is_other as is_other_of};
-ghost use Rattle.sym_canon.specs.Placing.{all_lead_to, exps_of, is_cell_at as is_cell_at_of, is_placed as is_placed_of, is_placed_by as is_placed_by_of, is_segment_from as is_segment_from_of, leads_to, params_from, place as place_of, place_at, place_by, place_first, placed as placed_of, places_some as places_some_of};
+ghost use Rattle.sym_canon.specs.Placing.{
+  all_lead_to,
+  exps_of,
+  is_cell_at as is_cell_at_of,
+  is_placed as is_placed_of,
+  is_placed_by as is_placed_by_of,
+  is_segment_from as is_segment_from_of,
+  leads_to,
+  params_from,
+  place as place_of,
+  place_at,
+  place_by,
+  place_first,
+  placed as placed_of,
+  places_some as places_some_of,
+};
 
 use shape_data::symbolic::{Atom, Exp};
 use std::alloc::{AllocError, Global};
@@ -130,7 +162,8 @@ struct Turn {
 
 /// The turn of an expression, with what stands behind it in the queue.
 fn turn_of(alloc: Global, behind: &[Exp], left: Vec<Atom>, e: Exp) -> Result<Turn, AllocError>
-    ensures { IfOk result (λ turn. (again : List Exp → List AnyAtom → List AnyAtom) → place_by again behind.now left.items e ≡ turn.placed.items ++ again turn.queue.items turn.left.items) }
+    ensures { IfOk result (λ turn. (again : List Exp → List AnyAtom → List AnyAtom)
+        → place_by again behind.now left.items e ≡ turn.placed.items ++ again turn.queue.items turn.left.items) }
 {
     let Parted { placed, others } = part(alloc, left, e)?;
     let mut queue = Vec::new(alloc);
@@ -164,7 +197,8 @@ fn exps(alloc: Global, atom: &Atom) -> Result<Vec<Exp>, AllocError>
 
 /// The turn of the first atom, where the queue places none.
 fn turn_of_first(alloc: Global, left: Vec<Atom>) -> Result<Turn, AllocError>
-    ensures { IfOk result (λ turn. (again : List Exp → List AnyAtom → List AnyAtom) → place_first again left.items ≡ turn.placed.items ++ again turn.queue.items turn.left.items) }
+    ensures { IfOk result (λ turn. (again : List Exp → List AnyAtom → List AnyAtom)
+        → place_first again left.items ≡ turn.placed.items ++ again turn.queue.items turn.left.items) }
 {
     let mut left = left;
     let mut placed = Vec::new(alloc);
@@ -187,7 +221,9 @@ fn turn_of_first(alloc: Global, left: Vec<Atom>) -> Result<Turn, AllocError>
 
 /// One turn.
 fn take_turn(alloc: Global, queue: &[Exp], left: Vec<Atom>) -> Result<Turn, AllocError>
-    ensures { IfOk result (λ turn. (again : List Exp → List AnyAtom → List AnyAtom) → place_at again queue.now left.items (position (places_some_of left.items) queue.now) ≡ turn.placed.items ++ again turn.queue.items turn.left.items) }
+    ensures { IfOk result (λ turn. (again : List Exp → List AnyAtom → List AnyAtom)
+        → place_at again queue.now left.items (position (places_some_of left.items) queue.now)
+        ≡ turn.placed.items ++ again turn.queue.items turn.left.items) }
 {
     match first_that_places(left.as_slice(), queue) {
         Some(place) => turn_of(alloc, &queue[place + 1..], left, queue[place]),

@@ -1,7 +1,14 @@
 //! Variables in the order in which they come into sight.
 ghost use Rattle.std.specs.Prelude.{◌≡◌, IfOk};
 ghost use Rattle.sym_canon.specs.Canonical.{sight_state as sight_state_of};
-ghost use Rattle.sym_canon.specs.Numbering.{is_numbered as is_numbered_of, sight as sight_of, sight_atoms as sight_atoms_of, sight_facts as sight_facts_of, sides, with_sight};
+ghost use Rattle.sym_canon.specs.Numbering.{
+  is_numbered as is_numbered_of,
+  sight as sight_of,
+  sight_atoms as sight_atoms_of,
+  sight_facts as sight_facts_of,
+  sides,
+  with_sight,
+};
 ghost use Rattle.sym_canon.specs.Placing.{exps_of};
 
 use crate::parts::Variables;

@@ -1,6 +1,15 @@
 //! The canonical form of a state and of a post.
 ghost use Rattle.std.specs.Prelude.{◌≡◌, [], IfOk};
-ghost use Rattle.sym_canon.specs.Canonical.{arranged as arranged_of, as_state as as_state_of, canon_post as canon_post_of, canon_state as canon_state_of, sight_state, state_with_facts_sorted as state_sorted_of, with_atoms_placed as with_atoms_placed_of, with_facts_sorted as with_facts_sorted_of};
+ghost use Rattle.sym_canon.specs.Canonical.{
+  arranged as arranged_of,
+  as_state as as_state_of,
+  canon_post as canon_post_of,
+  canon_state as canon_state_of,
+  sight_state,
+  state_with_facts_sorted as state_sorted_of,
+  with_atoms_placed as with_atoms_placed_of,
+  with_facts_sorted as with_facts_sorted_of,
+};
 ghost use Rattle.sym_canon.specs.declared.parts.Variables.TheVariants as variables;
 
 use crate::facts::sorted_facts;

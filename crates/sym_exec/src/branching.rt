@@ -1,7 +1,16 @@
 //! The row of Branch.
 ghost use Rattle.std.specs.Prelude.{◌≡◌, ◌++◌, if◌then◌else◌, IfOk};
 ghost use Rattle.shape_data.specs.Machine.{test_passes};
-ghost use Rattle.exec_laws.specs.Branching.{are_equal as are_equal_of, branch as branch_of, branch_equal as branch_equal_of, branch_on as branch_on_of, branch_other as branch_other_of, branch_unequal as branch_unequal_of, passes as passes_of, where_test_is as where_test_is_of};
+ghost use Rattle.exec_laws.specs.Branching.{
+  are_equal as are_equal_of,
+  branch as branch_of,
+  branch_equal as branch_equal_of,
+  branch_on as branch_on_of,
+  branch_other as branch_other_of,
+  branch_unequal as branch_unequal_of,
+  passes as passes_of,
+  where_test_is as where_test_is_of,
+};
 ghost use Rattle.sym_exec.specs.InSetting.{setting_in};
 
 use crate::cells::goes_on;
@@ -105,7 +114,9 @@ fn both_cases(
     sides: Sides,
     pair: Pair,
 ) -> Result<Vec<Case>, AllocError>
-    ensures { IfOk result (λ cases. cases.items ≡ where_test_is_of (setting_in setting.now) pointers yes sides.yes pair ++ where_test_is_of (setting_in setting.now) pointers no sides.no pair) }
+    ensures { IfOk result (λ cases. cases.items
+        ≡ where_test_is_of (setting_in setting.now) pointers yes sides.yes pair
+        ++ where_test_is_of (setting_in setting.now) pointers no sides.no pair) }
 {
     let mut cases = where_test_is(alloc, setting, pointers, yes, sides.yes, copy_of(&pair)?)?;
     let mut others = where_test_is(alloc, setting, pointers, no, sides.no, pair)?;
@@ -123,7 +134,8 @@ fn branch_equal(
     sides: Sides,
     pair: Pair,
 ) -> Result<Vec<Case>, AllocError>
-    ensures { IfOk result (λ cases. cases.items ≡ branch_equal_of (setting_in setting.now) pointers e f sides.yes sides.no pair (are_equal_of pair.state.heap e f)) }
+    ensures { IfOk result (λ cases. cases.items
+        ≡ branch_equal_of (setting_in setting.now) pointers e f sides.yes sides.no pair (are_equal_of pair.state.heap e f)) }
 {
     match are_equal(&pair.state.heap, e, f) {
         Some(equal) => on_alone(alloc, sides.taken(equal), pair),
@@ -149,7 +161,8 @@ fn branch_unequal(
     sides: Sides,
     pair: Pair,
 ) -> Result<Vec<Case>, AllocError>
-    ensures { IfOk result (λ cases. cases.items ≡ branch_unequal_of (setting_in setting.now) pointers e f sides.yes sides.no pair (are_equal_of pair.state.heap e f)) }
+    ensures { IfOk result (λ cases. cases.items
+        ≡ branch_unequal_of (setting_in setting.now) pointers e f sides.yes sides.no pair (are_equal_of pair.state.heap e f)) }
 {
     match are_equal(&pair.state.heap, e, f) {
         Some(equal) => on_alone(alloc, sides.taken(!equal), pair),

@@ -8,7 +8,23 @@ ghost use Rattle.shape_data.specs.WellFormed.{IsSpec, widest};
 ghost use Rattle.shape_laws.specs.Symbolic.{beside as beside_of};
 ghost use Rattle.sym_matching.specs.Rooms.{IsWithinSizes};
 ghost use Rattle.exec_laws.specs.declared.parts.Case.TheVariants.{Drops};
-ghost use Rattle.exec_laws.specs.Calling.{after_fit as after_fit_of, after_found as after_found_of, after_post as after_post_of, call as call_of, call_of as call_of_callee, callee_named as callee_named_of, callee_of as callee_of_table, first_subtracted as first_subtracted_of, found as found_of, in_use as in_use_of, is_cut as is_cut_of, state_after as state_after_of, subtracted as subtracted_of, with_received as with_received_of, without_fit as without_fit_of};
+ghost use Rattle.exec_laws.specs.Calling.{
+  after_fit as after_fit_of,
+  after_found as after_found_of,
+  after_post as after_post_of,
+  call as call_of,
+  call_of as call_of_callee,
+  callee_named as callee_named_of,
+  callee_of as callee_of_table,
+  first_subtracted as first_subtracted_of,
+  found as found_of,
+  in_use as in_use_of,
+  is_cut as is_cut_of,
+  state_after as state_after_of,
+  subtracted as subtracted_of,
+  with_received as with_received_of,
+  without_fit as without_fit_of,
+};
 ghost use Rattle.exec_laws.specs.Laws.{FitsTable, IsTable};
 ghost use Rattle.exec_laws.specs.Values.{operand as operand_of};
 ghost use Rattle.sym_exec.specs.Callers.{IsCaller, IsGiven, IsRoomy, fit_in};
@@ -165,7 +181,8 @@ fn found<'a>(
 ) -> Result<Option<Fit<'a>>, AllocError>
     requires caller { IsCaller (setting_in setting.now) caller.now }
     requires spec { IsSpec widest setting.now.structs.now (length caller.now.args.now) spec.now }
-    ensures value { IfOk result (λ fit. option_map fit_in fit ≡ found_of (setting_in setting.now) caller.now.args.now caller.now.pair.now spec.now) }
+    ensures value { IfOk result (λ fit. option_map fit_in fit
+        ≡ found_of (setting_in setting.now) caller.now.args.now caller.now.pair.now spec.now) }
     ensures room { IfOk result (λ fit. IfSome fit (IsRoomy caller.now)) }
 {
     fits_are_within();
@@ -209,7 +226,8 @@ fn all_found<'a>(
 ) -> Result<Vec<Fit<'a>>, AllocError>
     requires caller { IsCaller (setting_in setting.now) caller.now }
     requires specs { All (IsSpec widest setting.now.structs.now (length caller.now.args.now)) specs.now }
-    ensures value { IfOk result (λ fits. map fit_in fits.items ≡ filter_map (found_of (setting_in setting.now) caller.now.args.now caller.now.pair.now) specs.now) }
+    ensures value { IfOk result (λ fits. map fit_in fits.items
+        ≡ filter_map (found_of (setting_in setting.now) caller.now.args.now caller.now.pair.now) specs.now) }
     ensures room { IfOk result (λ fits. All (IsRoomy caller.now) fits.items) }
 {
     let mut fits = Vec::new(alloc);
@@ -353,7 +371,8 @@ fn without_fit(
 ) -> Result<Vec<Case>, AllocError>
     requires caller { IsCaller (setting_in setting.now) caller.now }
     requires specs { All (IsSpec widest setting.now.structs.now (length caller.now.args.now)) callee.now.specs }
-    ensures { IfOk result (λ cases. cases.items ≡ without_fit_of setting.now.mode (setting_in setting.now) cut to next caller.now.args.now caller.now.pair.now callee.now) }
+    ensures { IfOk result (λ cases. cases.items
+        ≡ without_fit_of setting.now.mode (setting_in setting.now) cut to next caller.now.args.now caller.now.pair.now callee.now) }
 {
     match setting.mode {
         Mode::Strict => {
@@ -382,7 +401,8 @@ fn call_callee(
 ) -> Result<Vec<Case>, AllocError>
     requires caller { IsCaller (setting_in setting.now) caller.now }
     requires specs { All (IsSpec widest setting.now.structs.now (length caller.now.args.now)) callee.now.specs }
-    ensures { IfOk result (λ cases. cases.items ≡ call_of_callee (setting_in setting.now) cut to next caller.now.args.now caller.now.pair.now (Some callee.now)) }
+    ensures { IfOk result (λ cases. cases.items
+        ≡ call_of_callee (setting_in setting.now) cut to next caller.now.args.now caller.now.pair.now (Some callee.now)) }
 {
     match first_subtracted(alloc, setting, caller, callee.specs.as_slice())? {
         None => without_fit(alloc, setting, cut, to, next, caller, callee),

@@ -6,7 +6,24 @@ ghost use Rattle.shape_data.specs.declared.symbolic.Exp.{Exp as AnyExp};
 ghost use Rattle.shape_data.specs.Heap.{struct_named};
 ghost use Rattle.exec_laws.specs.declared.parts.Case.{Case as AnyCase};
 ghost use Rattle.exec_laws.specs.declared.parts.Exposed.TheVariants.{Shown};
-ghost use Rattle.exec_laws.specs.Cells.{cell_place as cell_place_of, for_each_case as for_each_case_of, free as free_of, free_cell as free_cell_of, free_null as free_null_of, goes_on as goes_on_of, in_case as in_case_of, load as load_of, load_cell as load_cell_of, new as new_of, new_struct as new_struct_of, store as store_of, store_cell as store_cell_of, with_fields, with_new as with_new_of, without_cell as without_cell_of};
+ghost use Rattle.exec_laws.specs.Cells.{
+  cell_place as cell_place_of,
+  for_each_case as for_each_case_of,
+  free as free_of,
+  free_cell as free_cell_of,
+  free_null as free_null_of,
+  goes_on as goes_on_of,
+  in_case as in_case_of,
+  load as load_of,
+  load_cell as load_cell_of,
+  new as new_of,
+  new_struct as new_struct_of,
+  store as store_of,
+  store_cell as store_cell_of,
+  with_fields,
+  with_new as with_new_of,
+  without_cell as without_cell_of,
+};
 ghost use Rattle.exec_laws.specs.Pairs.{atoms_of};
 ghost use Rattle.sym_exec.specs.Accesses.{use_of, with_found};
 ghost use Rattle.sym_exec.specs.InSetting.{IsGood, setting_in};
@@ -46,7 +63,8 @@ pub struct CellFields<'a> {
 
 /// The address and the fields of a cell of the kind; or why there is none.
 fn fields_of<'a>(kind: &Name, e: Exp, cell: Option<&'a Atom>) -> Result<CellFields<'a>, Fault>
-    ensures { (use_fields : AnyExp → List AnyExp → AnyCase) → with_fields kind.now use_fields e (option_copied cell.entry) ≡ with_found use_fields result }
+    ensures { (use_fields : AnyExp → List AnyExp → AnyCase)
+        → with_fields kind.now use_fields e (option_copied cell.entry) ≡ with_found use_fields result }
 {
     match cell {
         Some(

@@ -8,7 +8,21 @@ ghost use Rattle.sym_canon.specs.declared.parts.Pair.{Pair as AnyPair};
 ghost use Rattle.sym_canon.specs.Placing.{is_cell_at as is_cell_at_of, is_segment_from as is_segment_from_of};
 ghost use Rattle.sym_renaming.specs.Calls.{variables_from};
 ghost use Rattle.exec_laws.specs.declared.parts.Exposed.{Exposed as AnyExposed};
-ghost use Rattle.exec_laws.specs.Exposing.{cases_of_segment, cause_at as cause_at_of, empty_case, expose as expose_of, lacking as lacking_of, miss_cell as miss_cell_of, miss_struct as miss_struct_of, shown as shown_of, unfolded_case, unfolded_with as unfolded_with_of, where_ends_differ as where_ends_differ_of, with_unfolded as with_unfolded_of, without_atom as without_atom_of};
+ghost use Rattle.exec_laws.specs.Exposing.{
+  cases_of_segment,
+  cause_at as cause_at_of,
+  empty_case,
+  expose as expose_of,
+  lacking as lacking_of,
+  miss_cell as miss_cell_of,
+  miss_struct as miss_struct_of,
+  shown as shown_of,
+  unfolded_case,
+  unfolded_with as unfolded_with_of,
+  where_ends_differ as where_ends_differ_of,
+  with_unfolded as with_unfolded_of,
+  without_atom as without_atom_of,
+};
 ghost use Rattle.exec_laws.specs.Pairs.{atoms_of, unless_left_out};
 ghost use Rattle.sym_exec.specs.InSetting.{IsGood, setting_in};
 ghost use Rattle.sym_exec.specs.Sizes.{IsLow, IsLowPair};
@@ -147,7 +161,8 @@ fn miss_struct(
     pair: Pair,
 ) -> Result<Vec<Exposed>, AllocError>
     requires { IsGood (setting_in setting.now) }
-    ensures { IfOk result (λ cases. cases.items ≡ miss_struct_of (setting_in setting.now) kind.now e pair (struct_named setting.now.structs.now kind.now)) }
+    ensures { IfOk result (λ cases. cases.items
+        ≡ miss_struct_of (setting_in setting.now) kind.now e pair (struct_named setting.now.structs.now kind.now)) }
 {
     match struct_of(setting.structs, kind) {
         None => one_exposed(alloc, Exposed::Lacking(Fault::Kind)),
@@ -270,7 +285,8 @@ fn unfolded_of_def(
     requires place { place < length pair.now.state.heap.spatial }
     requires low { IsLowPair pair.now }
     requires few { length def.now.fields ≤ 32768 }
-    ensures { IfOk result (λ case. unfolded_case (setting_in setting.now) pair.now place kind.now link from to (Some def.now) ≡ listed case) }
+    ensures { IfOk result (λ case. unfolded_case (setting_in setting.now) pair.now place kind.now link from to (Some def.now)
+        ≡ listed case) }
 {
     let names = new_existentials(alloc, def.fields.len(), pair)?;
     unfolded_with(
@@ -300,7 +316,9 @@ fn unfolded(
     requires place { place < length pair.now.state.heap.spatial }
     requires low { IsLowPair pair.now }
     requires setting { IsGood (setting_in setting.now) }
-    ensures { IfOk result (λ case. unfolded_case (setting_in setting.now) pair.now place kind.now link from to (struct_named setting.now.structs.now kind.now) ≡ listed case) }
+    ensures { IfOk result (λ case. unfolded_case (setting_in setting.now) pair.now place kind.now link from to
+        (struct_named setting.now.structs.now kind.now)
+        ≡ listed case) }
 {
     match struct_of(setting.structs, kind) {
         None => Ok(Some(Exposed::Lacking(Fault::Kind))),
@@ -323,7 +341,9 @@ fn note_unfolded(
     requires place { place < length pair.now.state.heap.spatial }
     requires low { IsLowPair pair.now }
     requires setting { IsGood (setting_in setting.now) }
-    ensures { IfOk result (λ _. reverse noted.new.items ≡ unfolded_case (setting_in setting.now) pair.now place kind.now link from to (struct_named setting.now.structs.now kind.now) ++ reverse noted.old.items) }
+    ensures { IfOk result (λ _. reverse noted.new.items
+        ≡ unfolded_case (setting_in setting.now) pair.now place kind.now link from to (struct_named setting.now.structs.now kind.now)
+        ++ reverse noted.old.items) }
 {
     if let Some(case) = unfolded(alloc, setting, place, kind, link, from, to, pair)? {
         noted.push(case)?;
@@ -341,7 +361,8 @@ fn emptied(
     pair: Pair,
 ) -> Result<Option<Pair>, AllocError>
     requires { place < length pair.state.heap.spatial }
-    ensures value { IfOk result (λ made. (again : AnyPair → List AnyExposed) → empty_case again (setting_in setting.now) pair place from to ≡ unless_left_out again made) }
+    ensures value { IfOk result (λ made. (again : AnyPair → List AnyExposed)
+        → empty_case again (setting_in setting.now) pair place from to ≡ unless_left_out again made) }
     ensures low { IsLowPair pair → IsLow from → IsLow to → IfOk result (λ made. IfSome made IsLowPair) }
 {
     if differs(&pair.state.heap, from, to) {
@@ -371,7 +392,9 @@ fn at_place(
     requires place { place < length pair.state.heap.spatial }
     requires low { IsLowPair pair }
     requires setting { IsGood (setting_in setting.now) }
-    ensures value { IfOk result (λ turn. (again : AnyPair → List AnyExposed) → cases_of_segment again (setting_in setting.now) e pair place (slice_get (atoms_of pair) place) ++ reverse noted.old.items ≡ cases_after again turn ++ reverse noted.new.items) }
+    ensures value { IfOk result (λ turn. (again : AnyPair → List AnyExposed)
+        → cases_of_segment again (setting_in setting.now) e pair place (slice_get (atoms_of pair) place) ++ reverse noted.old.items
+        ≡ cases_after again turn ++ reverse noted.new.items) }
     ensures low { IfOk result IsLowTurn }
 {
     match copy_of(&pair.state.heap.spatial[place])? {
@@ -403,7 +426,9 @@ fn take_turn(
 ) -> Result<Turn, AllocError>
     requires low { IsLowPair pair }
     requires setting { IsGood (setting_in setting.now) }
-    ensures value { IfOk result (λ turn. (again : AnyPair → List AnyExposed) → turn_of again (setting_in setting.now) kind.now slot pair ++ reverse noted.old.items ≡ cases_after again turn ++ reverse noted.new.items) }
+    ensures value { IfOk result (λ turn. (again : AnyPair → List AnyExposed)
+        → turn_of again (setting_in setting.now) kind.now slot pair ++ reverse noted.old.items
+        ≡ cases_after again turn ++ reverse noted.new.items) }
     ensures low { IfOk result IsLowTurn }
 {
     let e = in_slot(&pair, slot);

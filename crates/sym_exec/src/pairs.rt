@@ -2,7 +2,20 @@
 ghost use Rattle.std.specs.Prelude.{◌≡◌, ◌≤◌, ℕ, IfOk, IfSome, filter, ltb};
 ghost use Rattle.sym_matching.specs.Covers.{above};
 ghost use Rattle.sym_matching.specs.NewVariables.{HasRoom};
-ghost use Rattle.exec_laws.specs.Pairs.{canonical as canonical_of, formed as formed_of, in_slot as in_slot_of, is_logical_fact as is_logical_fact_of, new_existentials as new_existentials_of, new_logical as new_logical_of, pair_variables as pair_variables_of, where_true as where_true_of, where_true_in_state as where_true_in_state_of, with_missing_fact as with_missing_fact_of, with_slot as with_slot_of, with_state_fact as with_state_fact_of};
+ghost use Rattle.exec_laws.specs.Pairs.{
+  canonical as canonical_of,
+  formed as formed_of,
+  in_slot as in_slot_of,
+  is_logical_fact as is_logical_fact_of,
+  new_existentials as new_existentials_of,
+  new_logical as new_logical_of,
+  pair_variables as pair_variables_of,
+  where_true as where_true_of,
+  where_true_in_state as where_true_in_state_of,
+  with_missing_fact as with_missing_fact_of,
+  with_slot as with_slot_of,
+  with_state_fact as with_state_fact_of,
+};
 ghost use Rattle.sym_exec.specs.InSetting.{setting_in};
 ghost use Rattle.sym_exec.specs.Sizes.{IsLowFact, IsLowPair};
 

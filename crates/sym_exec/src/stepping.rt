@@ -3,7 +3,22 @@ ghost use Rattle.std.specs.Prelude.{◌≡◌, IfOk, filter_map, length, slice_g
 ghost use Rattle.std.specs.Option.{option_copied};
 ghost use Rattle.shape_data.specs.declared.answer.Callee.{Callee as AnyCallee};
 ghost use Rattle.shape_data.specs.WellFormed.{AreStructs, FitCalls, IsFlow, IsState, IsSymHeap, widest};
-ghost use Rattle.exec_laws.specs.Execution.{answer_to as answer_to_of, both_forms as both_forms_of, cases_of as cases_of_command, exec as exec_of, execution as execution_of, exit_of, first_drop as first_drop_of, formed_case as formed_case_of, formed_cases as formed_cases_of, line_of as line_of_node, next_of, nothing_missing as nothing_missing_of, post_of as post_of_state, search_cases as search_cases_of};
+ghost use Rattle.exec_laws.specs.Execution.{
+  answer_to as answer_to_of,
+  both_forms as both_forms_of,
+  cases_of as cases_of_command,
+  exec as exec_of,
+  execution as execution_of,
+  exit_of,
+  first_drop as first_drop_of,
+  formed_case as formed_case_of,
+  formed_cases as formed_cases_of,
+  line_of as line_of_node,
+  next_of,
+  nothing_missing as nothing_missing_of,
+  post_of as post_of_state,
+  search_cases as search_cases_of,
+};
 ghost use Rattle.exec_laws.specs.declared.parts.Step.TheVariants as step;
 ghost use Rattle.exec_laws.specs.Laws.{FitsTable, IsTable, callees_of};
 ghost use Rattle.sym_exec.specs.Callers.{IsGiven};

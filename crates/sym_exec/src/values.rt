@@ -2,7 +2,15 @@
 ghost use Rattle.std.specs.Prelude.{◌≡◌, ◌∷◌, [], IfOk};
 ghost use Rattle.shape_data.specs.Machine.{arith_value};
 ghost use Rattle.exec_laws.specs.declared.parts.Case.TheVariants.{On};
-ghost use Rattle.exec_laws.specs.Values.{any as any_of, arith as arith_of, copy as copy_row, leave as leave_of, operand as operand_of, with_any as with_any_of, with_result as with_result_of};
+ghost use Rattle.exec_laws.specs.Values.{
+  any as any_of,
+  arith as arith_of,
+  copy as copy_row,
+  leave as leave_of,
+  operand as operand_of,
+  with_any as with_any_of,
+  with_result as with_result_of,
+};
 ghost use Rattle.sym_exec.specs.Sizes.{IsLowPair};
 
 use crate::pairs::{in_slot, new_existentials, with_slot};

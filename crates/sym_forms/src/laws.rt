@@ -1,5 +1,11 @@
 //! Laws of normal and canonical forms together, each the contract of a function that does nothing.
-ghost use Rattle.sym_forms.specs.Laws.{CanonPairKeepsMissingNormal, CanonPostIsNormal, CanonStateIsNormal, CanonStateIsWellFormed, PairFormIsNormal};
+ghost use Rattle.sym_forms.specs.Laws.{
+  CanonPairKeepsMissingNormal,
+  CanonPostIsNormal,
+  CanonStateIsNormal,
+  CanonStateIsWellFormed,
+  PairFormIsNormal,
+};
 
 /// The canonical form of what is normal is normal.
 pub fn canonical_form_is_normal()

@@ -3,7 +3,13 @@ ghost use Rattle.std.specs.Prelude.{◌≡◌, IfOk, not, filter};
 ghost use Rattle.std.specs.declared.option.Option.TheVariants.{Some};
 ghost use Rattle.sym_laws.specs.Mapped.{on_state};
 ghost use Rattle.sym_pure.specs.Equations.{read_through as read_through_of};
-ghost use Rattle.sym_forms.specs.PairForms.{is_further_equation as is_further_equation_of, pair_form as pair_form_of, pair_of as pair_of_parts, with_missing as with_missing_of, without_facts};
+ghost use Rattle.sym_forms.specs.PairForms.{
+  is_further_equation as is_further_equation_of,
+  pair_form as pair_form_of,
+  pair_of as pair_of_parts,
+  with_missing as with_missing_of,
+  without_facts,
+};
 
 use shape_data::Row;
 use shape_data::symbolic::{Exp, Fact, SymHeap, SymState};

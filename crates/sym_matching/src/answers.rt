@@ -1,5 +1,12 @@
 //! Laws of the well-formedness and of the size of what a match answers, each the contract of a function that does nothing.
-ghost use Rattle.sym_matching.specs.Answers.{BiabduceHasSizes, BiabduceIsWellFormed, MatchHasSizes, MatchIsWellFormed, SubtractHasSizes, SubtractIsWellFormed};
+ghost use Rattle.sym_matching.specs.Answers.{
+  BiabduceHasSizes,
+  BiabduceIsWellFormed,
+  MatchHasSizes,
+  MatchIsWellFormed,
+  SubtractHasSizes,
+  SubtractIsWellFormed,
+};
 
 /// In both modes, within any limits: what is left, what is missing and the binding are well formed where the arguments are and the new
 /// variables may occur. No more atoms are left than there were.

@@ -1,5 +1,17 @@
 //! Laws of matching, each the contract of a function that does nothing.
-ghost use Rattle.sym_matching.specs.Laws.{BiabduceGivesBeside, BiabduceKeepsBound, CoveringPostMeets, CoveringStateMeets, FittingCarries, MatchSplits, MissingIsLogical, SubtractGivesBeside, SubtractKeepsBound, SubtractMissesNothing, WellFormedFits};
+ghost use Rattle.sym_matching.specs.Laws.{
+  BiabduceGivesBeside,
+  BiabduceKeepsBound,
+  CoveringPostMeets,
+  CoveringStateMeets,
+  FittingCarries,
+  MatchSplits,
+  MissingIsLogical,
+  SubtractGivesBeside,
+  SubtractKeepsBound,
+  SubtractMissesNothing,
+  WellFormedFits,
+};
 
 /// In both modes: what holds the heap, with the missing part beside it, is under another assignment the sum of one that holds
 /// the wanted heap and one that holds the frame. That assignment agrees on what was in use and on all logical variables, and

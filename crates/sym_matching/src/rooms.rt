@@ -1,6 +1,17 @@
 //! Laws of the room for new variables, each the contract of a function that does nothing: it follows from well-formedness, so
 //! that no call of the crates above has a condition for it.
-ghost use Rattle.sym_matching.specs.Rooms.{AtomNames, AtomTakesRoom, AtomsName, AtomsTakeRoom, FewFields, RoomBelow, RoomOfFew, RoomParts, SearchFindsFree, WellFormedIsWithinSizes};
+ghost use Rattle.sym_matching.specs.Rooms.{
+  AtomNames,
+  AtomTakesRoom,
+  AtomsName,
+  AtomsTakeRoom,
+  FewFields,
+  RoomBelow,
+  RoomOfFew,
+  RoomParts,
+  SearchFindsFree,
+  WellFormedIsWithinSizes,
+};
 
 /// Each well-formed heap has variables below 2^31, at most 4,000 parts, and cells of at most 32,768 fields; so it has at most
 /// 131,072,000 fields.

@@ -2,7 +2,12 @@
 ghost use Rattle.std.specs.Prelude.{◌≡◌};
 ghost use Rattle.std.specs.List.{list_any};
 ghost use Rattle.sym_laws.specs.Fresh.{is_one_of as is_one_of_list};
-ghost use Rattle.shape_laws.specs.Symbolic.{is_variable, occurs_in as occurs_in_heap_of, occurs_in_atom as occurs_in_atom_of, occurs_in_fact as occurs_in_fact_of};
+ghost use Rattle.shape_laws.specs.Symbolic.{
+  is_variable,
+  occurs_in as occurs_in_heap_of,
+  occurs_in_atom as occurs_in_atom_of,
+  occurs_in_fact as occurs_in_fact_of,
+};
 
 use shape_data::symbolic::{Atom, Exp, Fact, SymHeap};
 

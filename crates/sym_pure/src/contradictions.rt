@@ -1,6 +1,10 @@
 //! What contradicts itself.
 ghost use Rattle.std.specs.Prelude.{◌≡◌};
-ghost use Rattle.sym_pure.specs.Contradictions.{do_sources_clash as do_sources_clash_of, has_clash as has_clash_of, has_same_sides as has_same_sides_of};
+ghost use Rattle.sym_pure.specs.Contradictions.{
+  do_sources_clash as do_sources_clash_of,
+  has_clash as has_clash_of,
+  has_same_sides as has_same_sides_of,
+};
 
 use crate::sources::{has_double_source, is_source};
 use shape_data::symbolic::{Atom, Exp, Fact, SymHeap};

@@ -4,7 +4,13 @@ ghost use Rattle.std.specs.declared.option.Option.TheVariants.{Some};
 ghost use Rattle.sym_laws.specs.Addresses.{addresses};
 ghost use Rattle.sym_laws.specs.Expressions.{is_among};
 ghost use Rattle.sym_laws.specs.Mapped.{on_atom};
-ghost use Rattle.sym_pure.specs.Emptying.{is_empty as is_empty_of, is_plain as is_plain_of, place_of_empty as place_of, settle as settle_of, with_equal_ends as with_equal_ends_of};
+ghost use Rattle.sym_pure.specs.Emptying.{
+  is_empty as is_empty_of,
+  is_plain as is_plain_of,
+  place_of_empty as place_of,
+  settle as settle_of,
+  with_equal_ends as with_equal_ends_of,
+};
 ghost use Rattle.sym_pure.specs.Solving.{read as read_of};
 
 use crate::parts::{Settled, Solved};

@@ -1,5 +1,14 @@
 //! Laws of the normal form, each the contract of a function that does nothing.
-ghost use Rattle.sym_pure.specs.Laws.{DiffersIsSound, FormHasNoMoreParts, FormHasNoOther, FormIsNormal, FormIsWellFormed, NormalHoldsAlike, NormalIsItself, NormalKeepsMeaning};
+ghost use Rattle.sym_pure.specs.Laws.{
+  DiffersIsSound,
+  FormHasNoMoreParts,
+  FormHasNoOther,
+  FormIsNormal,
+  FormIsWellFormed,
+  NormalHoldsAlike,
+  NormalIsItself,
+  NormalKeepsMeaning,
+};
 
 /// The same locals and heaps meet a state and its normal form, and nothing meets a contradiction. What holds of the
 /// state under an assignment to all variables holds of the form under the same one.

@@ -3,7 +3,21 @@ ghost use Rattle.std.specs.Prelude.{◌≡◌, ◌≤◌, []};
 ghost use Rattle.std.specs.List.{list_all, list_any};
 ghost use Rattle.sym_laws.specs.Addresses.{addresses};
 ghost use Rattle.sym_pure.specs.Emptying.{is_empty as is_empty_of};
-ghost use Rattle.sym_pure.specs.IsNormal.{are_in_order as are_in_order_of, are_normal_atoms as are_normal_atoms_of, are_normal_facts as are_normal_facts_of, has_redundant as has_redundant_of, has_two_junk as has_two_junk_of, is_below as is_below_of, is_disequality as is_disequality_of, is_normal as is_normal_of, is_normal_heap as is_normal_heap_of, is_read as is_read_of, is_read_atom as is_read_atom_of, is_read_fact as is_read_fact_of, is_solved_in as is_solved_in_of};
+ghost use Rattle.sym_pure.specs.IsNormal.{
+  are_in_order as are_in_order_of,
+  are_normal_atoms as are_normal_atoms_of,
+  are_normal_facts as are_normal_facts_of,
+  has_redundant as has_redundant_of,
+  has_two_junk as has_two_junk_of,
+  is_below as is_below_of,
+  is_disequality as is_disequality_of,
+  is_normal as is_normal_of,
+  is_normal_heap as is_normal_heap_of,
+  is_read as is_read_of,
+  is_read_atom as is_read_atom_of,
+  is_read_fact as is_read_fact_of,
+  is_solved_in as is_solved_in_of,
+};
 
 use crate::contradictions::contradicts_itself;
 use crate::emptying::is_plain;

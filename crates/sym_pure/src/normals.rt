@@ -1,7 +1,13 @@
 //! The normal form of a state: its four rules, one after the other.
 ghost use Rattle.std.specs.Prelude.{◌≡◌, IfOk};
 ghost use Rattle.std.specs.declared.option.Option.TheVariants.{Some};
-ghost use Rattle.sym_pure.specs.Normal.{disequalities as disequalities_of, form_of as form_of_parts, normal as normal_of_state, normal_of as normal_of_parts, normal_settled as normal_settled_of};
+ghost use Rattle.sym_pure.specs.Normal.{
+  disequalities as disequalities_of,
+  form_of as form_of_parts,
+  normal as normal_of_state,
+  normal_of as normal_of_parts,
+  normal_settled as normal_settled_of,
+};
 
 use crate::contradictions::has_clash;
 use crate::emptying::settle;

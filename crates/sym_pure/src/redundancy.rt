@@ -4,7 +4,14 @@ ghost use Rattle.std.specs.List.{list_any};
 ghost use Rattle.sym_laws.specs.Addresses.{addresses};
 ghost use Rattle.sym_laws.specs.Junks.{is_junk as is_junk_of};
 ghost use Rattle.sym_pure.specs.Emptying.{is_plain as is_plain_of};
-ghost use Rattle.sym_pure.specs.Redundancy.{are_constants as are_constants_of, is_redundant as is_redundant_of, needed as needed_of, one_junk as one_junk_of, with_needed, with_one_junk};
+ghost use Rattle.sym_pure.specs.Redundancy.{
+  are_constants as are_constants_of,
+  is_redundant as is_redundant_of,
+  needed as needed_of,
+  one_junk as one_junk_of,
+  with_needed,
+  with_one_junk,
+};
 
 use crate::emptying::is_plain;
 use crate::sources::is_written;

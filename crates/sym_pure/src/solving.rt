@@ -1,7 +1,17 @@
 //! Equations are solved one after another, each read through those that are solved.
 ghost use Rattle.std.specs.Prelude.{◌≡◌, ◌≤◌, IfOk, length, []};
 ghost use Rattle.std.specs.List.{position_or_len};
-ghost use Rattle.sym_pure.specs.Solving.{equations as equations_of, instead as instead_of, read as read_of, solve as solve_of, stands_behind as stands_behind_of, with_equation as with_equation_to, with_equation_of, with_read as with_read_of, with_solved as with_solved_of};
+ghost use Rattle.sym_pure.specs.Solving.{
+  equations as equations_of,
+  instead as instead_of,
+  read as read_of,
+  solve as solve_of,
+  stands_behind as stands_behind_of,
+  with_equation as with_equation_to,
+  with_equation_of,
+  with_read as with_read_of,
+  with_solved as with_solved_of,
+};
 
 use crate::parts::Solved;
 use shape_data::Row;

@@ -1,7 +1,15 @@
 //! The sources of a heap, and what is known to differ. Nothing here takes memory.
 ghost use Rattle.std.specs.Prelude.{◌≡◌};
 ghost use Rattle.sym_laws.specs.Expressions.{are_two as are_two_of, has_double as has_double_of, is_among as is_among_of};
-ghost use Rattle.sym_pure.specs.Sources.{are_unequal_constants as are_unequal_of, differs as differs_of, do_ends_differ as do_ends_differ_of, is_written as is_written_of, is_zero_and_source as is_zero_and_source_of, source_of as source_of_atom, sources as sources_of};
+ghost use Rattle.sym_pure.specs.Sources.{
+  are_unequal_constants as are_unequal_of,
+  differs as differs_of,
+  do_ends_differ as do_ends_differ_of,
+  is_written as is_written_of,
+  is_zero_and_source as is_zero_and_source_of,
+  source_of as source_of_atom,
+  sources as sources_of,
+};
 
 use shape_data::symbolic::{Atom, Exp, Fact, SymHeap};
 use sym_parts::is_same_exp;

@@ -1,6 +1,11 @@
 //! New numbers for variables, apart from those in use.
 ghost use Rattle.std.specs.Prelude.{◌≡◌, ◌+◌, ◌<◌, IfOk, length};
-ghost use Rattle.sym_matching.specs.NewVariables.{HasRoom, at_its_place as at_its_place_of, distinct as distinct_of, fresh_variables as fresh_variables_of};
+ghost use Rattle.sym_matching.specs.NewVariables.{
+  HasRoom,
+  at_its_place as at_its_place_of,
+  distinct as distinct_of,
+  fresh_variables as fresh_variables_of,
+};
 ghost use Rattle.sym_renaming.specs.Apart.{number_of as number_of_in, numbers_apart as numbers_apart_of};
 ghost use Rattle.sym_renaming.specs.Sizes.{AreSmall};
 

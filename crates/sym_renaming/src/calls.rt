@@ -3,7 +3,17 @@
 ghost use Rattle.std.specs.Prelude.{◌≡◌, ◌≤◌, IfOk, filter, length};
 ghost use Rattle.std.specs.Option.{is_none};
 ghost use Rattle.sym_matching.specs.Rooms.{IsWithinSizes};
-ghost use Rattle.sym_renaming.specs.Calls.{bound_in as bound_in_of, called_with, new_in_post as new_in_post_of, others_flexible as others_flexible_of, parameters_bound as parameters_bound_of, post_in_caller as post_in_caller_of, post_numbers as post_numbers_of, pre_numbers as pre_numbers_of, variables_from};
+ghost use Rattle.sym_renaming.specs.Calls.{
+  bound_in as bound_in_of,
+  called_with,
+  new_in_post as new_in_post_of,
+  others_flexible as others_flexible_of,
+  parameters_bound as parameters_bound_of,
+  post_in_caller as post_in_caller_of,
+  post_numbers as post_numbers_of,
+  pre_numbers as pre_numbers_of,
+  variables_from,
+};
 ghost use Rattle.sym_renaming.specs.Sizes.{AreSmall};
 
 use crate::apart::numbers_apart;
@@ -132,7 +142,8 @@ fn new_in_post(alloc: Global, found: &Found, post: &Post) -> Result<Vec<u32>, Al
 
 /// Those of a list that the match left unbound.
 fn unbound_ones(alloc: Global, found: &Found, list: &[u32]) -> Result<Vec<u32>, AllocError>
-    ensures { IfOk result (λ names. names.items ≡ filter (λ x. is_none (bound_in_of found.now.apart.now found.now.binding.now x)) list.now) }
+    ensures { IfOk result (λ names. names.items
+        ≡ filter (λ x. is_none (bound_in_of found.now.apart.now found.now.binding.now x)) list.now) }
 {
     let mut names = Vec::new(alloc);
     for x in list {

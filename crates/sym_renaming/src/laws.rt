@@ -1,6 +1,28 @@
 //! Laws of renaming apart, each the contract of a function that does nothing.
-ghost use Rattle.sym_renaming.specs.Laws.{ArgumentsStand, CoveringsAreApart, MatchIsCall, NumbersAreApart, PostBesideFrame, PostInCaller, PreInCaller, StateApartMeets};
-ghost use Rattle.sym_renaming.specs.Sizes.{CalledIsWellFormed, CalledIsWithinSizes, FewBindingVariables, FewDistinct, FewHeapVariables, FewStateVariables, MappedHeapIsWellFormed, MappedIsWithinSizes, MappedPostIsWellFormed, MappedStateIsWellFormed, PostIsWellFormed, PostIsWithinSizes};
+ghost use Rattle.sym_renaming.specs.Laws.{
+  ArgumentsStand,
+  CoveringsAreApart,
+  MatchIsCall,
+  NumbersAreApart,
+  PostBesideFrame,
+  PostInCaller,
+  PreInCaller,
+  StateApartMeets,
+};
+ghost use Rattle.sym_renaming.specs.Sizes.{
+  CalledIsWellFormed,
+  CalledIsWithinSizes,
+  FewBindingVariables,
+  FewDistinct,
+  FewHeapVariables,
+  FewStateVariables,
+  MappedHeapIsWellFormed,
+  MappedIsWithinSizes,
+  MappedPostIsWellFormed,
+  MappedStateIsWellFormed,
+  PostIsWellFormed,
+  PostIsWithinSizes,
+};
 
 /// New numbers are existential, free, different, and the least: so there are as many below them, from 65,536 on, as are in use.
 pub fn numbers_are_apart()

@@ -1,7 +1,12 @@
 //! New existential variables: the least numbers that are not in use.
 ghost use Rattle.std.specs.Prelude.{◌≡◌, ◌++◌, ◌<◌, IfOk, length, map};
 ghost use Rattle.shape_data.specs.declared.symbolic.Exp.TheVariants.{Var};
-ghost use Rattle.sym_matching.specs.NewVariables.{HasRoom, first_free as first_free_of, fresh as fresh_of, fresh_variables as fresh_variables_of};
+ghost use Rattle.sym_matching.specs.NewVariables.{
+  HasRoom,
+  first_free as first_free_of,
+  fresh as fresh_of,
+  fresh_variables as fresh_variables_of,
+};
 
 use shape_data::Row;
 use shape_data::symbolic::{Exp, FIRST_EXISTENTIAL};

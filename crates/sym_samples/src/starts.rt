@@ -2,7 +2,12 @@
 //! distinct variables.
 ghost use Rattle.std.specs.Prelude.{◌≡◌, IfOk};
 ghost use Rattle.std.specs.List.{list_all};
-ghost use Rattle.sym_samples.specs.Samples.{has_plain_sources as has_plain_sources_of, has_sample as has_sample_of, is_variable as is_variable_of, starts as starts_of_atoms};
+ghost use Rattle.sym_samples.specs.Samples.{
+  has_plain_sources as has_plain_sources_of,
+  has_sample as has_sample_of,
+  is_variable as is_variable_of,
+  starts as starts_of_atoms,
+};
 
 use shape_data::symbolic::{Atom, Exp, SymHeap};
 use std::alloc::{AllocError, Global};

@@ -4,7 +4,19 @@ ghost use Rattle.shape_data.specs.Heap.{struct_named};
 ghost use Rattle.shape_data.specs.WellFormed.{AreStructs};
 ghost use Rattle.std.specs.Option.{option_copied};
 ghost use Rattle.sym_text.specs.Outcome.{Got, IsStop};
-ghost use Rattle.sym_text.specs.Reading.{has_some, is_one_of, kinds, linked, reach, read_field, read_word, read_fields, read_link, read_cell, read_segment};
+ghost use Rattle.sym_text.specs.Reading.{
+  has_some,
+  is_one_of,
+  kinds,
+  linked,
+  reach,
+  read_field,
+  read_word,
+  read_fields,
+  read_link,
+  read_cell,
+  read_segment,
+};
 ghost use Rattle.sym_text.specs.Text.{field_names};
 ghost use Rattle.sym_text.specs.declared.parts.Part.TheVariants as part;
 ghost use Rattle.shape_data.specs.declared.symbolic.Atom.TheVariants.{Seg};
@@ -107,7 +119,8 @@ fn read_fields<'a>(
     text: &'a [u8],
 ) -> Result<ReadValues<'a>, Fault>
     requires { length params.now ≤ 32768 }
-    ensures ok { IfOk result (λ read. read_fields params.now [] (map (λ field. field.name) fields.now) [] text.now ≡ Got read.0 read.1.now) }
+    ensures ok { IfOk result (λ read. read_fields params.now [] (map (λ field. field.name) fields.now) [] text.now
+        ≡ Got read.0 read.1.now) }
     ensures err { IfErr result (λ fault. IsStop fault (read_fields params.now [] (map (λ field. field.name) fields.now) [] text.now)) }
 {
     let mut values = Row::new(alloc);
@@ -204,7 +217,8 @@ pub fn read_segment<'a>(
 ) -> Result<ReadSegment<'a>, Fault>
     requires few { length params.now ≤ 32768 }
     requires structs { AreStructs structs.now }
-    ensures ok { IfOk result (λ read. read_segment structs.now params.now text.now ≡ Got (part.Atom (Seg read.0.now read.1 read.2 read.3)) read.4.now) }
+    ensures ok { IfOk result (λ read. read_segment structs.now params.now text.now
+        ≡ Got (part.Atom (Seg read.0.now read.1 read.2 read.3)) read.4.now) }
     ensures err { IfErr result (λ fault. IsStop fault (read_segment structs.now params.now text.now)) }
 {
     let rest = read_literal(b"[", text)?;

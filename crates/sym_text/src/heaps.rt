@@ -53,8 +53,11 @@ fn read_turn<'a>(
 ) -> Result<ReadTurn<'a>, Fault>
     requires few { length scope.now.params.now ≤ 32768 }
     requires structs { AreStructs scope.now.structs.now }
-    ensures ok { IfOk result (λ read. read_turn with_ret scope.now.structs.now scope.now.params.now scope.now.facts scope.now.is_first left text.now ≡ Got (record { 0 = read.0; 1 = read.1 }) read.2.now) }
-    ensures err { IfErr result (λ fault. IsStop fault (read_turn with_ret scope.now.structs.now scope.now.params.now scope.now.facts scope.now.is_first left text.now)) }
+    ensures ok { IfOk result (λ read. read_turn with_ret scope.now.structs.now scope.now.params.now scope.now.facts scope.now.is_first left
+        text.now
+        ≡ Got (record { 0 = read.0; 1 = read.1 }) read.2.now) }
+    ensures err { IfErr result (λ fault. IsStop fault
+        (read_turn with_ret scope.now.structs.now scope.now.params.now scope.now.facts scope.now.is_first left text.now)) }
 {
     let (part, rest) = read_part(alloc, scope, text)?;
     let (more, rest) = read_separator(with_ret, more_may_come(left, &part), rest)?;
@@ -74,8 +77,10 @@ fn read_parts<'a>(
 ) -> Result<ReadHeap<'a>, Fault>
     requires few { length params.now ≤ 32768 }
     requires structs { AreStructs structs.now }
-    ensures ok { IfOk result (λ read. read_parts with_ret structs.now params.now 4000 true (record { pure = []; spatial = [] }) text.now ≡ Got read.0 read.1.now) }
-    ensures err { IfErr result (λ fault. IsStop fault (read_parts with_ret structs.now params.now 4000 true (record { pure = []; spatial = [] }) text.now)) }
+    ensures ok { IfOk result (λ read. read_parts with_ret structs.now params.now 4000 true (record { pure = []; spatial = [] }) text.now
+        ≡ Got read.0 read.1.now) }
+    ensures err { IfErr result (λ fault. IsStop fault
+        (read_parts with_ret structs.now params.now 4000 true (record { pure = []; spatial = [] }) text.now)) }
 {
     let mut heap = SymHeap {
         pure: Row::new(alloc),

@@ -11,13 +11,15 @@ ghost use Rattle.sym_text.specs.Text.{heap_text, post_text};
 /// Two heaps with one text are the same, if both are well formed within `written`, over the same structures and parameters: so
 /// printing and reading undo one another.
 pub fn one_heap()
-    ensures { (structs : List StructDef) → (params : List (List ℕ)) → AreStructs structs → AreParams params → (one other : SymHeap) → IsWritten structs params one → IsWritten structs params other
-        → heap_text structs params one ≡ heap_text structs params other → one ≡ other }
+    ensures { (structs : List StructDef) → (params : List (List ℕ)) → AreStructs structs → AreParams params → (one other : SymHeap)
+        → IsWritten structs params one → IsWritten structs params other → heap_text structs params one ≡ heap_text structs params other
+        → one ≡ other }
 {}
 
 /// Two such posts with one text, with the result, are the same.
 pub fn one_post()
-    ensures { (structs : List StructDef) → (params : List (List ℕ)) → AreStructs structs → AreParams params → (one other : Post) → IsWrittenPost structs params one → IsWrittenPost structs params other
+    ensures { (structs : List StructDef) → (params : List (List ℕ)) → AreStructs structs → AreParams params → (one other : Post)
+        → IsWrittenPost structs params one → IsWrittenPost structs params other
         → post_text structs params true one ≡ post_text structs params true other → one ≡ other }
 {}
 

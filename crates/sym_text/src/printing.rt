@@ -5,7 +5,17 @@ ghost use Rattle.std.specs.Fmt.{decimal, signed_decimal};
 ghost use Rattle.std.specs.List.{join_by};
 ghost use Rattle.sym_text.specs.Led.{led_texts};
 ghost use Rattle.sym_text.specs.Shape.{IsShaped, IsShapedHeap, IsShapedPost};
-ghost use Rattle.sym_text.specs.Text.{variable_text, exp_text, fact_text, field_names, field_texts, atom_text, heap_text, ret_text, post_text};
+ghost use Rattle.sym_text.specs.Text.{
+  variable_text,
+  exp_text,
+  fact_text,
+  field_names,
+  field_texts,
+  atom_text,
+  heap_text,
+  ret_text,
+  post_text,
+};
 
 use itoa::Buffer;
 use shape_data::program::{Field, StructDef};
@@ -239,7 +249,8 @@ fn push_atoms(
     mut led: bool,
 ) -> Result<(), AllocError>
     requires { All (IsShaped structs.now) atoms.now }
-    ensures { OnOk result (text.new.items ≡ text.old.items ++ led_texts (codes " * ") led (map (atom_text structs.now params.now) atoms.now)) }
+    ensures { OnOk result
+        (text.new.items ≡ text.old.items ++ led_texts (codes " * ") led (map (atom_text structs.now params.now) atoms.now)) }
 {
     for atom in atoms {
         if led {

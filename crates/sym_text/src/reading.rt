@@ -6,7 +6,17 @@ ghost use Rattle.shape_data.specs.declared.symbolic.Exp.TheVariants.{Var};
 ghost use Rattle.sym_text.specs.declared.starts.Next.TheVariants as next;
 ghost use Rattle.sym_text.specs.declared.starts.Start.TheVariants as start;
 ghost use Rattle.sym_text.specs.Outcome.{Got, IsStop, only_if};
-ghost use Rattle.sym_text.specs.Reading.{is_one_of, place_of, read_right, tail_by, word_by, counted_part, read_part, part_by, read_separator};
+ghost use Rattle.sym_text.specs.Reading.{
+  is_one_of,
+  place_of,
+  read_right,
+  tail_by,
+  word_by,
+  counted_part,
+  read_part,
+  part_by,
+  read_separator,
+};
 
 use crate::cells::{has_linked, read_cell, read_segment};
 use crate::exps::{read_exp, read_exp_by};
@@ -67,8 +77,10 @@ fn read_tail<'a>(
     text: &'a [u8],
 ) -> Result<ReadPart<'a>, Fault>
     requires { length scope.now.params.now ≤ 32768 }
-    ensures ok { IfOk result (λ read. tail_by scope.now.structs.now scope.now.params.now scope.now.facts left next text.now ≡ Got read.0 read.1.now) }
-    ensures err { IfErr result (λ fault. IsStop fault (tail_by scope.now.structs.now scope.now.params.now scope.now.facts left next text.now)) }
+    ensures ok { IfOk result (λ read. tail_by scope.now.structs.now scope.now.params.now scope.now.facts left next text.now
+        ≡ Got read.0 read.1.now) }
+    ensures err { IfErr result (λ fault. IsStop fault
+        (tail_by scope.now.structs.now scope.now.params.now scope.now.facts left next text.now)) }
 {
     match next {
         Next::Bar => {
@@ -101,8 +113,11 @@ fn read_tail<'a>(
 fn read_bracket<'a>(scope: &Scope<'a>, word: &[u8], text: &'a [u8]) -> Result<ReadPart<'a>, Fault>
     requires few { length scope.now.params.now ≤ 32768 }
     requires structs { AreStructs scope.now.structs.now }
-    ensures ok { IfOk result (λ read. word_by scope.now.structs.now scope.now.params.now scope.now.facts scope.now.is_first word.now next.Bracket text.now ≡ Got read.0 read.1.now) }
-    ensures err { IfErr result (λ fault. IsStop fault (word_by scope.now.structs.now scope.now.params.now scope.now.facts scope.now.is_first word.now next.Bracket text.now)) }
+    ensures ok { IfOk result (λ read. word_by scope.now.structs.now scope.now.params.now scope.now.facts scope.now.is_first word.now
+        next.Bracket text.now
+        ≡ Got read.0 read.1.now) }
+    ensures err { IfErr result (λ fault. IsStop fault
+        (word_by scope.now.structs.now scope.now.params.now scope.now.facts scope.now.is_first word.now next.Bracket text.now)) }
 {
     if !(is_word(b"ls", word) && has_linked(scope.structs)) {
         return Err(Fault::Refused { left: text.len() });
@@ -123,8 +138,11 @@ fn read_bracket<'a>(scope: &Scope<'a>, word: &[u8], text: &'a [u8]) -> Result<Re
 /// Reads `junk` or `emp`, where the word ends there.
 #[tactic(auto, unfolding(crate::specs::Reading::word_by))]
 fn read_end<'a>(scope: &Scope<'a>, word: &[u8], text: &'a [u8]) -> Result<ReadPart<'a>, Fault>
-    ensures ok { IfOk result (λ read. word_by scope.now.structs.now scope.now.params.now scope.now.facts scope.now.is_first word.now next.End text.now ≡ Got read.0 read.1.now) }
-    ensures err { IfErr result (λ fault. IsStop fault (word_by scope.now.structs.now scope.now.params.now scope.now.facts scope.now.is_first word.now next.End text.now)) }
+    ensures ok { IfOk result (λ read. word_by scope.now.structs.now scope.now.params.now scope.now.facts scope.now.is_first word.now
+        next.End text.now
+        ≡ Got read.0 read.1.now) }
+    ensures err { IfErr result (λ fault. IsStop fault
+        (word_by scope.now.structs.now scope.now.params.now scope.now.facts scope.now.is_first word.now next.End text.now)) }
 {
     if is_word(b"junk", word) {
         Ok((Part::Atom(Atom::Junk), text))
@@ -144,8 +162,14 @@ fn read_behind_name<'a>(
     text: &'a [u8],
 ) -> Result<ReadPart<'a>, Fault>
     requires { length scope.now.params.now ≤ 32768 }
-    ensures ok { IfOk result (λ read. only_if (is_one_of scope.now.params.now word.now) (tail_by scope.now.structs.now scope.now.params.now scope.now.facts (Var (place_of scope.now.params.now word.now)) next) text.now ≡ Got read.0 read.1.now) }
-    ensures err { IfErr result (λ fault. IsStop fault (only_if (is_one_of scope.now.params.now word.now) (tail_by scope.now.structs.now scope.now.params.now scope.now.facts (Var (place_of scope.now.params.now word.now)) next) text.now)) }
+    ensures ok { IfOk result (λ read. only_if (is_one_of scope.now.params.now word.now)
+        (tail_by scope.now.structs.now scope.now.params.now scope.now.facts (Var (place_of scope.now.params.now word.now)) next)
+        text.now
+        ≡ Got read.0 read.1.now) }
+    ensures err { IfErr result (λ fault. IsStop fault
+        (only_if (is_one_of scope.now.params.now word.now)
+        (tail_by scope.now.structs.now scope.now.params.now scope.now.facts (Var (place_of scope.now.params.now word.now)) next)
+        text.now)) }
 {
     if is_one_of(scope.params, word) {
         let name = Exp::Var(place_of(scope.params, word) as u32);
@@ -166,8 +190,11 @@ fn read_behind_word<'a>(
 ) -> Result<ReadPart<'a>, Fault>
     requires few { length scope.now.params.now ≤ 32768 }
     requires structs { AreStructs scope.now.structs.now }
-    ensures ok { IfOk result (λ read. word_by scope.now.structs.now scope.now.params.now scope.now.facts scope.now.is_first word.now next text.now ≡ Got read.0 read.1.now) }
-    ensures err { IfErr result (λ fault. IsStop fault (word_by scope.now.structs.now scope.now.params.now scope.now.facts scope.now.is_first word.now next text.now)) }
+    ensures ok { IfOk result (λ read. word_by scope.now.structs.now scope.now.params.now scope.now.facts scope.now.is_first word.now next
+        text.now
+        ≡ Got read.0 read.1.now) }
+    ensures err { IfErr result (λ fault. IsStop fault
+        (word_by scope.now.structs.now scope.now.params.now scope.now.facts scope.now.is_first word.now next text.now)) }
 {
     match next {
         Next::Bracket => read_bracket(scope, word, text),
@@ -188,8 +215,11 @@ fn read_lettered<'a>(
 ) -> Result<ReadPart<'a>, Fault>
     requires few { length scope.now.params.now ≤ 32768 }
     requires structs { AreStructs scope.now.structs.now }
-    ensures ok { IfOk result (λ read. part_by scope.now.structs.now scope.now.params.now scope.now.facts scope.now.is_first start.Letter text.now ≡ Got read.0 read.1.now) }
-    ensures err { IfErr result (λ fault. IsStop fault (part_by scope.now.structs.now scope.now.params.now scope.now.facts scope.now.is_first start.Letter text.now)) }
+    ensures ok { IfOk result (λ read. part_by scope.now.structs.now scope.now.params.now scope.now.facts scope.now.is_first start.Letter
+        text.now
+        ≡ Got read.0 read.1.now) }
+    ensures err { IfErr result (λ fault. IsStop fault
+        (part_by scope.now.structs.now scope.now.params.now scope.now.facts scope.now.is_first start.Letter text.now)) }
 {
     let (word, rest) = read_lead(
         scope.structs,
@@ -210,8 +240,10 @@ fn read_counted<'a>(
     text: &'a [u8],
 ) -> Result<ReadPart<'a>, Fault>
     requires { length scope.now.params.now ≤ 32768 }
-    ensures ok { IfOk result (λ read. counted_part scope.now.structs.now scope.now.params.now scope.now.facts start text.now ≡ Got read.0 read.1.now) }
-    ensures err { IfErr result (λ fault. IsStop fault (counted_part scope.now.structs.now scope.now.params.now scope.now.facts start text.now)) }
+    ensures ok { IfOk result (λ read. counted_part scope.now.structs.now scope.now.params.now scope.now.facts start text.now
+        ≡ Got read.0 read.1.now) }
+    ensures err { IfErr result (λ fault. IsStop fault
+        (counted_part scope.now.structs.now scope.now.params.now scope.now.facts start text.now)) }
 {
     if !exps_may_come(scope.structs, scope.facts) {
         return Err(Fault::Refused { left: text.len() });
@@ -230,8 +262,10 @@ fn read_part_by<'a>(
 ) -> Result<ReadPart<'a>, Fault>
     requires few { length scope.now.params.now ≤ 32768 }
     requires structs { AreStructs scope.now.structs.now }
-    ensures ok { IfOk result (λ read. part_by scope.now.structs.now scope.now.params.now scope.now.facts scope.now.is_first start text.now ≡ Got read.0 read.1.now) }
-    ensures err { IfErr result (λ fault. IsStop fault (part_by scope.now.structs.now scope.now.params.now scope.now.facts scope.now.is_first start text.now)) }
+    ensures ok { IfOk result (λ read. part_by scope.now.structs.now scope.now.params.now scope.now.facts scope.now.is_first start text.now
+        ≡ Got read.0 read.1.now) }
+    ensures err { IfErr result (λ fault. IsStop fault
+        (part_by scope.now.structs.now scope.now.params.now scope.now.facts scope.now.is_first start text.now)) }
 {
     match start {
         Start::Letter => read_lettered(alloc, scope, text),
@@ -252,8 +286,10 @@ pub fn read_part<'a>(
 ) -> Result<ReadPart<'a>, Fault>
     requires few { length scope.now.params.now ≤ 32768 }
     requires structs { AreStructs scope.now.structs.now }
-    ensures ok { IfOk result (λ read. read_part scope.now.structs.now scope.now.params.now scope.now.facts scope.now.is_first text.now ≡ Got read.0 read.1.now) }
-    ensures err { IfErr result (λ fault. IsStop fault (read_part scope.now.structs.now scope.now.params.now scope.now.facts scope.now.is_first text.now)) }
+    ensures ok { IfOk result (λ read. read_part scope.now.structs.now scope.now.params.now scope.now.facts scope.now.is_first text.now
+        ≡ Got read.0 read.1.now) }
+    ensures err { IfErr result (λ fault. IsStop fault
+        (read_part scope.now.structs.now scope.now.params.now scope.now.facts scope.now.is_first text.now)) }
 {
     read_part_by(alloc, scope, start_of(text), text)
 }

@@ -1,6 +1,7 @@
-//! Worked rows of matching, of coverings, of samples, of abstraction, and of the normal and the canonical form. Each line of standard input is a row: a
-//! question, and the answer that was worked for it by hand from the rules (or by a second program that shares nothing with this one). Rows
-//! with another answer are printed with what was found, and at the end how many rows agree. Lines that are empty or begin with `#` are no
+//! Worked rows of matching, of coverings, of samples, of abstraction, and of the normal and the canonical form. Each line of standard input
+//! is a row: a question, and the answer that was worked for it by hand from the rules (or by a second program that shares nothing with this
+//! one). Rows with another answer are printed with what was found, and at the end how many rows agree. Lines that are empty or begin with
+//! `#` are no
 //! rows. [`rows`] says what a row is.
 #![tactic(auto)]
 

@@ -1,5 +1,5 @@
-//! Tests of the machine, of what symbolic crates share, of renamings, and of texts. Tests alone: beside the libraries they would have these proved a
-//! second time.
+//! Tests of the machine, of what symbolic crates share, of renamings, and of texts. Tests alone: beside the libraries they would have these
+//! proved a second time.
 #![tactic(auto)]
 
 #[cfg(test)]

@@ -140,7 +140,8 @@ pub fn check_answer(alloc: Global, key: &Key, answer: &Answer) -> Result<bool, A
     requires key { IsKey analysable key.now }
     requires answer { IsAnswer analysable key.now answer.now }
     ensures exact { IfOk result (λ yes. IsTrue yes ↔ Inductive key.now answer.now) }
-    ensures sound { IfOk result (λ yes. IsTrue yes → (program : Program) → StandsIn program key.now → AreValidIn program key.now answer.now) }
+    ensures sound { IfOk result (λ yes. IsTrue yes → (program : Program) → StandsIn program key.now
+        → AreValidIn program key.now answer.now) }
 {
     match first_gap(alloc, key, answer)? {
         None => Ok(true),

@@ -4,8 +4,27 @@ ghost use Rattle.std.specs.List.{list_all};
 ghost use Rattle.std.specs.declared.option.Option.TheVariants.{Some};
 ghost use Rattle.sound_laws.specs.Certificates.{states_at};
 ghost use Rattle.certificate_laws.specs.Coverings.{is_covered as is_covered_by};
-ghost use Rattle.certificate_laws.specs.Gaps.{first_found, is_exit_covered as is_exit_covered_by, is_next_covered as is_next_covered_by, node_gap as node_gap_of, spec_gap as spec_gap_of, start_gap as start_gap_of, state_gap as state_gap_of, step_gap as step_gap_of, uncovered_unless};
-ghost use Rattle.certificate_laws.specs.Conditions.{AreNexts, IsGivenState, IsGivenStep, IsTask, IsTaskCert, IsTaskPost, IsTaskSpec, IsTaskState};
+ghost use Rattle.certificate_laws.specs.Gaps.{
+  first_found,
+  is_exit_covered as is_exit_covered_by,
+  is_next_covered as is_next_covered_by,
+  node_gap as node_gap_of,
+  spec_gap as spec_gap_of,
+  start_gap as start_gap_of,
+  state_gap as state_gap_of,
+  step_gap as step_gap_of,
+  uncovered_unless,
+};
+ghost use Rattle.certificate_laws.specs.Conditions.{
+  AreNexts,
+  IsGivenState,
+  IsGivenStep,
+  IsTask,
+  IsTaskCert,
+  IsTaskPost,
+  IsTaskSpec,
+  IsTaskState,
+};
 ghost use Rattle.certificate_steps.specs.InTask.{task_in};
 ghost use Rattle.triple_check.specs.Steps.{do_posts_cover as posts_cover_by};
 

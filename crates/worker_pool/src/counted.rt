@@ -136,7 +136,8 @@ impl<J: Meaning, A: Ledger> Counted<J, A> {
     pub fn entries(&self, alloc: Global, aim: &Aim) -> Result<Vec<Kept>, AllocError>
         requires { IsSettled (replay self.now.book.log) (aimed (replay self.now.book.log).program aim.now) }
         ensures entries { IfOk result (λ kept. AreEntries J.solves (replay self.now.book.log).program aim.now kept.items) }
-        ensures slots { IfOk result (λ kept. map solution_of kept.items ≡ map slot_solution (slots_by (replay self.now.book.log) (aimed (replay self.now.book.log).program aim.now))) }
+        ensures slots { IfOk result (λ kept. map solution_of kept.items
+            ≡ map slot_solution (slots_by (replay self.now.book.log) (aimed (replay self.now.book.log).program aim.now))) }
         ensures count { IfOk result (λ kept. vec_len kept ≤ self.now.number) }
     {
         let _events = self.book.log();

@@ -150,8 +150,8 @@ impl<J: Meaning, A: Ledger, B: Ledger> Locked<J, A, B> {
         ensures program { OnOk result ((replay self.new.counted.book.log).program ≡ program.now.value) }
         ensures log { IfOk result
             (λ turn. self.new.counted.book.log ≡ met_log self.old.counted.book.log program.now.value ++ events_by leader (next_in turn)) }
-        ensures next { IfOk result
-            (λ turn. IsNext (replay (met_log self.old.counted.book.log program.now.value)) (aimed program.now.value aim.now) (next_in turn)) }
+        ensures next { IfOk result (λ turn. IsNext (replay (met_log self.old.counted.book.log program.now.value))
+            (aimed program.now.value aim.now) (next_in turn)) }
         ensures turn { IfOk result
             (λ turn. IsTurn J.solves (met_log self.old.counted.book.log program.now.value) program.now.value aim.now hands.new.seen turn) }
         ensures rises { hands.old.seen ≤ hands.new.seen }
@@ -205,8 +205,8 @@ impl<J: Meaning, A: Ledger, B: Ledger> Locked<J, A, B> {
         requires { IsSettled (replay self.old.counted.book.log) (aimed (replay self.old.counted.book.log).program aim.now) }
         ensures entries { IfOk result
             (λ kept. AreEntries J.solves (replay self.old.counted.book.log).program aim.now kept.items) }
-        ensures slots { IfOk result
-            (λ kept. map solution_of kept.items ≡ map slot_solution (slots_by (replay self.old.counted.book.log) (aimed (replay self.old.counted.book.log).program aim.now))) }
+        ensures slots { IfOk result (λ kept. map solution_of kept.items
+            ≡ map slot_solution (slots_by (replay self.old.counted.book.log) (aimed (replay self.old.counted.book.log).program aim.now))) }
         ensures count { IfOk result (λ kept. vec_len kept ≤ hands.new.seen) }
         ensures seen { OnOk result (hands.new.seen ≡ published self.old.counted.book.log) }
         ensures rises { hands.old.seen ≤ hands.new.seen }

@@ -36,10 +36,28 @@ impl Exact for Reason {
 
 impl Exact for ProcSummary {
     ghost use Rattle.shape_types.specs.contracts.answer.ProcSummary.{struct, the_propositions};
-    ghost use Rattle.shape_types.specs.Exact.{and_copied, and_same, itself, last_copied, last_same, option_copied, option_same, row_copied, row_same, struct_copied, struct_same};
+    ghost use Rattle.shape_types.specs.Exact.{
+      and_copied,
+      and_same,
+      itself,
+      last_copied,
+      last_same,
+      option_copied,
+      option_same,
+      row_copied,
+      row_same,
+      struct_copied,
+      struct_same,
+    };
     ghost use Rattle.shape_types.specs.contracts.name.NameExact.TheImpl.Laws.{eq_is_same-law as name_same};
-    ghost use Rattle.shape_types.specs.contracts.exact.symbolic.SpecExact.TheImpl.Laws.{eq_is_same-law as spec_same, clone_is_same-law as spec_copied};
-    ghost use Rattle.shape_types.specs.contracts.exact.symbolic.CertExact.TheImpl.Laws.{eq_is_same-law as cert_same, clone_is_same-law as cert_copied};
+    ghost use Rattle.shape_types.specs.contracts.exact.symbolic.SpecExact.TheImpl.Laws.{
+      eq_is_same-law as spec_same,
+      clone_is_same-law as spec_copied,
+    };
+    ghost use Rattle.shape_types.specs.contracts.exact.symbolic.CertExact.TheImpl.Laws.{
+      eq_is_same-law as cert_same,
+      clone_is_same-law as cert_copied,
+    };
     ghost use Rattle.shape_types.specs.contracts.exact.answer.ReasonExact.TheImpl.Laws.{eq_is_same-law as reason_same};
 
     ghost eq_is_same = { struct_same struct the_propositions
@@ -57,8 +75,22 @@ impl Exact for ProcSummary {
 
 impl Exact for Answer {
     ghost use Rattle.shape_types.specs.contracts.answer.Answer.{struct, the_propositions};
-    ghost use Rattle.shape_types.specs.Exact.{and_copied, and_same, bool_same, itself, last_copied, last_same, row_copied, row_same, struct_copied, struct_same};
-    ghost use Rattle.shape_types.specs.contracts.exact.answer.ProcSummaryExact.TheImpl.Laws.{eq_is_same-law as summary_same, clone_is_same-law as summary_copied};
+    ghost use Rattle.shape_types.specs.Exact.{
+      and_copied,
+      and_same,
+      bool_same,
+      itself,
+      last_copied,
+      last_same,
+      row_copied,
+      row_same,
+      struct_copied,
+      struct_same,
+    };
+    ghost use Rattle.shape_types.specs.contracts.exact.answer.ProcSummaryExact.TheImpl.Laws.{
+      eq_is_same-law as summary_same,
+      clone_is_same-law as summary_copied,
+    };
 
     ghost eq_is_same = { struct_same struct the_propositions
         (and_same bool_same
@@ -71,9 +103,22 @@ impl Exact for Answer {
 
 impl Exact for Callee {
     ghost use Rattle.shape_types.specs.contracts.answer.Callee.{struct, the_propositions};
-    ghost use Rattle.shape_types.specs.Exact.{and_copied, and_same, itself, last_copied, last_same, row_copied, row_same, struct_copied, struct_same};
+    ghost use Rattle.shape_types.specs.Exact.{
+      and_copied,
+      and_same,
+      itself,
+      last_copied,
+      last_same,
+      row_copied,
+      row_same,
+      struct_copied,
+      struct_same,
+    };
     ghost use Rattle.shape_types.specs.contracts.name.NameExact.TheImpl.Laws.{eq_is_same-law as name_same};
-    ghost use Rattle.shape_types.specs.contracts.exact.symbolic.SpecExact.TheImpl.Laws.{eq_is_same-law as spec_same, clone_is_same-law as spec_copied};
+    ghost use Rattle.shape_types.specs.contracts.exact.symbolic.SpecExact.TheImpl.Laws.{
+      eq_is_same-law as spec_same,
+      clone_is_same-law as spec_copied,
+    };
 
     ghost eq_is_same = { struct_same struct the_propositions
         (and_same name_same
@@ -88,10 +133,30 @@ impl Exact for Callee {
 
 impl Exact for Key {
     ghost use Rattle.shape_types.specs.contracts.answer.Key.{struct, the_propositions};
-    ghost use Rattle.shape_types.specs.Exact.{and_copied, and_same, bool_same, itself, last_copied, last_same, row_copied, row_same, struct_copied, struct_same};
-    ghost use Rattle.shape_types.specs.contracts.exact.program.StructDefExact.TheImpl.Laws.{eq_is_same-law as def_same, clone_is_same-law as def_copied};
-    ghost use Rattle.shape_types.specs.contracts.exact.program.FlowExact.TheImpl.Laws.{eq_is_same-law as flow_same, clone_is_same-law as flow_copied};
-    ghost use Rattle.shape_types.specs.contracts.exact.answer.CalleeExact.TheImpl.Laws.{eq_is_same-law as callee_same, clone_is_same-law as callee_copied};
+    ghost use Rattle.shape_types.specs.Exact.{
+      and_copied,
+      and_same,
+      bool_same,
+      itself,
+      last_copied,
+      last_same,
+      row_copied,
+      row_same,
+      struct_copied,
+      struct_same,
+    };
+    ghost use Rattle.shape_types.specs.contracts.exact.program.StructDefExact.TheImpl.Laws.{
+      eq_is_same-law as def_same,
+      clone_is_same-law as def_copied,
+    };
+    ghost use Rattle.shape_types.specs.contracts.exact.program.FlowExact.TheImpl.Laws.{
+      eq_is_same-law as flow_same,
+      clone_is_same-law as flow_copied,
+    };
+    ghost use Rattle.shape_types.specs.contracts.exact.answer.CalleeExact.TheImpl.Laws.{
+      eq_is_same-law as callee_same,
+      clone_is_same-law as callee_copied,
+    };
 
     ghost eq_is_same = { struct_same struct the_propositions
         (and_same bool_same

@@ -8,7 +8,18 @@ impl Exact for Choice {
     ghost use Rattle.shape_types.specs.declared.machine.Choice.{Choice as AnyChoice};
     ghost use Rattle.shape_types.specs.declared.machine.Choice.TheVariants as choice;
     ghost use Rattle.shape_types.specs.contracts.machine.Choice.{enum};
-    ghost use Rattle.shape_types.specs.Exact.{and_same, enum_same, itself, last_same, no_field_same, no_variant, row_copied, row_same, signed_same, variant};
+    ghost use Rattle.shape_types.specs.Exact.{
+      and_same,
+      enum_same,
+      itself,
+      last_same,
+      no_field_same,
+      no_variant,
+      row_copied,
+      row_same,
+      signed_same,
+      variant,
+    };
 
     ghost eq_is_same = { enum_same enum
         (variant no_field_same
@@ -38,7 +49,18 @@ impl Exact for Choice {
 
 impl Exact for Cell {
     ghost use Rattle.shape_types.specs.contracts.machine.Cell.{struct, the_propositions};
-    ghost use Rattle.shape_types.specs.Exact.{and_copied, and_same, itself, last_copied, last_same, row_copied, row_same, signed_same, struct_copied, struct_same};
+    ghost use Rattle.shape_types.specs.Exact.{
+      and_copied,
+      and_same,
+      itself,
+      last_copied,
+      last_same,
+      row_copied,
+      row_same,
+      signed_same,
+      struct_copied,
+      struct_same,
+    };
     ghost use Rattle.shape_types.specs.contracts.name.NameExact.TheImpl.Laws.{eq_is_same-law as name_same};
 
     ghost eq_is_same = { struct_same struct the_propositions
@@ -54,7 +76,21 @@ impl Exact for Cell {
 
 impl Exact for Frame {
     ghost use Rattle.shape_types.specs.contracts.machine.Frame.{struct, the_propositions};
-    ghost use Rattle.shape_types.specs.Exact.{and_copied, and_same, itself, last_copied, last_same, number_same, option_copied, option_same, row_copied, row_same, signed_same, struct_copied, struct_same};
+    ghost use Rattle.shape_types.specs.Exact.{
+      and_copied,
+      and_same,
+      itself,
+      last_copied,
+      last_same,
+      number_same,
+      option_copied,
+      option_same,
+      row_copied,
+      row_same,
+      signed_same,
+      struct_copied,
+      struct_same,
+    };
 
     ghost eq_is_same = { struct_same struct the_propositions
         (and_same number_same
@@ -71,9 +107,24 @@ impl Exact for Frame {
 
 impl Exact for Config {
     ghost use Rattle.shape_types.specs.contracts.machine.Config.{struct, the_propositions};
-    ghost use Rattle.shape_types.specs.Exact.{and_copied, and_same, last_copied, last_same, row_copied, row_same, struct_copied, struct_same};
-    ghost use Rattle.shape_types.specs.contracts.exact.machine.CellExact.TheImpl.Laws.{eq_is_same-law as cell_same, clone_is_same-law as cell_copied};
-    ghost use Rattle.shape_types.specs.contracts.exact.machine.FrameExact.TheImpl.Laws.{eq_is_same-law as frame_same, clone_is_same-law as frame_copied};
+    ghost use Rattle.shape_types.specs.Exact.{
+      and_copied,
+      and_same,
+      last_copied,
+      last_same,
+      row_copied,
+      row_same,
+      struct_copied,
+      struct_same,
+    };
+    ghost use Rattle.shape_types.specs.contracts.exact.machine.CellExact.TheImpl.Laws.{
+      eq_is_same-law as cell_same,
+      clone_is_same-law as cell_copied,
+    };
+    ghost use Rattle.shape_types.specs.contracts.exact.machine.FrameExact.TheImpl.Laws.{
+      eq_is_same-law as frame_same,
+      clone_is_same-law as frame_copied,
+    };
 
     ghost eq_is_same = { struct_same struct the_propositions
         (and_same (row_same frame_same)
@@ -89,10 +140,27 @@ impl Exact for Stepped {
     ghost use Rattle.shape_types.specs.declared.machine.Stepped.{Stepped as AnyStepped};
     ghost use Rattle.shape_types.specs.declared.machine.Stepped.TheVariants as stepped;
     ghost use Rattle.shape_types.specs.contracts.machine.Stepped.{enum};
-    ghost use Rattle.shape_types.specs.Exact.{and_same, enum_same, last_same, no_field_same, no_variant, number_same, row_copied, row_same, signed_same, variant};
+    ghost use Rattle.shape_types.specs.Exact.{
+      and_same,
+      enum_same,
+      last_same,
+      no_field_same,
+      no_variant,
+      number_same,
+      row_copied,
+      row_same,
+      signed_same,
+      variant,
+    };
     ghost use Rattle.shape_types.specs.contracts.exact.answer.FaultExact.TheImpl.Laws.{eq_is_same-law as fault_same};
-    ghost use Rattle.shape_types.specs.contracts.exact.machine.CellExact.TheImpl.Laws.{eq_is_same-law as cell_same, clone_is_same-law as cell_copied};
-    ghost use Rattle.shape_types.specs.contracts.exact.machine.ConfigExact.TheImpl.Laws.{eq_is_same-law as config_same, clone_is_same-law as config_copied};
+    ghost use Rattle.shape_types.specs.contracts.exact.machine.CellExact.TheImpl.Laws.{
+      eq_is_same-law as cell_same,
+      clone_is_same-law as cell_copied,
+    };
+    ghost use Rattle.shape_types.specs.contracts.exact.machine.ConfigExact.TheImpl.Laws.{
+      eq_is_same-law as config_same,
+      clone_is_same-law as config_copied,
+    };
 
     ghost eq_is_same = { enum_same enum
         (variant (last_same config_same)
@@ -125,10 +193,26 @@ impl Exact for Outcome {
     ghost use Rattle.shape_types.specs.declared.machine.Outcome.{Outcome as AnyOutcome};
     ghost use Rattle.shape_types.specs.declared.machine.Outcome.TheVariants as outcome;
     ghost use Rattle.shape_types.specs.contracts.machine.Outcome.{enum};
-    ghost use Rattle.shape_types.specs.Exact.{and_same, enum_same, last_same, no_variant, number_same, row_copied, row_same, signed_same, variant};
+    ghost use Rattle.shape_types.specs.Exact.{
+      and_same,
+      enum_same,
+      last_same,
+      no_variant,
+      number_same,
+      row_copied,
+      row_same,
+      signed_same,
+      variant,
+    };
     ghost use Rattle.shape_types.specs.contracts.exact.answer.FaultExact.TheImpl.Laws.{eq_is_same-law as fault_same};
-    ghost use Rattle.shape_types.specs.contracts.exact.machine.CellExact.TheImpl.Laws.{eq_is_same-law as cell_same, clone_is_same-law as cell_copied};
-    ghost use Rattle.shape_types.specs.contracts.exact.machine.ConfigExact.TheImpl.Laws.{eq_is_same-law as config_same, clone_is_same-law as config_copied};
+    ghost use Rattle.shape_types.specs.contracts.exact.machine.CellExact.TheImpl.Laws.{
+      eq_is_same-law as cell_same,
+      clone_is_same-law as cell_copied,
+    };
+    ghost use Rattle.shape_types.specs.contracts.exact.machine.ConfigExact.TheImpl.Laws.{
+      eq_is_same-law as config_same,
+      clone_is_same-law as config_copied,
+    };
 
     ghost eq_is_same = { enum_same enum
         (variant (last_same config_same)

@@ -38,7 +38,10 @@ impl Exact for Field {
     ghost use Rattle.shape_types.specs.contracts.program.Field.{struct, the_propositions};
     ghost use Rattle.shape_types.specs.Exact.{and_copied, and_same, itself, last_copied, last_same, struct_copied, struct_same};
     ghost use Rattle.shape_types.specs.contracts.name.NameExact.TheImpl.Laws.{eq_is_same-law as name_same};
-    ghost use Rattle.shape_types.specs.contracts.exact.program.TyExact.TheImpl.Laws.{eq_is_same-law as ty_same, clone_is_same-law as ty_copied};
+    ghost use Rattle.shape_types.specs.contracts.exact.program.TyExact.TheImpl.Laws.{
+      eq_is_same-law as ty_same,
+      clone_is_same-law as ty_copied,
+    };
 
     ghost eq_is_same = { struct_same struct the_propositions
         (and_same name_same
@@ -51,9 +54,22 @@ impl Exact for Field {
 
 impl Exact for StructDef {
     ghost use Rattle.shape_types.specs.contracts.program.StructDef.{struct, the_propositions};
-    ghost use Rattle.shape_types.specs.Exact.{and_copied, and_same, itself, last_copied, last_same, row_copied, row_same, struct_copied, struct_same};
+    ghost use Rattle.shape_types.specs.Exact.{
+      and_copied,
+      and_same,
+      itself,
+      last_copied,
+      last_same,
+      row_copied,
+      row_same,
+      struct_copied,
+      struct_same,
+    };
     ghost use Rattle.shape_types.specs.contracts.name.NameExact.TheImpl.Laws.{eq_is_same-law as name_same};
-    ghost use Rattle.shape_types.specs.contracts.exact.program.FieldExact.TheImpl.Laws.{eq_is_same-law as field_same, clone_is_same-law as field_copied};
+    ghost use Rattle.shape_types.specs.contracts.exact.program.FieldExact.TheImpl.Laws.{
+      eq_is_same-law as field_same,
+      clone_is_same-law as field_copied,
+    };
 
     ghost eq_is_same = { struct_same struct the_propositions
         (and_same name_same
@@ -96,9 +112,25 @@ impl Exact for Cmd {
     ghost use Rattle.shape_types.specs.declared.program.Cmd.{Cmd as AnyCmd};
     ghost use Rattle.shape_types.specs.declared.program.Cmd.TheVariants as cmd;
     ghost use Rattle.shape_types.specs.contracts.program.Cmd.{enum};
-    ghost use Rattle.shape_types.specs.Exact.{and_same, bool_same, enum_same, itself, last_same, no_variant, number_same, option_copied, option_same, row_copied, row_same, variant};
+    ghost use Rattle.shape_types.specs.Exact.{
+      and_same,
+      bool_same,
+      enum_same,
+      itself,
+      last_same,
+      no_variant,
+      number_same,
+      option_copied,
+      option_same,
+      row_copied,
+      row_same,
+      variant,
+    };
     ghost use Rattle.shape_types.specs.contracts.name.NameExact.TheImpl.Laws.{eq_is_same-law as name_same};
-    ghost use Rattle.shape_types.specs.contracts.exact.program.TyExact.TheImpl.Laws.{eq_is_same-law as ty_same, clone_is_same-law as ty_copied};
+    ghost use Rattle.shape_types.specs.contracts.exact.program.TyExact.TheImpl.Laws.{
+      eq_is_same-law as ty_same,
+      clone_is_same-law as ty_copied,
+    };
     ghost use Rattle.shape_types.specs.contracts.exact.program.OperandExact.TheImpl.Laws.{eq_is_same-law as operand_same};
     ghost use Rattle.shape_types.specs.contracts.exact.program.ArithOpExact.TheImpl.Laws.{eq_is_same-law as arith_op_same};
     ghost use Rattle.shape_types.specs.contracts.exact.program.TestOpExact.TheImpl.Laws.{eq_is_same-law as test_op_same};
@@ -112,7 +144,8 @@ impl Exact for Cmd {
         (variant (and_same number_same (and_same name_same (last_same number_same)))
         (variant (and_same number_same (and_same name_same (last_same number_same)))
         (variant (and_same (option_same number_same) (and_same name_same (and_same (row_same operand_same) (last_same number_same))))
-        (variant (and_same test_op_same (and_same bool_same (and_same operand_same (and_same operand_same (and_same number_same (last_same number_same))))))
+        (variant
+        (and_same test_op_same (and_same bool_same (and_same operand_same (and_same operand_same (and_same number_same (last_same number_same))))))
         (variant (last_same operand_same) no_variant)))))))))) };
 
     ghost clone_is_same = { λ x. elim x as (λ x. (y : AnyCmd) → ⟦<Cmd as Clone>⟧.is_clone x y → y ≡ x) [
@@ -145,7 +178,9 @@ impl Exact for Cmd {
         | _ ↦ λ h. absurd h
       ]
       | cmd.Call a b c d ↦ λ y. elim y as (λ y. ⟦<Cmd as Clone>⟧.is_clone (cmd.Call a b c d) y → y ≡ (cmd.Call a b c d)) [
-        | cmd.Call a' b' c' d' ↦ λ h. λ i. cmd.Call (option_copied ⟦<Option<u32> as Clone>⟧.is_clone (λ _ _ h. h) (λ _ h. h) (λ _ h. h) itself a a' h.0 i) (h.1.0 i) (row_copied itself c c' h.1.1.0 i) (h.1.1.1 i)
+        | cmd.Call a' b' c' d' ↦ λ h. λ i. cmd.Call
+            (option_copied ⟦<Option<u32> as Clone>⟧.is_clone (λ _ _ h. h) (λ _ h. h) (λ _ h. h) itself a a' h.0 i)
+            (h.1.0 i) (row_copied itself c c' h.1.1.0 i) (h.1.1.1 i)
         | _ ↦ λ h. absurd h
       ]
       | cmd.Branch a b c d e f ↦ λ y. elim y as (λ y. ⟦<Cmd as Clone>⟧.is_clone (cmd.Branch a b c d e f) y → y ≡ (cmd.Branch a b c d e f)) [
@@ -161,7 +196,18 @@ impl Exact for Cmd {
 
 impl Exact for HeadMark {
     ghost use Rattle.shape_types.specs.contracts.program.HeadMark.{struct, the_propositions};
-    ghost use Rattle.shape_types.specs.Exact.{and_copied, and_same, itself, last_copied, last_same, number_same, row_copied, row_same, struct_copied, struct_same};
+    ghost use Rattle.shape_types.specs.Exact.{
+      and_copied,
+      and_same,
+      itself,
+      last_copied,
+      last_same,
+      number_same,
+      row_copied,
+      row_same,
+      struct_copied,
+      struct_same,
+    };
 
     ghost eq_is_same = { struct_same struct the_propositions
         (and_same (row_same number_same)
@@ -174,9 +220,26 @@ impl Exact for HeadMark {
 
 impl Exact for Node {
     ghost use Rattle.shape_types.specs.contracts.program.Node.{struct, the_propositions};
-    ghost use Rattle.shape_types.specs.Exact.{and_copied, and_same, itself, last_copied, last_same, number_same, option_copied, option_same, struct_copied, struct_same};
-    ghost use Rattle.shape_types.specs.contracts.exact.program.CmdExact.TheImpl.Laws.{eq_is_same-law as cmd_same, clone_is_same-law as cmd_copied};
-    ghost use Rattle.shape_types.specs.contracts.exact.program.HeadMarkExact.TheImpl.Laws.{eq_is_same-law as mark_same, clone_is_same-law as mark_copied};
+    ghost use Rattle.shape_types.specs.Exact.{
+      and_copied,
+      and_same,
+      itself,
+      last_copied,
+      last_same,
+      number_same,
+      option_copied,
+      option_same,
+      struct_copied,
+      struct_same,
+    };
+    ghost use Rattle.shape_types.specs.contracts.exact.program.CmdExact.TheImpl.Laws.{
+      eq_is_same-law as cmd_same,
+      clone_is_same-law as cmd_copied,
+    };
+    ghost use Rattle.shape_types.specs.contracts.exact.program.HeadMarkExact.TheImpl.Laws.{
+      eq_is_same-law as mark_same,
+      clone_is_same-law as mark_copied,
+    };
 
     ghost eq_is_same = { struct_same struct the_propositions
         (and_same number_same
@@ -191,10 +254,26 @@ impl Exact for Node {
 
 impl Exact for Flow {
     ghost use Rattle.shape_types.specs.contracts.program.Flow.{struct, the_propositions};
-    ghost use Rattle.shape_types.specs.Exact.{and_copied, and_same, itself, last_copied, last_same, row_copied, row_same, struct_copied, struct_same};
+    ghost use Rattle.shape_types.specs.Exact.{
+      and_copied,
+      and_same,
+      itself,
+      last_copied,
+      last_same,
+      row_copied,
+      row_same,
+      struct_copied,
+      struct_same,
+    };
     ghost use Rattle.shape_types.specs.contracts.name.NameExact.TheImpl.Laws.{eq_is_same-law as name_same};
-    ghost use Rattle.shape_types.specs.contracts.exact.program.TyExact.TheImpl.Laws.{eq_is_same-law as ty_same, clone_is_same-law as ty_copied};
-    ghost use Rattle.shape_types.specs.contracts.exact.program.NodeExact.TheImpl.Laws.{eq_is_same-law as node_same, clone_is_same-law as node_copied};
+    ghost use Rattle.shape_types.specs.contracts.exact.program.TyExact.TheImpl.Laws.{
+      eq_is_same-law as ty_same,
+      clone_is_same-law as ty_copied,
+    };
+    ghost use Rattle.shape_types.specs.contracts.exact.program.NodeExact.TheImpl.Laws.{
+      eq_is_same-law as node_same,
+      clone_is_same-law as node_copied,
+    };
 
     ghost eq_is_same = { struct_same struct the_propositions
         (and_same name_same
@@ -213,9 +292,21 @@ impl Exact for Flow {
 
 impl Exact for Proc {
     ghost use Rattle.shape_types.specs.contracts.program.Proc.{struct, the_propositions};
-    ghost use Rattle.shape_types.specs.Exact.{and_copied, and_same, itself, last_copied, last_same, number_same, struct_copied, struct_same};
+    ghost use Rattle.shape_types.specs.Exact.{
+      and_copied,
+      and_same,
+      itself,
+      last_copied,
+      last_same,
+      number_same,
+      struct_copied,
+      struct_same,
+    };
     ghost use Rattle.shape_types.specs.contracts.name.NameExact.TheImpl.Laws.{eq_is_same-law as name_same};
-    ghost use Rattle.shape_types.specs.contracts.exact.program.FlowExact.TheImpl.Laws.{eq_is_same-law as flow_same, clone_is_same-law as flow_copied};
+    ghost use Rattle.shape_types.specs.contracts.exact.program.FlowExact.TheImpl.Laws.{
+      eq_is_same-law as flow_same,
+      clone_is_same-law as flow_copied,
+    };
 
     ghost eq_is_same = { struct_same struct the_propositions
         (and_same flow_same
@@ -230,9 +321,24 @@ impl Exact for Proc {
 
 impl Exact for Program {
     ghost use Rattle.shape_types.specs.contracts.program.Program.{struct, the_propositions};
-    ghost use Rattle.shape_types.specs.Exact.{and_copied, and_same, last_copied, last_same, row_copied, row_same, struct_copied, struct_same};
-    ghost use Rattle.shape_types.specs.contracts.exact.program.StructDefExact.TheImpl.Laws.{eq_is_same-law as def_same, clone_is_same-law as def_copied};
-    ghost use Rattle.shape_types.specs.contracts.exact.program.ProcExact.TheImpl.Laws.{eq_is_same-law as proc_same, clone_is_same-law as proc_copied};
+    ghost use Rattle.shape_types.specs.Exact.{
+      and_copied,
+      and_same,
+      last_copied,
+      last_same,
+      row_copied,
+      row_same,
+      struct_copied,
+      struct_same,
+    };
+    ghost use Rattle.shape_types.specs.contracts.exact.program.StructDefExact.TheImpl.Laws.{
+      eq_is_same-law as def_same,
+      clone_is_same-law as def_copied,
+    };
+    ghost use Rattle.shape_types.specs.contracts.exact.program.ProcExact.TheImpl.Laws.{
+      eq_is_same-law as proc_same,
+      clone_is_same-law as proc_copied,
+    };
 
     ghost eq_is_same = { struct_same struct the_propositions
         (and_same (row_same def_same)

@@ -19,7 +19,18 @@ impl Exact for Atom {
     ghost use Rattle.shape_types.specs.declared.symbolic.Atom.{Atom as AnyAtom};
     ghost use Rattle.shape_types.specs.declared.symbolic.Atom.TheVariants as atom;
     ghost use Rattle.shape_types.specs.contracts.symbolic.Atom.{enum};
-    ghost use Rattle.shape_types.specs.Exact.{and_same, enum_same, itself, last_same, no_field_same, no_variant, number_same, row_copied, row_same, variant};
+    ghost use Rattle.shape_types.specs.Exact.{
+      and_same,
+      enum_same,
+      itself,
+      last_same,
+      no_field_same,
+      no_variant,
+      number_same,
+      row_copied,
+      row_same,
+      variant,
+    };
     ghost use Rattle.shape_types.specs.contracts.name.NameExact.TheImpl.Laws.{eq_is_same-law as name_same};
     ghost use Rattle.shape_types.specs.contracts.exact.symbolic.ExpExact.TheImpl.Laws.{eq_is_same-law as exp_same};
 
@@ -58,8 +69,21 @@ impl Exact for Fact {
 
 impl Exact for SymHeap {
     ghost use Rattle.shape_types.specs.contracts.symbolic.SymHeap.{struct, the_propositions};
-    ghost use Rattle.shape_types.specs.Exact.{and_copied, and_same, itself, last_copied, last_same, row_copied, row_same, struct_copied, struct_same};
-    ghost use Rattle.shape_types.specs.contracts.exact.symbolic.AtomExact.TheImpl.Laws.{eq_is_same-law as atom_same, clone_is_same-law as atom_copied};
+    ghost use Rattle.shape_types.specs.Exact.{
+      and_copied,
+      and_same,
+      itself,
+      last_copied,
+      last_same,
+      row_copied,
+      row_same,
+      struct_copied,
+      struct_same,
+    };
+    ghost use Rattle.shape_types.specs.contracts.exact.symbolic.AtomExact.TheImpl.Laws.{
+      eq_is_same-law as atom_same,
+      clone_is_same-law as atom_copied,
+    };
     ghost use Rattle.shape_types.specs.contracts.exact.symbolic.FactExact.TheImpl.Laws.{eq_is_same-law as fact_same};
 
     ghost eq_is_same = { struct_same struct the_propositions
@@ -73,9 +97,22 @@ impl Exact for SymHeap {
 
 impl Exact for SymState {
     ghost use Rattle.shape_types.specs.contracts.symbolic.SymState.{struct, the_propositions};
-    ghost use Rattle.shape_types.specs.Exact.{and_copied, and_same, itself, last_copied, last_same, row_copied, row_same, struct_copied, struct_same};
+    ghost use Rattle.shape_types.specs.Exact.{
+      and_copied,
+      and_same,
+      itself,
+      last_copied,
+      last_same,
+      row_copied,
+      row_same,
+      struct_copied,
+      struct_same,
+    };
     ghost use Rattle.shape_types.specs.contracts.exact.symbolic.ExpExact.TheImpl.Laws.{eq_is_same-law as exp_same};
-    ghost use Rattle.shape_types.specs.contracts.exact.symbolic.SymHeapExact.TheImpl.Laws.{eq_is_same-law as heap_same, clone_is_same-law as heap_copied};
+    ghost use Rattle.shape_types.specs.contracts.exact.symbolic.SymHeapExact.TheImpl.Laws.{
+      eq_is_same-law as heap_same,
+      clone_is_same-law as heap_copied,
+    };
 
     ghost eq_is_same = { struct_same struct the_propositions
         (and_same (row_same exp_same)
@@ -90,7 +127,10 @@ impl Exact for Post {
     ghost use Rattle.shape_types.specs.contracts.symbolic.Post.{struct, the_propositions};
     ghost use Rattle.shape_types.specs.Exact.{and_copied, and_same, itself, last_copied, last_same, struct_copied, struct_same};
     ghost use Rattle.shape_types.specs.contracts.exact.symbolic.ExpExact.TheImpl.Laws.{eq_is_same-law as exp_same};
-    ghost use Rattle.shape_types.specs.contracts.exact.symbolic.SymHeapExact.TheImpl.Laws.{eq_is_same-law as heap_same, clone_is_same-law as heap_copied};
+    ghost use Rattle.shape_types.specs.contracts.exact.symbolic.SymHeapExact.TheImpl.Laws.{
+      eq_is_same-law as heap_same,
+      clone_is_same-law as heap_copied,
+    };
 
     ghost eq_is_same = { struct_same struct the_propositions
         (and_same exp_same
@@ -103,9 +143,24 @@ impl Exact for Post {
 
 impl Exact for Spec {
     ghost use Rattle.shape_types.specs.contracts.symbolic.Spec.{struct, the_propositions};
-    ghost use Rattle.shape_types.specs.Exact.{and_copied, and_same, last_copied, last_same, row_copied, row_same, struct_copied, struct_same};
-    ghost use Rattle.shape_types.specs.contracts.exact.symbolic.SymHeapExact.TheImpl.Laws.{eq_is_same-law as heap_same, clone_is_same-law as heap_copied};
-    ghost use Rattle.shape_types.specs.contracts.exact.symbolic.PostExact.TheImpl.Laws.{eq_is_same-law as post_same, clone_is_same-law as post_copied};
+    ghost use Rattle.shape_types.specs.Exact.{
+      and_copied,
+      and_same,
+      last_copied,
+      last_same,
+      row_copied,
+      row_same,
+      struct_copied,
+      struct_same,
+    };
+    ghost use Rattle.shape_types.specs.contracts.exact.symbolic.SymHeapExact.TheImpl.Laws.{
+      eq_is_same-law as heap_same,
+      clone_is_same-law as heap_copied,
+    };
+    ghost use Rattle.shape_types.specs.contracts.exact.symbolic.PostExact.TheImpl.Laws.{
+      eq_is_same-law as post_same,
+      clone_is_same-law as post_copied,
+    };
 
     ghost eq_is_same = { struct_same struct the_propositions
         (and_same heap_same
@@ -118,9 +173,24 @@ impl Exact for Spec {
 
 impl Exact for Cert {
     ghost use Rattle.shape_types.specs.contracts.symbolic.Cert.{struct, the_propositions};
-    ghost use Rattle.shape_types.specs.Exact.{and_copied, and_same, last_copied, last_same, row_copied, row_same, struct_copied, struct_same};
-    ghost use Rattle.shape_types.specs.contracts.exact.symbolic.SymStateExact.TheImpl.Laws.{eq_is_same-law as state_same, clone_is_same-law as state_copied};
-    ghost use Rattle.shape_types.specs.contracts.exact.symbolic.PostExact.TheImpl.Laws.{eq_is_same-law as post_same, clone_is_same-law as post_copied};
+    ghost use Rattle.shape_types.specs.Exact.{
+      and_copied,
+      and_same,
+      last_copied,
+      last_same,
+      row_copied,
+      row_same,
+      struct_copied,
+      struct_same,
+    };
+    ghost use Rattle.shape_types.specs.contracts.exact.symbolic.SymStateExact.TheImpl.Laws.{
+      eq_is_same-law as state_same,
+      clone_is_same-law as state_copied,
+    };
+    ghost use Rattle.shape_types.specs.contracts.exact.symbolic.PostExact.TheImpl.Laws.{
+      eq_is_same-law as post_same,
+      clone_is_same-law as post_copied,
+    };
 
     ghost eq_is_same = { struct_same struct the_propositions
         (and_same (row_same (row_same state_same))

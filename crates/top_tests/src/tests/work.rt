@@ -1,7 +1,7 @@
 //! Streams, and what is done for their replies: `R` where another program is present, `C` where a component is claimed, `P` where it is
-//! answered. A comment within a line changes no component, and where a callee is changed but its specs stay, its caller is not solved again. What is
-//! shown has its own component solved, and those that it calls. Procedures that call each other are one component. What was asked of a program is
-//! solved for that program, though another was met before.
+//! answered. A comment within a line changes no component, and where a callee is changed but its specs stay, its caller is not solved
+//! again. What is shown has its own component solved, and those that it calls. Procedures that call each other are one component. What was
+//! asked of a program is solved for that program, though another was met before.
 use super::calls::Stream;
 
 /// A procedure that reads a cell, and one that calls it.
