@@ -40,7 +40,7 @@ pub unit_of_text : (text : List ℕ) (found : List Token) → HasTokens text fou
 unit_of_text text found has (Ok unit) spells levels = record { tokens = found; has = has; spells = spells; levels = levels }
 unit_of_text text found has (Err fault) spells levels = tt
 
--- and what is refused of the tokens, of the text
+-- what is refused of the tokens is refused of the text
 refused_text : (text : List ℕ) (found : List Token) (fault : ReadFault) → HasTokens text found → IsSyntaxFault (words_of found) fault → IsReadFault text fault
 refused_text text found (Refused refusal) has h = inr (found, has, h)
 refused_text text found OutOfMemory has h = tt

@@ -2,7 +2,6 @@
 ghost use Rattle.std.specs.Prelude.{◌≡◌, ◌<◌, ◌≤◌, List, length, IfOk, IfErr};
 ghost use Rattle.c_tokens.specs.declared.fault.ReadFault.TheVariants.{OutOfMemory};
 ghost use Rattle.c_tokens.specs.declared.token.Token.{Token as TokenValue};
-ghost use Rattle.c_tokens.specs.Grammar.{HasTokens};
 ghost use Rattle.c_tokens.specs.TokenLists.{IsTokenList};
 ghost use Rattle.c_grammar.specs.Nesting.{file_nesting};
 ghost use Rattle.c_grammar.specs.Printing.{printed_text};
@@ -32,8 +31,7 @@ pub fn read_unit(alloc: Global, bytes: &[u8]) -> Result<Unit, ReadFault>
     ensures fault { IfErr result (λ fault. IsReadFault bytes.now fault) }
     ensures complete { (file : File) → IsUnitOf bytes.now file → IfErr result (λ fault. fault ≡ OutOfMemory) }
     ensures reads_back { (listed : List TokenValue) → (file : File) → IsTokenList listed → Spells file (words_of listed)
-        → file_nesting file ≤ MOST_LEVELS
-        → bytes.now ≡ printed_text file → ReadsBack file result }
+        → file_nesting file ≤ MOST_LEVELS → bytes.now ≡ printed_text file → ReadsBack file result }
 {
     one_reading();
     tokens_or_refusal();

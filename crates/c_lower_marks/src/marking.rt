@@ -61,8 +61,8 @@ fn ints(
     place: usize,
 ) -> Result<Row<u32>, AllocError>
     requires { length slots.now < 4294967296 }
-    ensures { IfOk result (λ ints. ints ≡ slots_that
-        (λ slot kind. is_int kind && assigned_in nodes.now (loops_at place (map loop_seen loops.now)) slot) 0 slots.now) }
+    ensures { IfOk result (λ ints. ints
+        ≡ slots_that (λ slot kind. is_int kind && assigned_in nodes.now (loops_at place (map loop_seen loops.now)) slot) 0 slots.now) }
 {
     let mut ints = Vec::new(alloc);
     for (slot, kind) in slots.iter().enumerate() {

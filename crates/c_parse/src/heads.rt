@@ -94,8 +94,8 @@ impl Branch {
 
     /// `if` with `else`.
     pub fn or_else(self, alloc: Global, other: Stmt) -> Result<Stmt, AllocError>
-        ensures { let b = branch_tree self in IfOk result
-            (λ whole. stmt_tree whole ≡ tree.Stmt.IfElse b.place b.test b.body (stmt_tree other)) }
+        ensures { let b = branch_tree self in
+            IfOk result (λ whole. stmt_tree whole ≡ tree.Stmt.IfElse b.place b.test b.body (stmt_tree other)) }
     {
         let other = Box::new(alloc, other)?;
         let Branch { place, test, body } = self;

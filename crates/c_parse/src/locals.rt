@@ -27,8 +27,8 @@ fn read_value(
     levels: u32,
     words: &mut Words<'_>,
 ) -> Result<Option<Expr>, SyntaxFault>
-    ensures value { Reads (readers.read_maybe (is_class class.Set) (readers.read_value levels) words.old)
-        (option_map expr_tree) result words.new }
+    ensures value { Reads (readers.read_maybe (is_class class.Set) (readers.read_value levels) words.old) (option_map expr_tree)
+        result words.new }
     ensures stays { length words.new ≤ length words.old }
 {
     if !words.sees(Class::Set) {
@@ -129,8 +129,8 @@ fn read_clause_of_name(
     name: Ident,
     words: &mut Words<'_>,
 ) -> Result<Clause, SyntaxFault>
-    ensures value { Reads (readers.clause_named (readers.begins_declarator (class_at words.old)) levels
-        (ident_tree name) words.old) clause_tree result words.new }
+    ensures value { Reads (readers.clause_named (readers.begins_declarator (class_at words.old)) levels (ident_tree name) words.old)
+        clause_tree result words.new }
     ensures stays { length words.new ≤ length words.old }
 {
     if begins_declarator(words.first_class()) {

@@ -38,8 +38,8 @@ impl ForHead {
 
     /// The `for` with this head and the body.
     pub fn of(self, alloc: Global, place: Place, body: Stmt) -> Result<Stmt, AllocError>
-        ensures { let h = for_head_tree self in IfOk result
-            (λ whole. stmt_tree whole ≡ tree.Stmt.For place h.init h.test h.step (stmt_tree body)) }
+        ensures { let h = for_head_tree self in
+            IfOk result (λ whole. stmt_tree whole ≡ tree.Stmt.For place h.init h.test h.step (stmt_tree body)) }
     {
         let ForHead { init, test, step } = self;
         let body = Box::new(alloc, body)?;
@@ -90,8 +90,8 @@ fn read_maybe_expr(
     levels: u32,
     words: &mut Words<'_>,
 ) -> Result<Option<Expr>, SyntaxFault>
-    ensures value { Reads (readers.read_maybe readers.begins_expr (readers.read_expr levels) words.old)
-        (option_map expr_tree) result words.new }
+    ensures value { Reads (readers.read_maybe readers.begins_expr (readers.read_expr levels) words.old) (option_map expr_tree)
+        result words.new }
     ensures stays { length words.new ≤ length words.old }
 {
     if !begins_expr(words.first_class()) {
@@ -106,8 +106,8 @@ fn read_maybe_clause(
     levels: u32,
     words: &mut Words<'_>,
 ) -> Result<Option<Clause>, SyntaxFault>
-    ensures value { Reads (readers.read_maybe readers.begins_clause (readers.read_clause levels) words.old)
-        (option_map clause_tree) result words.new }
+    ensures value { Reads (readers.read_maybe readers.begins_clause (readers.read_clause levels) words.old) (option_map clause_tree)
+        result words.new }
     ensures stays { length words.new ≤ length words.old }
 {
     if !begins_clause(words.first_class()) {
@@ -122,8 +122,8 @@ fn read_maybe_simple(
     levels: u32,
     words: &mut Words<'_>,
 ) -> Result<Option<Simple>, SyntaxFault>
-    ensures value { Reads (readers.read_maybe readers.begins_simple (readers.read_simple levels) words.old)
-        (option_map simple_tree) result words.new }
+    ensures value { Reads (readers.read_maybe readers.begins_simple (readers.read_simple levels) words.old) (option_map simple_tree)
+        result words.new }
     ensures stays { length words.new ≤ length words.old }
 {
     if !begins_simple(words.first_class()) {

@@ -71,8 +71,8 @@ fn read_nested(alloc: Global, levels: u32, words: &mut Words<'_>) -> Result<Stmt
 /// Statements, as long as one begins.
 #[cycle(stmt)]
 fn read_stmts(alloc: Global, levels: u32, words: &mut Words<'_>) -> Result<Vec<Stmt>, SyntaxFault>
-    ensures value { Reads (readers.read_stmts (length words.old) (readers.read_stmt levels) words.old)
-        (λ found. stmts_tree found.items) result words.new }
+    ensures value { Reads (readers.read_stmts (length words.old) (readers.read_stmt levels) words.old) (λ found. stmts_tree found.items)
+        result words.new }
     ensures stays { length words.new ≤ length words.old }
 {
     let mut stmts = Vec::new(alloc);

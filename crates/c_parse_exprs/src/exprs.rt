@@ -97,8 +97,8 @@ fn read_prefix(
     below: Option<u32>,
     words: &mut Words<'_>,
 ) -> Result<Expr, SyntaxFault>
-    ensures value { Reads (readers.read_prefix (prefix_tree op)
-        (option_map readers.read_unary below) words.old) expr_tree result words.new }
+    ensures value { Reads (readers.read_prefix (prefix_tree op) (option_map readers.read_unary below) words.old)
+        expr_tree result words.new }
     ensures stays { length words.new ≤ length words.old }
 {
     let Some(levels) = below else {
@@ -132,8 +132,8 @@ fn read_primary(
     below: Option<u32>,
     words: &mut Words<'_>,
 ) -> Result<Expr, SyntaxFault>
-    ensures value { Reads (readers.primary_by (class_at words.old)
-        (option_map readers.read_expr below) words.old) expr_tree result words.new }
+    ensures value { Reads (readers.primary_by (class_at words.old) (option_map readers.read_expr below) words.old)
+        expr_tree result words.new }
     ensures stays { length words.new ≤ length words.old }
 {
     match words.first_class() {
@@ -156,8 +156,8 @@ pub fn read_closed(
     below: Option<u32>,
     words: &mut Words<'_>,
 ) -> Result<Expr, SyntaxFault>
-    ensures value { Reads (readers.closed_by (class_at words.old)
-        (option_map readers.read_expr below) words.old) expr_tree result words.new }
+    ensures value { Reads (readers.closed_by (class_at words.old) (option_map readers.read_expr below) words.old)
+        expr_tree result words.new }
     ensures stays { length words.new ≤ length words.old }
 {
     let place = words.place();
@@ -201,8 +201,8 @@ pub fn read_call(
     below: Option<u32>,
     words: &mut Words<'_>,
 ) -> Result<Vec<Expr>, SyntaxFault>
-    ensures value { Reads (readers.read_call (option_map readers.read_expr below) words.old)
-        (λ found. args_tree found.items) result words.new }
+    ensures value { Reads (readers.read_call (option_map readers.read_expr below) words.old) (λ found. args_tree found.items)
+        result words.new }
     ensures stays { length words.new ≤ length words.old }
 {
     let Some(levels) = below else {

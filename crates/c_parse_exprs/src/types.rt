@@ -169,8 +169,8 @@ fn read_param(alloc: Global, words: &mut Words<'_>) -> Result<Param, SyntaxFault
 
 /// More parameters, each behind a comma.
 fn read_more_params(alloc: Global, words: &mut Words<'_>) -> Result<Vec<Param>, SyntaxFault>
-    ensures value { Reads (readers.read_more (length words.old) readers.read_param words.old)
-        (λ found. map param_tree found.items) result words.new }
+    ensures value { Reads (readers.read_more (length words.old) readers.read_param words.old) (λ found. map param_tree found.items)
+        result words.new }
     ensures stays { length words.new ≤ length words.old }
 {
     let mut others = Vec::new(alloc);

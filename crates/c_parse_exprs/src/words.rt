@@ -11,7 +11,7 @@ ghost use Rattle.c_parse_exprs.specs.Reads.{Reads, Takes, name_of, wrong_at, too
 
 use crate::fault::SyntaxFault;
 use c_grammar::Class;
-use c_tokens::{Place, Refusal, Token, digits_value};
+use c_tokens::{Place, Token, digits_value};
 use shape_data::name::Name;
 use std::alloc::Global;
 use std::marker::Model;

@@ -59,8 +59,8 @@ fn write_member(text: &mut Vec<u8>, field: &Ident) -> Result<(), AllocError>
 
 /// Writes `->` and a field, for each field.
 fn write_members(text: &mut Vec<u8>, fields: &[Ident]) -> Result<(), AllocError>
-    ensures { OnOk result (Prints
-        (print_each (λ field rest. codes "->" ∷ print_name field rest) (map ident_tree fields.now)) text.old.items text.new.items) }
+    ensures { OnOk result (Prints (print_each (λ field rest. codes "->" ∷ print_name field rest) (map ident_tree fields.now))
+        text.old.items text.new.items) }
 {
     for field in fields {
         write_member(text, field)?;
@@ -101,8 +101,8 @@ fn write_malloc(
     as_type: &Option<TypeSpecifier>,
     target: &TypeSpecifier,
 ) -> Result<(), AllocError>
-    ensures { OnOk result (Prints
-        (print_malloc (option_map specifier_tree as_type.now) (specifier_tree target.now)) text.old.items text.new.items) }
+    ensures { OnOk result (Prints (print_malloc (option_map specifier_tree as_type.now) (specifier_tree target.now))
+        text.old.items text.new.items) }
 {
     write_cast(text, as_type)?;
     write_word(text, b"malloc")?;

@@ -143,9 +143,8 @@ fn write_for(
     test: &Option<Expr>,
     step: &Option<Box<Simple>>,
 ) -> Result<(), AllocError>
-    ensures { OnOk result (Prints
-        (print_for (init_tree init.now) (option_map expr_tree test.now)
-        (option_map for_step_tree step.now)) text.old.items text.new.items) }
+    ensures { OnOk result (Prints (print_for (init_tree init.now) (option_map expr_tree test.now) (option_map for_step_tree step.now))
+        text.old.items text.new.items) }
 {
     write_word(text, b"for")?;
     write_word(text, b"(")?;

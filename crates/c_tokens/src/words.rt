@@ -103,7 +103,7 @@ fn is_plain(word: &[u8]) -> bool
     word.len() <= MOST_DIGITS && are_digits(word) && (word[0] != b'0' || word.len() == 1)
 }
 
-/// The number that at most ten decimal digits write; none write 0.
+/// The number that at most ten decimal digits write; that of no digits is 0.
 pub fn digits_value(word: &[u8]) -> u64
     requires short { length word.now ≤ 10 }
     requires digits { AllDigits 10 word.now }

@@ -32,8 +32,8 @@ fn declared<'a>(alloc: Global, units: &'a [Unit]) -> Result<Tables<'a>, AllocErr
 /// What is found in the files.
 fn find<'a>(alloc: Global, env: &mut Env<'a>, units: &'a [Unit]) -> Result<Finding<'a>, AllocError>
     requires { length units.now < 4294967296 }
-    ensures refusal { IfOk result
-        (λ found. found.first.found ≡ program.first_of (program.files_refusals env.old.tables no_tables 0 (files_of units.now))) }
+    ensures refusal { IfOk result (λ found. found.first.found
+        ≡ program.first_of (program.files_refusals env.old.tables no_tables 0 (files_of units.now))) }
     ensures kinds { IfOk result (λ found. found.kinds ≡ (program.items env.old.tables no_tables (items_of (files_of units.now))).kinds) }
     ensures tables { IfOk result (λ _. env.new.tables ≡ env.old.tables) }
 {

@@ -1,8 +1,8 @@
-//! Why units are no program.
+//! Why units are refused.
 use c_types_rules::At;
 use std::alloc::{AllocError, AllocFailed};
 
-/// Why units are no program: the first refusal in the order of the text, with its unit, or want of memory.
+/// Why units are refused: the first refusal in the order of the text, of types or else of lowering, with its unit; or want of memory.
 #[derive(Clone, Copy, Debug)]
 pub enum UnitsFault {
     Refused(At),

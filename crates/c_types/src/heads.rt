@@ -210,7 +210,8 @@ pub fn procedure_refusals<'a>(
     first: &mut FirstRefusal,
 ) -> Result<(), AllocError>
     ensures { let seen = head_tree head.now in
-        OnOk result (first.new ≡ with_refusals first.old
+        OnOk result (first.new
+        ≡ with_refusals first.old
         (head_refusals tables.now seen
         ++ unless_of (not (is_alias before.now seen.declarator.name.text)) seen.declarator.name.place SECOND
         ++ unless_of (same_head tables.now (option_map procedure_seen declared.entry) seen) (place_of_head seen) CLASH)) }

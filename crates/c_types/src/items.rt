@@ -124,9 +124,10 @@ fn typedef_structure<'a>(
     first: &mut FirstRefusal,
 ) -> Result<(), AllocError>
     ensures { let name = tag_or (option_map ident_tree tag.now) (ident_tree alias.now) in
-        OnOk result (first.new ≡ with_refusals first.old
-        (rule.structure_refusals tables.now before.now name (map fields_tree lines.now.items) ++ rule.alias_refusals before.now
-        (ident_tree alias.now) name)) }
+        OnOk result (first.new
+        ≡ with_refusals first.old
+        (rule.structure_refusals tables.now before.now name (map fields_tree lines.now.items)
+        ++ rule.alias_refusals before.now (ident_tree alias.now) name)) }
 {
     let tag = tag_or(tag, alias);
     match structure_refusals(alloc, tables, before, tag, lines, first) {
@@ -148,8 +149,8 @@ fn typedef_alias(
     first: &mut FirstRefusal,
 )
     ensures { let name = ident_tree tag.now in
-        first.new ≡ with_refusals first.old (unless_of (is_defined tables.now name.text) name.place UNDECLARED ++ rule.alias_refusals before.now
-        (ident_tree alias.now) name) }
+        first.new ≡ with_refusals first.old
+        (unless_of (is_defined tables.now name.text) name.place UNDECLARED ++ rule.alias_refusals before.now (ident_tree alias.now) name) }
 {
     first.unless(is_defined(tables, &tag.text), tag.place, UNDECLARED);
     alias_refusals(before, alias, tag, first);
@@ -164,8 +165,8 @@ fn prototype<'a>(
     head: &'a Head,
     first: &mut FirstRefusal,
 ) -> Result<(), AllocError>
-    ensures { OnOk result (first.new ≡ with_refusals first.old
-        (rule.procedure_refusals tables.now before.now before.now.procedures (head_tree head.now))) }
+    ensures { OnOk result (first.new
+        ≡ with_refusals first.old (rule.procedure_refusals tables.now before.now before.now.procedures (head_tree head.now))) }
 {
     let declared = before.procedure(&head.declarator.name.text);
     procedure_refusals(alloc, tables, before, declared, head, first)
@@ -181,7 +182,8 @@ fn defined_head<'a>(
     first: &mut FirstRefusal,
 ) -> Result<(), AllocError>
     ensures { let seen = head_tree head.now in
-        OnOk result (first.new ≡ with_refusals first.old
+        OnOk result (first.new
+        ≡ with_refusals first.old
         (rule.procedure_refusals tables.now before.now (rule.definitions false before.now.procedures) seen
         ++ unless_of (not (rule.is_defined_before before.now seen)) seen.declarator.name.place SECOND
         ++ rule.unnamed_refusals (rule.listed seen.params))) }

@@ -33,8 +33,8 @@ use std::alloc::{AllocError, Global};
 /// Refuses a field that is neither an int nor a pointer to a structure.
 fn declarator_refusal(specifier: &TypeSpecifier, one: &Declarator, first: &mut FirstRefusal)
     ensures { first.new ≡ with_refusals first.old
-        (let seen = specifier_tree specifier.now in unless_of (may_be_object seen (declarator_tree one.now).stars)
-        (place_of_specifier seen) LEFT_OUT) }
+        (let seen = specifier_tree specifier.now in
+        unless_of (may_be_object seen (declarator_tree one.now).stars) (place_of_specifier seen) LEFT_OUT) }
 {
     first.unless(
         may_be_object(specifier, one.stars),
@@ -56,8 +56,8 @@ fn declarator_refusals(specifier: &TypeSpecifier, ones: &[Declarator], first: &m
 #[tactic(auto, using(crate::proofs::Lines::lining))]
 fn line_refusals(tables: &Tables, line: &FieldDecl, first: &mut FirstRefusal)
     ensures { let seen = fields_tree line.now in
-        first.new ≡ with_refusals first.old (specifier_refusals tables.now seen.specifier ++ declarator_refusals seen.specifier
-        (seen.first ∷ seen.others)) }
+        first.new ≡ with_refusals first.old
+        (specifier_refusals tables.now seen.specifier ++ declarator_refusals seen.specifier (seen.first ∷ seen.others)) }
 {
     specifier_refusals(tables, &line.specifier, first);
     declarator_refusal(&line.specifier, &line.first, first);
@@ -81,8 +81,8 @@ fn same_lines<'a>(
     before: &StructFields<'a>,
     lines: &'a [FieldDecl],
 ) -> Result<bool, AllocError>
-    ensures { IfOk result (λ same. same ≡ same_fields (map (kind_of_declared tables.now) before.now)
-        (field_kinds tables.now (map fields_tree lines.now))) }
+    ensures { IfOk result (λ same. same
+        ≡ same_fields (map (kind_of_declared tables.now) before.now) (field_kinds tables.now (map fields_tree lines.now))) }
 {
     let mut fields = Fields::new(alloc);
     fields.push_lines(tables, lines)?;
@@ -100,8 +100,9 @@ fn repeated_refusals<'a>(
     first: &mut FirstRefusal,
 ) -> Result<(), AllocError>
     ensures { let name = ident_tree tag.now in
-        OnOk result (first.new ≡ with_refusals first.old (repeated_refusals tables.now (structure_in before.now.structures name.text) name
-        (map fields_tree lines.now.items))) }
+        OnOk result (first.new
+        ≡ with_refusals first.old
+        (repeated_refusals tables.now (structure_in before.now.structures name.text) name (map fields_tree lines.now.items))) }
 {
     match before.fields(&tag.text) {
         None => Ok(()),
@@ -123,8 +124,8 @@ pub fn structure_refusals<'a>(
     lines: &'a Vec<FieldDecl>,
     first: &mut FirstRefusal,
 ) -> Result<(), AllocError>
-    ensures { OnOk result (first.new ≡ with_refusals first.old
-        (structure_refusals tables.now before.now (ident_tree tag.now) (map fields_tree lines.now.items))) }
+    ensures { OnOk result (first.new
+        ≡ with_refusals first.old (structure_refusals tables.now before.now (ident_tree tag.now) (map fields_tree lines.now.items))) }
 {
     lines_refusals(tables, lines.as_slice(), first);
     let mut names = Names::new(alloc);

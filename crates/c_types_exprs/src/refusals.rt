@@ -1,6 +1,5 @@
 //! What is refused in an expression. The calls nest as deep as the expression does.
 ghost use Rattle.std.specs.Prelude.{◌≡◌, ◌∷◌, ◌++◌, map, option_map, length};
-ghost use Rattle.c_tokens.specs.Places.{refusal};
 ghost use Rattle.c_types_rules.specs.Tables.{field_of, param_kind, param_kinds, procedure_in};
 ghost use Rattle.c_types_rules.specs.Expressions.{
   member_refusals,
@@ -110,8 +109,8 @@ pub fn malloc_refusals(
     target: &TypeSpecifier,
     first: &mut FirstRefusal,
 )
-    ensures { first.new ≡ with_refusals first.old (malloc_refusals env.now place (option_map specifier_tree as_type.now)
-        (specifier_tree target.now)) }
+    ensures { first.new ≡ with_refusals first.old
+        (malloc_refusals env.now place (option_map specifier_tree as_type.now) (specifier_tree target.now)) }
 {
     cast_refusals(env, place, as_type, first);
     specifier_refusals_in(env, target, first);
@@ -170,8 +169,8 @@ fn all_fit<'a>(env: &Env<'a>, params: &'a Params, args: &'a [Expr]) -> bool
 /// Refuses a call of a name that is no procedure's, and one whose arguments are not those that the procedure takes.
 #[tactic(auto, using(c_types_names::proofs::FirstRefusals::more_refusals), unfolding(c_types_names::specs::Seen::procedure_seen))]
 fn callee_refusals<'a>(env: &Env<'a>, callee: &Ident, args: &'a [Expr], first: &mut FirstRefusal)
-    ensures { first.new ≡ with_refusals first.old (callee_refusals env.now (procedure_in env.now.tables.procedures callee.now.text)
-        (ident_tree callee.now) (args_tree args.now)) }
+    ensures { first.new ≡ with_refusals first.old
+        (callee_refusals env.now (procedure_in env.now.tables.procedures callee.now.text) (ident_tree callee.now) (args_tree args.now)) }
 {
     match env.tables().procedure(&callee.text) {
         None => first.unless(false, callee.place, UNDECLARED),
@@ -197,7 +196,7 @@ fn variable_refusals(env: &Env, name: &Ident, first: &mut FirstRefusal)
 }
 
 /// What is refused in an expression where no call and no `malloc` may stand.
-#[cycle(refused)]
+#[cycle(refusals)]
 #[tactic(auto, using(c_types_names::proofs::FirstRefusals::more_refusals))]
 pub fn expr_refusals<'a>(env: &Env<'a>, expr: &'a Expr, first: &mut FirstRefusal)
     ensures { first.new ≡ with_refusals first.old (expr_refusals env.now (expr_tree expr.now)) }
@@ -249,7 +248,7 @@ struct Operand<'a> {
 }
 
 /// What is refused in the other operands of a chain.
-#[cycle(refused)]
+#[cycle(refusals)]
 #[tactic(auto, using(c_types_names::proofs::FirstRefusals::more_refusals))]
 fn links_refusals<'a>(
     env: &Env<'a>,
@@ -259,8 +258,8 @@ fn links_refusals<'a>(
     first: &mut FirstRefusal,
 )
     ensures { let operand = left.entry in
-        first.new ≡ with_refusals first.old (links_refusals env.now place (kind_seen operand.kind) (given_seen operand.given) operand.null
-        (links_tree links.now.items)) }
+        first.new ≡ with_refusals first.old
+        (links_refusals env.now place (kind_seen operand.kind) (given_seen operand.given) operand.null (links_tree links.now.items)) }
 {
     let mut kind = left.kind;
     let mut given = left.given;
@@ -282,7 +281,7 @@ fn links_refusals<'a>(
 }
 
 /// What is refused in arguments.
-#[cycle(refused)]
+#[cycle(refusals)]
 #[tactic(auto, using(c_types_names::proofs::FirstRefusals::more_refusals))]
 fn args_refusals<'a>(env: &Env<'a>, args: &'a Vec<Expr>, first: &mut FirstRefusal)
     ensures { first.new ≡ with_refusals first.old (args_refusals env.now (args_tree args.now.items)) }

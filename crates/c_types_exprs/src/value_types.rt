@@ -1,4 +1,4 @@
-//! What an expression gives where its value is used.
+//! The type that an expression gives where its value is used.
 ghost use Rattle.std.specs.Prelude.{◌≡◌, option_map};
 ghost use Rattle.c_types_rules.specs.Expressions.{
   given_by_malloc,

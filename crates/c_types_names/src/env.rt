@@ -29,8 +29,7 @@ impl<'a> Model for Env<'a> {
       tables = e.tables;
       scopes = record {
         here = stacked (drop e.begin e.variables);
-        around = stacked
-            (take e.begin e.variables);
+        around = stacked (take e.begin e.variables);
       };
     } };
 
@@ -116,8 +115,7 @@ impl<'a> Env<'a> {
     pub fn leave(&mut self, begin: usize)
         requires { begin ≤ length self.old.scopes.around }
         ensures { (here : List ScopeVariable) → (around : List ScopeVariable) → self.old.scopes.around ≡ here ++ around
-            → length around ≡ begin
-            → self.new ≡ record { tables = self.old.tables; scopes = record { here = here; around = around } } }
+            → length around ≡ begin → self.new ≡ record { tables = self.old.tables; scopes = record { here = here; around = around } } }
     {
         self.variables.truncate(self.begin);
         self.begin = begin;

@@ -1,4 +1,4 @@
-//! Types as the typing rules see them.
+//! Types as the typing rules see them, and as the flow form has them.
 ghost use Rattle.std.specs.Prelude.{◌≡◌, IfOk};
 ghost use Rattle.std.specs.Str.{bytes_eq};
 ghost use Rattle.c_types_rules.specs.Types.{same_type, may_agree, may_be_int, may_be_scalar, may_be_compared};

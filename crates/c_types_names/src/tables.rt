@@ -106,8 +106,8 @@ impl<'a> Tables<'a> {
 
     /// The first field of the name in the first structure of the tag.
     pub fn field(&self, tag: &Name, name: &Name) -> Option<DeclaredField<'a>>
-        ensures { option_map declared_seen result ≡ field_in_table
-            (option_map fields_of (structure_in self.now.structures tag.now)) name.now }
+        ensures { option_map declared_seen result
+            ≡ field_in_table (option_map fields_of (structure_in self.now.structures tag.now)) name.now }
     {
         field_in_table(&self.fields, tag, name)
     }

@@ -24,8 +24,8 @@ fn initializer<'a>(
     value: &'a Option<Expr>,
     found: &mut Finding<'a>,
 ) -> Result<(), AllocError>
-    ensures { OnOk result (Adds
-        (rule.initializer env.now place (kind_seen kind.entry) (option_map expr_tree value.now)) found.old found.new) }
+    ensures { OnOk result (Adds (rule.initializer env.now place (kind_seen kind.entry) (option_map expr_tree value.now))
+        found.old found.new) }
 {
     match value {
         None => Ok(()),
@@ -65,8 +65,8 @@ fn more_locals<'a>(
     ones: &'a [Initialized],
     found: &mut Finding<'a>,
 ) -> Result<(), AllocError>
-    ensures found { OnOk result
-        (Adds (rule.locals env.old (specifier_tree specifier.now) (map initialized_tree ones.now)) found.old found.new) }
+    ensures found { OnOk result (Adds (rule.locals env.old (specifier_tree specifier.now) (map initialized_tree ones.now))
+        found.old found.new) }
     ensures env { OnOk result (env.new ≡ rule.behind_locals env.old (specifier_tree specifier.now) (map initialized_tree ones.now)) }
 {
     for one in ones {

@@ -98,8 +98,8 @@ fn assigned<'a>(
     right: &'a Expr,
     found: &mut Finding<'a>,
 ) -> Result<(), AllocError>
-    ensures { OnOk result (Adds
-        (rule.simple env.now (SimpleTree.Assign (expr_tree left.now) (assign_tree op) (expr_tree right.now))) found.old found.new) }
+    ensures { OnOk result (Adds (rule.simple env.now (SimpleTree.Assign (expr_tree left.now) (assign_tree op) (expr_tree right.now)))
+        found.old found.new) }
 {
     target(env, left, found)?;
     whole(env, right, found)?;

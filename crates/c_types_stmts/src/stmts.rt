@@ -99,8 +99,8 @@ fn returned<'a>(
     value: &'a Option<Expr>,
     found: &mut Finding<'a>,
 ) -> Result<(), AllocError>
-    ensures { OnOk result (Adds
-        (rule.returned env.now (kind_seen answer.entry) place (option_map expr_tree value.now)) found.old found.new) }
+    ensures { OnOk result (Adds (rule.returned env.now (kind_seen answer.entry) place (option_map expr_tree value.now))
+        found.old found.new) }
 {
     match value {
         None => {
@@ -197,8 +197,8 @@ fn nested<'a>(
     body: &'a Box<Stmt>,
     found: &mut Finding<'a>,
 ) -> Result<(), AllocError>
-    ensures found { OnOk result
-        (Adds (rule.stmt (entered env.old) (kind_seen answer.entry) loops (stmt_tree body.now.value)) found.old found.new) }
+    ensures found { OnOk result (Adds (rule.stmt (entered env.old) (kind_seen answer.entry) loops (stmt_tree body.now.value))
+        found.old found.new) }
     ensures env { OnOk result (env.new ≡ env.old) }
 {
     let begin = env.enter();
@@ -216,8 +216,8 @@ fn block<'a>(
     body: &'a Block,
     found: &mut Finding<'a>,
 ) -> Result<(), AllocError>
-    ensures found { OnOk result
-        (Adds (rule.stmts (entered env.old) (kind_seen answer.entry) loops (block_tree body.now).body) found.old found.new) }
+    ensures found { OnOk result (Adds (rule.stmts (entered env.old) (kind_seen answer.entry) loops (block_tree body.now).body)
+        found.old found.new) }
     ensures env { OnOk result (env.new ≡ env.old) }
 {
     let begin = env.enter();

@@ -84,8 +84,7 @@ fn answer_commands<R: Wait, S: Source, K: Sink, P: Keeper, G: Gate, A: Ledger, B
 }
 
 /// Who answers a stream: which entries were loaded from the store, from where the stream comes, where the replies go, what the words ask
-/// for, so where what is saved
-/// goes, who is fed the entries of reports, and how the session ended.
+/// for, so where what is saved goes, who is fed the entries of reports, and how the session ended.
 #[derive(Drop)]
 pub struct Answering<'a, S: Source, K: Sink, P: Keeper> {
     pub loaded: &'a Arc<StoredAnswers>,

@@ -1,6 +1,5 @@
 //! The one call that does everything: it reads commands, analyses the files that they put, writes the replies, feeds reporters, and saves
-//! what
-//! is known where it is asked to.
+//! what is known where it is asked to.
 #![tactic(auto)]
 
 pub mod laws;

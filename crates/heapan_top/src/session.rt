@@ -1,8 +1,7 @@
 //! The top call: words, a source, a sink, a keeper, a gate and reporters in, and the replies and a status out. Its contract is the
-//! headline:
-//! the bytes written answer the bytes read, whatever the threads did and whatever bytes the store has, reporters are fed what was reported,
-//! the store is given what is known, and each status has its cause.
-ghost use Rattle.std.specs.Prelude.{◌≡◌, ◌≢◌, ◌≤◌, Err, IfErr, IfSome, List, [], OnErr, OnOk, map};
+//! headline: the bytes written answer the bytes read, whatever the threads did and whatever bytes the store has, reporters are fed what was
+//! reported, the store is given what is known, and each status has its cause.
+ghost use Rattle.std.specs.Prelude.{◌≡◌, ◌≢◌, ◌≤◌, Err, IfErr, IfSome, [], OnErr, OnOk, map};
 ghost use Rattle.claim_core.specs.Told.{events_of};
 ghost use Rattle.claim_laws.specs.Logs.{IsLegal, published, replay};
 ghost use Rattle.io_ports.specs.Counts.{Rose};

@@ -2,7 +2,6 @@
 ghost use Rattle.std.specs.Prelude.{◌≡◌, ◌<◌, ◌≤◌, length, map, slice_get, All, IfOk, IfErr, OnOk, OnErr, Ok, None};
 ghost use Rattle.std.specs.List.{AllZip};
 ghost use Rattle.std.specs.Option.{option_map};
-ghost use Rattle.c_tree.specs.Syntax.{unit_tree};
 ghost use Rattle.c_types.specs.Typing.{files_of};
 ghost use Rattle.c_types_rules.specs.Programs.{first_refusal};
 ghost use Rattle.c_lower_rules.specs.Programs.{first_too_large, program_of as lowered_program};
@@ -124,8 +123,8 @@ fn lowered_files(alloc: Global, names: &[Name], typed: Typed<'_>) -> Result<Prog
     requires lowerable { All IsLowerable (files_of typed.units.now) }
     ensures program { IfOk result (λ program. program ≡ lowered_program names.now (files_of typed.entry.units.now)) }
     ensures small { IfOk result (λ _. first_too_large (files_of typed.entry.units.now) ≡ None) }
-    ensures fault { IfErr result
-        (λ fault. IsFirstFault (option_map (refused_at names.now) (first_too_large (files_of typed.entry.units.now))) fault) }
+    ensures fault { IfErr result (λ fault.
+        IsFirstFault (option_map (refused_at names.now) (first_too_large (files_of typed.entry.units.now))) fault) }
 {
     laws::first_refusal();
     match lower(alloc, typed, names) {

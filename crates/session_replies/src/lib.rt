@@ -1,7 +1,6 @@
-//! The reply to each command of a session, over the files that are present. The definition, in `specs/Answers`, goes by what the files
-//! are: a program, of which each component is answered from the loaded entries or analysed, or refused. It stands on the project, on the
-//! analysis of a whole
-//! program at a desk, and on the texts of reports.
+//! The reply to each command of a session, over the files that are present. The definition, in `specs/Answers`, goes by what the files are:
+//! a program, of which each component is answered from the loaded entries or analysed, or refused. It stands on the project, on the
+//! analysis of a whole program at a desk, and on the texts of reports.
 #![tactic(auto)]
 
 pub mod found;

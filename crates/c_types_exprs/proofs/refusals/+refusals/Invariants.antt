@@ -4,7 +4,7 @@ use Rattle.c_tree.specs.Syntax.{links_tree, args_tree}
 use Rattle.c_types_names.specs.Seen.{kind_seen}
 use Rattle.c_types_exprs.specs.Seen.{given_seen}
 use Rattle.c_types_names.specs.FirstRefusal.{with_refusals}
-use Rattle.c_types_exprs.proofs.refusals.+refused.Given as goal
+use Rattle.c_types_exprs.proofs.refusals.+refusals.Given as goal
 
 abbrev pub invariant-links_refusals-loop-link : goal.invariant-links_refusals-loop-link
 invariant-links_refusals-loop-link l =

@@ -11,7 +11,7 @@ use Rattle.c_types_names.specs.Seen.{kind_seen}
 use Rattle.c_types_exprs.specs.Seen.{given_seen}
 use Rattle.c_types_names.proofs.FirstRefusals.{nothing, then, same, turn, over}
 use Rattle.c_tree.specs.declared.exprs.Expr.{the_lemmas}
-use Rattle.c_types_exprs.proofs.refusals.+refused.Goals as goal
+use Rattle.c_types_exprs.proofs.refusals.+refusals.Goals as goal
 
 pub expr_refusals-returns-in-Chain : goal.expr_refusals-returns-in-Chain
 expr_refusals-returns-in-Chain t c = same _ _ _ _ (then _ _ _ _ _ c.expr_refusals.ensures c.links_refusals.ensures) (search (rules, the_lemmas))
