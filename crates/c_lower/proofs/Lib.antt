@@ -1,6 +1,6 @@
 mod Closed
 mod Whole
-mod Appending
+mod Naming
 mod Adding
 mod SamePlace
 mod Fitting

@@ -59,8 +59,8 @@ fn closed<'a>(
     requires nodes { length out.old.nodes ≤ 1 }
     requires temps { out.old.temps ≡ [] }
     ensures tables { IfOk result (λ _. context.new.env.tables ≡ context.old.env.tables) }
-    ensures code { IfOk result
-        (λ begin. Closes (closed_of context.old.env.tables (head_tree head.now) (block_tree body.now)) begin out.old out.new) }
+    ensures code { IfOk result (λ begin. Closes (closed_of context.old.env.tables (head_tree head.now) (block_tree body.now))
+        begin out.old out.new) }
 {
     code_has_its_size();
     locals_have_nodes();
@@ -82,8 +82,8 @@ fn opened<'a>(
     requires size { stmts_size (block_tree body.now).body ≤ 512 }
     requires numbers { StmtsHaveIntNumbers (block_tree body.now).body }
     ensures tables { IfOk result (λ _. context.new.env.tables ≡ context.old.env.tables) }
-    ensures code { IfOk result
-        (λ out. Closes (behind_opening (closed_of context.old.env.tables (head_tree head.now) (block_tree body.now))) (At 0) no_out out) }
+    ensures code { IfOk result (λ out.
+        Closes (behind_opening (closed_of context.old.env.tables (head_tree head.now) (block_tree body.now))) (At 0) no_out out) }
 {
     let mut out = Output::new(alloc);
     push_opening(&mut out)?;

@@ -1,5 +1,5 @@
 //! What closes a body (C11 6.9.1): nothing is returned, or any value of the result's type.
-ghost use Rattle.std.specs.Prelude.{◌≡◌, ◌-◌, ℕ, IfOk, OnOk, length};
+ghost use Rattle.std.specs.Prelude.{◌≡◌, ℕ, IfOk, OnOk, length};
 ghost use Rattle.c_lower_rules.specs.Contexts.{at_place};
 ghost use Rattle.c_lower_rules.specs.Temporaries.{take_temp, released};
 ghost use Rattle.c_lower_rules.specs.Numbers.{StmtsHaveIntNumbers};
@@ -13,8 +13,9 @@ ghost use Rattle.c_lower.specs.Closing.{value_closing, closing, closed_body, Clo
 
 use c_lower_emit::drafts::{AS_THEY_ARE, Label, Ways};
 use c_lower_emit::output::Output;
-use c_lower_emit::uses::{Spot, Use};
+use c_lower_emit::uses::Use;
 use c_lower_exprs::context::Context;
+use c_lower_exprs::site::Site;
 use c_lower_stmts::stmts::stmts;
 use c_tree::{Block, Place};
 use c_types_names::kinds::{CType, type_of};
@@ -23,26 +24,21 @@ use std::alloc::AllocError;
 
 /// Any value of the type is returned.
 fn close_with_value<'a>(
-    context: &Context<'a>,
-    line: u32,
+    site: &Site<'_, 'a>,
     kind: CType<'a>,
     out: &mut Output<'a>,
 ) -> Result<(), AllocError>
-    ensures { OnOk result (HasRoom context.now.first_temp 1 out.old
-        → EmitsCode (value_closing (on_line context.now line) (type_seen kind.entry) (take_temp (type_seen kind.entry) out.old.temps)).code
+    ensures { OnOk result (HasRoom site.now.first_temp 1 out.old
+        → EmitsCode (value_closing site.now (type_seen kind.entry) (take_temp (type_seen kind.entry) out.old.temps)).code
         (take_temp (type_seen kind.entry) out.old.temps).temps (At (length out.old.nodes)) out.old out.new) }
 {
-    let spot = Spot {
-        first_temp: context.first_temp(),
-        line,
-    };
     let any = Cmd::Any {
         to: 0,
         ty: type_of(kind)?,
         next: 0,
     };
-    let value = out.make(spot, kind, any, Use::Value)?;
-    out.push(line, Cmd::Return { value }, Label::Next, Label::Next)
+    let value = out.make(site.spot(), kind, any, Use::Value)?;
+    out.push(site.line(), Cmd::Return { value }, Label::Next, Label::Next)
 }
 
 /// What closes a body, at the place of its `}`.
@@ -52,15 +48,15 @@ fn close<'a>(context: &Context<'a>, place: Place, out: &mut Output<'a>) -> Resul
         → EmitsCode closed.code closed.temps (At (length out.old.nodes)) (record out.old { temps = released out.old.temps }) out.new) }
 {
     out.release();
-    let line = context.line_of(place);
+    let site = Site::at(context, place);
     match context.result() {
         CType::Void => {
             let nothing = Cmd::Return {
                 value: Operand::Num(0),
             };
-            out.push(line, nothing, Label::Next, Label::Next)
+            out.push(site.line(), nothing, Label::Next, Label::Next)
         }
-        kind => close_with_value(context, line, kind, out),
+        kind => close_with_value(&site, kind, out),
     }
 }
 
@@ -72,7 +68,8 @@ pub fn closed_body<'a>(
 ) -> Result<Label, AllocError>
     requires { StmtsHaveIntNumbers (block_tree body.now).body }
     ensures tables { IfOk result (λ _. context.new.env.tables ≡ context.old.env.tables) }
-    ensures code { IfOk result (λ begin. (line : ℕ) → (let l = closed_body (on_line context.old line) (block_tree body.now) out.old in
+    ensures code { IfOk result (λ begin. (line : ℕ)
+        → (let l = closed_body (on_line context.old line) (block_tree body.now) out.old in
         HasRoom context.old.first_temp l.code.size out.old → HasSlots context.old 0 l.code.size → Closes l begin out.old out.new)) }
 {
     let from = out.len();

@@ -18,8 +18,8 @@ fn push_local<'a>(
     one: &'a Initialized,
     slots: &mut Row<Ty>,
 ) -> Result<(), AllocError>
-    ensures { OnOk result (slots.new ≡ slots.old ++ kinds_of_locals tables.now (specifier_tree specifier.now)
-        (initialized_tree one.now ∷ [])) }
+    ensures { OnOk result (slots.new
+        ≡ slots.old ++ kinds_of_locals tables.now (specifier_tree specifier.now) (initialized_tree one.now ∷ [])) }
 {
     slots.push(known_type(object_kind(tables, specifier, one.declarator.stars))?)
 }
@@ -32,8 +32,8 @@ fn push_more_locals<'a>(
     ones: &'a [Initialized],
     slots: &mut Row<Ty>,
 ) -> Result<(), AllocError>
-    ensures { OnOk result (slots.new ≡ slots.old ++ kinds_of_locals tables.now (specifier_tree specifier.now)
-        (map initialized_tree ones.now)) }
+    ensures { OnOk result (slots.new
+        ≡ slots.old ++ kinds_of_locals tables.now (specifier_tree specifier.now) (map initialized_tree ones.now)) }
 {
     for one in ones {
         push_local(tables, specifier, one, slots)?;

@@ -1,6 +1,5 @@
 //! The lowering of a program.
-ghost use Rattle.std.specs.Prelude.{◌≡◌, ◌<◌, [], IfOk, IfErr, None, All, length, map};
-ghost use Rattle.c_tree.specs.Syntax.{unit_tree};
+ghost use Rattle.std.specs.Prelude.{◌≡◌, ◌<◌, [], IfOk, IfErr, None, All, length};
 ghost use Rattle.c_types_rules.specs.Programs as typing;
 ghost use Rattle.c_types.specs.Typing.{files_of};
 ghost use Rattle.c_lower_rules.specs.Numbers.{FileHasIntNumbers};
@@ -30,8 +29,8 @@ fn build<'a>(
     requires names { length files.now ≡ length units.now }
     requires countable { length units.now < 4294967296 }
     requires numbers { All FileHasIntNumbers (files_of units.now) }
-    ensures refusal { IfOk result
-        (λ built. built.first.found ≡ typing.first_of (files_refusals context.old.env.tables 0 (files_of units.now))) }
+    ensures refusal { IfOk result (λ built. built.first.found
+        ≡ typing.first_of (files_refusals context.old.env.tables 0 (files_of units.now))) }
     ensures procs { IfOk result (λ built. files_refusals context.old.env.tables 0 (files_of units.now) ≡ []
         → built.procs ≡ files_procs context.old.env.tables files.now (files_of units.now)) }
 {

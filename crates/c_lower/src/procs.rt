@@ -66,8 +66,8 @@ pub fn proc<'a>(
     requires body { IsBodyOf tables.now (head_tree head.now) (block_tree block.now) body }
     requires slots { length (listed (head_tree head.now).params) + length (stmts_kinds tables.now (block_tree block.now).body) ≤ 32 }
     requires temps { length body.temps.items ≤ 16 }
-    ensures { IfOk result (λ proc. proc ≡ proc_of tables.now file.now (head_tree head.now) (block_tree block.now).body
-        (block_tree block.now).end) }
+    ensures { IfOk result (λ proc. proc
+        ≡ proc_of tables.now file.now (head_tree head.now) (block_tree block.now).body (block_tree block.now).end) }
 {
     Ok(Proc {
         flow: flow(alloc, tables, head, block, body)?,

@@ -51,8 +51,8 @@ fn push_params<'a>(
     params: &'a Params,
     slots: &mut Row<Ty>,
 ) -> Result<(), AllocError>
-    ensures { OnOk result (slots.new ≡ slots.old ++ map (λ (p : ParamTree). known (param_kind tables.now p))
-        (listed (params_tree params.now))) }
+    ensures { OnOk result (slots.new
+        ≡ slots.old ++ map (λ (p : ParamTree). known (param_kind tables.now p)) (listed (params_tree params.now))) }
 {
     match params {
         Params::Empty => Ok(()),
@@ -84,8 +84,8 @@ pub fn slot_types<'a>(
     block: &'a Block,
     temps: &[CType],
 ) -> Result<Row<Ty>, AllocError>
-    ensures { IfOk result (λ slots. slots ≡ param_types tables.now (head_tree head.now) ++ stmts_kinds tables.now
-        (block_tree block.now).body ++ map type_seen temps.now) }
+    ensures { IfOk result (λ slots. slots
+        ≡ param_types tables.now (head_tree head.now) ++ stmts_kinds tables.now (block_tree block.now).body ++ map type_seen temps.now) }
 {
     let mut slots = Row::new(alloc);
     push_params(tables, &head.params, &mut slots)?;
@@ -106,7 +106,7 @@ fn push_name(param: &Param, names: &mut Row<Name>) -> Result<(), AllocError>
 }
 
 /// The names of parameters that have one, behind the first.
-#[tactic(auto, using(crate::proofs::Appending::naming))]
+#[tactic(auto, using(crate::proofs::Naming::naming))]
 fn push_more_names(params: &[Param], names: &mut Row<Name>) -> Result<(), AllocError>
     ensures { OnOk result (names.new ≡ names.old ++ map name_text (param_names (map param_tree params.now))) }
 {
@@ -117,7 +117,7 @@ fn push_more_names(params: &[Param], names: &mut Row<Name>) -> Result<(), AllocE
 }
 
 /// The names of a procedure's parameters that have one.
-#[tactic(auto, using(crate::proofs::Appending::naming))]
+#[tactic(auto, using(crate::proofs::Naming::naming))]
 pub fn name_texts(alloc: Global, params: &Params) -> Result<Row<Name>, AllocError>
     ensures { IfOk result (λ names. names ≡ map name_text (param_names (listed (params_tree params.now)))) }
 {

@@ -7,12 +7,14 @@ use Rattle.shape_data.specs.declared.program.Ty.{Ty}
 use Rattle.shape_data.specs.declared.program.Ty.TheVariants.{Int}
 use Rattle.c_lower_rules.specs.Code.{Code, Test, Straight, Loop}
 use Rattle.c_lower_rules.specs.Temporaries as temporaries
-use Rattle.c_lower_rules.specs.Temporaries.{Taken, take_temp}
-use Rattle.c_lower_rules.specs.Values.{Tested, Lowering, Making}
+use Rattle.c_lower_rules.specs.Temporaries.{take_temp}
+use Rattle.c_lower_rules.specs.Contexts.{Context}
+use Rattle.c_lower_rules.specs.Values.{Tested, Lowering, Making, truth}
 use Rattle.c_lower_emit.specs.declared.drafts.Draft.{Draft}
 use Rattle.c_lower_emit.specs.declared.drafts.Label.{Label}
 use Rattle.c_lower_emit.specs.declared.drafts.Label.TheVariants.{At, Next}
 use Rattle.c_lower_emit.specs.declared.drafts.Ways.{Ways}
+use Rattle.c_lower_emit.specs.declared.uses.Spot.{Spot}
 use Rattle.c_lower_emit.specs.declared.uses.Use.{Use}
 use Rattle.c_lower_emit.specs.declared.uses.Use.TheVariants.{Value, Into, Test as AsTest}
 use Rattle.c_lower_emit.specs.Drafts.{Places, exits, resolve, led_between, put_to, aimed, laid}
@@ -107,3 +109,10 @@ BeginsTruth Value first old start to =
     HasRoom first 1 old → (to ≡ first + (take_temp Int old.temps).place) × (start ≡ record old { temps = (take_temp Int old.temps).temps })
 BeginsTruth (Into slot) first old start to = (to ≡ slot) × (start ≡ old)
 BeginsTruth AsTest first old start to = start ≡ old
+
+-- a test began at `from`, behind the temporary `to` for its value, and ends where the nodes do: what it is in the use was emitted then
+abbrev pub EndsTruth : Use → Spot → ℕ → ℕ → Out → Out → Operand → Type 0
+EndsTruth used spot to from old new operand =
+    (c : Context) → c.line ≡ spot.line → c.first_temp ≡ spot.first_temp → (testing : List temporaries.Temp → Tested) → (before start : Out)
+    → BeginsTruth used spot.first_temp before start to → from ≡ length start.nodes → EmitsTested (testing start.temps) spot.first_temp start old
+    → Emits used (truth c testing) spot.first_temp before new operand

@@ -2,7 +2,6 @@
 ghost use Rattle.std.specs.Prelude.{◌≡◌, IfOk, map};
 ghost use Rattle.c_lower_emit.specs.Drafts.{redirect, next_at, redirected, put_to, aimed, laid, at_start, resolve};
 
-use shape_data::Row;
 use shape_data::program::{Cmd, Node};
 use std::alloc::{AllocError, Global};
 

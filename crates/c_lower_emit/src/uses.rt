@@ -6,7 +6,7 @@ ghost use Rattle.shape_data.specs.declared.program.TestOp.TheVariants as test;
 ghost use Rattle.c_lower_rules.specs.Code.{command, branch};
 ghost use Rattle.c_lower_rules.specs.Temporaries as temporaries;
 ghost use Rattle.c_lower_rules.specs.Contexts.{Context};
-ghost use Rattle.c_lower_rules.specs.Values.{Making, Tested, is_pointer, at_hand, made, put_truth, truth};
+ghost use Rattle.c_lower_rules.specs.Values.{Making, Tested, is_pointer, at_hand, made, put_truth};
 ghost use Rattle.c_types_names.specs.Seen.{type_seen};
 ghost use Rattle.c_lower_emit.specs.declared.drafts.Label.TheVariants.{At};
 ghost use Rattle.c_lower_emit.specs.Emitting.{
@@ -17,8 +17,8 @@ ghost use Rattle.c_lower_emit.specs.Emitting.{
   Emits,
   IsMadeValue,
   EmitsMaking,
-  EmitsTested,
   BeginsTruth,
+  EndsTruth,
 };
 
 use crate::drafts::{AS_THEY_ARE, Label, Ways, put_to};
@@ -91,8 +91,8 @@ impl<'a> Output<'a> {
         operand: Operand,
     ) -> Result<(), AllocError>
         ensures { OnOk result ((c : Context) → c.line ≡ spot.line
-            → EmitsTest (branch c.line test.Ne (is_pointer (type_seen kind.entry)) operand
-            (Num (pos 0))) self.old.temps self.old self.new) }
+            → EmitsTest (branch c.line test.Ne (is_pointer (type_seen kind.entry)) operand (Num (pos 0)))
+            self.old.temps self.old self.new) }
     {
         self.push_branch(spot, TestOp::Ne, is_pointer(kind), operand, Operand::Num(0))
     }
@@ -176,8 +176,7 @@ impl<'a> Output<'a> {
     /// Puts 1 into the slot where the test holds that begins at a place, and 0 where it doesn't.
     fn put_truth(&mut self, spot: Spot, to: u32, from: usize) -> Result<(), AllocError>
         ensures { OnOk result ((c : Context) → c.line ≡ spot.line → (tested : Tested) → (start : Out) → from ≡ length start.nodes
-            → length start.nodes + (tested.test.size + 2) < 4294967296
-            → EmitsTest tested.test tested.temps start self.old
+            → length start.nodes + (tested.test.size + 2) < 4294967296 → EmitsTest tested.test tested.temps start self.old
             → EmitsCode (put_truth c to tested).code tested.temps (At (length start.nodes)) start self.new) }
     {
         let past = self.len();
@@ -215,11 +214,7 @@ impl<'a> Output<'a> {
         from: usize,
         used: Use,
     ) -> Result<Operand, AllocError>
-        ensures { IfOk result (λ found. (c : Context) → c.line ≡ spot.line → c.first_temp ≡ spot.first_temp
-            → (testing : List temporaries.Temp → Tested) → (before start : Out)
-            → BeginsTruth used spot.first_temp before start to → from ≡ length start.nodes
-            → EmitsTested (testing start.temps) spot.first_temp start self.old
-            → Emits used (truth c testing) spot.first_temp before self.new found) }
+        ensures { IfOk result (EndsTruth used spot to from self.old self.new) }
     {
         match used {
             Use::Value => {

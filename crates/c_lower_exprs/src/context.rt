@@ -213,7 +213,7 @@ impl<'a> Context<'a> {
         Scope { begin, bound }
     }
 
-    /// Leaves the innermost scope, which is the one that was entered.
+    /// Leaves the innermost scope, which is `scope` as `enter` gave it.
     pub fn leave(&mut self, scope: Scope)
         requires { scope.begin ≤ length self.old.env.scopes.around }
         ensures { (outer : ContextValue) → IsWithin (within_scope outer) self.old → scope.begin ≡ length outer.env.scopes.around

@@ -6,6 +6,7 @@ pub mod context;
 pub mod members;
 pub mod operators;
 mod params;
+pub mod site;
 pub mod values;
 
 pub use params::param_count;

@@ -7,13 +7,12 @@ ghost use Rattle.c_lower_rules.specs.Values.{Lowering};
 ghost use Rattle.c_lower_rules.specs.Expressions.{slot_read, field_behind, member, members};
 ghost use Rattle.c_lower_emit.specs.Emitting.{Out};
 ghost use Rattle.c_lower_emit.specs.declared.uses.Use.TheVariants.{Value};
-ghost use Rattle.c_lower_exprs.specs.Contexts.{on_line};
 ghost use Rattle.c_lower_exprs.specs.Fields.{field_found};
 ghost use Rattle.c_lower_exprs.specs.Lowered.{IsLowered};
 
-use crate::context::Context;
+use crate::site::Site;
 use c_lower_emit::output::Output;
-use c_lower_emit::uses::{Spot, Use};
+use c_lower_emit::uses::Use;
 use c_tree::{Ident, Name};
 use c_types_exprs::exprs::kind_of_member;
 use c_types_names::kinds::{CType, known};
@@ -59,33 +58,32 @@ pub fn tag_of(alloc: Global, kind: CType) -> Result<Name, AllocError>
 
 /// The field of what a pointer of the type points to.
 pub fn field_behind<'a>(
-    c: &Context<'a>,
+    site: &Site<'_, 'a>,
     pointer: CType<'a>,
     field: &Ident,
 ) -> Result<Field<'a>, AllocError>
-    ensures { IfOk result (λ found. field_found found ≡ field_behind c.now (type_seen pointer.entry) (ident_tree field.now)) }
+    ensures { IfOk result (λ found. field_found found ≡ field_behind site.now (type_seen pointer.entry) (ident_tree field.now)) }
 {
-    let tag = tag_of(c.alloc(), pointer)?;
-    let place = c.tables().field_place(&tag, &field.text);
+    let tag = tag_of(site.alloc(), pointer)?;
+    let place = site.tables().field_place(&tag, &field.text);
     let place = u32::try_from(place).unwrap_or(u32::MAX);
-    let kind = known(kind_of_member(c.tables(), Some(pointer), field));
+    let kind = known(kind_of_member(site.tables(), Some(pointer), field));
     Ok(Field { tag, place, kind })
 }
 
 /// Loads a field of what a value points to.
 pub fn load<'a>(
-    c: &Context<'a>,
-    line: u32,
+    site: &Site<'_, 'a>,
     base: Found<'a>,
     field: &Ident,
     used: Use,
     out: &mut Output<'a>,
 ) -> Result<Found<'a>, AllocError>
-    ensures { IfOk result (λ found. (l : Lowering) → (before : Out) → IsLowered Value l c.now.first_temp before out.old base.entry
-        → IsLowered used (member (on_line c.now line) l
-        (field_behind (on_line c.now line) l.kind (ident_tree field.now))) c.now.first_temp before out.new found) }
+    ensures { IfOk result (λ found. (l : Lowering) → (before : Out) → IsLowered Value l site.now.first_temp before out.old base.entry
+        → IsLowered used (member site.now l (field_behind site.now l.kind (ident_tree field.now)))
+        site.now.first_temp before out.new found) }
 {
-    let Field { tag, place, kind } = field_behind(c, base.kind, field)?;
+    let Field { tag, place, kind } = field_behind(site, base.kind, field)?;
     let cmd = Cmd::Load {
         to: 0,
         base: slot_read(base.operand),
@@ -93,33 +91,27 @@ pub fn load<'a>(
         field: place,
         next: 0,
     };
-    let spot = Spot {
-        first_temp: c.first_temp(),
-        line,
-    };
-    let operand = out.make(spot, kind, cmd, used)?;
+    let operand = out.make(site.spot(), kind, cmd, used)?;
     Ok(Found { kind, operand })
 }
 
 /// The members behind one `->` after another.
 pub fn members<'a>(
-    c: &Context<'a>,
-    line: u32,
+    site: &Site<'_, 'a>,
     base: Found<'a>,
     first: &Ident,
     others: &[Ident],
     used: Use,
     out: &mut Output<'a>,
 ) -> Result<Found<'a>, AllocError>
-    ensures { IfOk result (λ found. (l : Lowering) → (before : Out) → IsLowered Value l c.now.first_temp before out.old base.entry
-        → IsLowered used (members (on_line c.now line) l
-        (ident_tree first.now ∷ map ident_tree others.now)) c.now.first_temp before out.new found) }
+    ensures { IfOk result (λ found. (l : Lowering) → (before : Out) → IsLowered Value l site.now.first_temp before out.old base.entry
+        → IsLowered used (members site.now l (ident_tree first.now ∷ map ident_tree others.now)) site.now.first_temp before out.new found) }
 {
     let mut current = base;
     let mut field = first;
     for next in others {
-        current = load(c, line, current, field, Use::Value, out)?;
+        current = load(site, current, field, Use::Value, out)?;
         field = next;
     }
-    load(c, line, current, field, used, out)
+    load(site, current, field, used, out)
 }

@@ -3,17 +3,25 @@ ghost use Rattle.std.specs.Prelude.{◌≡◌, ◌||◌, length, IfOk};
 ghost use Rattle.c_tree.specs.Syntax.{ident_tree, specifier_tree};
 ghost use Rattle.c_types_names.specs.Seen.{type_seen};
 ghost use Rattle.c_lower_rules.specs.Values.{is_pointer, Lowering};
-ghost use Rattle.c_lower_rules.specs.Expressions.{Arguments, arithmetic, negated, comparison, conjunction, disjunction, negation, new};
+ghost use Rattle.c_lower_rules.specs.Expressions.{negated, negation, new};
 ghost use Rattle.c_lower_emit.specs.Emitting.{Out, EmitsTested, BeginsTruth};
 ghost use Rattle.c_lower_emit.specs.declared.uses.Use.TheVariants.{Value};
-ghost use Rattle.c_lower_exprs.specs.Contexts.{on_line};
-ghost use Rattle.c_lower_exprs.specs.Lowered.{IsLowered, IsCalled, LeadsWhereHolds, LeadsWhereFails};
+ghost use Rattle.c_lower_exprs.specs.Lowered.{
+  IsLowered,
+  IsCalled,
+  IsComputed,
+  IsCompared,
+  IsBoth,
+  IsEither,
+  LeadsWhereHolds,
+  LeadsWhereFails,
+};
 
-use crate::context::Context;
 use crate::members::{Found, tag_of};
+use crate::site::Site;
 use c_lower_emit::drafts::{AS_THEY_ARE, Label, Ways};
 use c_lower_emit::output::Output;
-use c_lower_emit::uses::{Spot, Use, is_pointer};
+use c_lower_emit::uses::{Use, is_pointer};
 use c_tree::{Ident, TypeSpecifier};
 use c_types_exprs::exprs::kind_of_call;
 use c_types_names::kinds::{CType, known};
@@ -21,17 +29,6 @@ use c_types_names::objects::pointer_of;
 use shape_data::program::{ArithOp, Cmd, Operand, TestOp};
 use shape_data::{Row, copy_of};
 use std::alloc::AllocError;
-
-/// Where nodes of the line stand.
-pub fn spot(c: &Context, line: u32) -> Spot
-    ensures first_temp { result.first_temp ≡ c.now.first_temp }
-    ensures line { result.line ≡ line }
-{
-    Spot {
-        first_temp: c.first_temp(),
-        line,
-    }
-}
 
 /// Whether one of the types is that of a pointer.
 fn any_pointer(one: CType, other: CType) -> bool
@@ -42,17 +39,14 @@ fn any_pointer(one: CType, other: CType) -> bool
 
 /// What `+`, `-` or `*` makes of two values.
 pub fn arithmetic<'a>(
-    c: &Context<'a>,
-    line: u32,
+    site: &Site<'_, 'a>,
     op: ArithOp,
     left: Found<'a>,
     right: Found<'a>,
     used: Use,
     out: &mut Output<'a>,
 ) -> Result<Found<'a>, AllocError>
-    ensures { IfOk result (λ found. (l r : Lowering) → (before mid : Out) → IsLowered Value l c.now.first_temp before mid left.entry
-        → IsLowered Value r c.now.first_temp mid out.old right.entry
-        → IsLowered used (arithmetic (on_line c.now line) op l r) c.now.first_temp before out.new found) }
+    ensures { IfOk result (IsComputed used site.now op left.entry right.entry out.old out.new) }
 {
     let cmd = Cmd::Arith {
         to: 0,
@@ -61,7 +55,7 @@ pub fn arithmetic<'a>(
         right: right.operand,
         next: 0,
     };
-    let operand = out.make(spot(c, line), CType::Int, cmd, used)?;
+    let operand = out.make(site.spot(), CType::Int, cmd, used)?;
     Ok(Found {
         kind: CType::Int,
         operand,
@@ -70,14 +64,13 @@ pub fn arithmetic<'a>(
 
 /// `-` before a value.
 pub fn negated<'a>(
-    c: &Context<'a>,
-    line: u32,
+    site: &Site<'_, 'a>,
     inner: Found<'a>,
     used: Use,
     out: &mut Output<'a>,
 ) -> Result<Found<'a>, AllocError>
-    ensures { IfOk result (λ found. (l : Lowering) → (before : Out) → IsLowered Value l c.now.first_temp before out.old inner.entry
-        → IsLowered used (negated (on_line c.now line) l) c.now.first_temp before out.new found) }
+    ensures { IfOk result (λ found. (l : Lowering) → (before : Out) → IsLowered Value l site.now.first_temp before out.old inner.entry
+        → IsLowered used (negated site.now l) site.now.first_temp before out.new found) }
 {
     let cmd = Cmd::Arith {
         to: 0,
@@ -86,7 +79,7 @@ pub fn negated<'a>(
         right: inner.operand,
         next: 0,
     };
-    let operand = out.make(spot(c, line), CType::Int, cmd, used)?;
+    let operand = out.make(site.spot(), CType::Int, cmd, used)?;
     Ok(Found {
         kind: CType::Int,
         operand,
@@ -95,8 +88,7 @@ pub fn negated<'a>(
 
 /// Compares two values, behind the beginning of the test at a place, whose value goes to the slot.
 pub fn compared<'a>(
-    c: &Context<'a>,
-    line: u32,
+    site: &Site<'_, 'a>,
     op: TestOp,
     to: u32,
     from: usize,
@@ -105,12 +97,9 @@ pub fn compared<'a>(
     used: Use,
     out: &mut Output<'a>,
 ) -> Result<Found<'a>, AllocError>
-    ensures { IfOk result (λ found. (l r : Lowering) → (before start mid : Out) → BeginsTruth used c.now.first_temp before start to
-        → from ≡ length start.nodes
-        → IsLowered Value l c.now.first_temp start mid left.entry → IsLowered Value r c.now.first_temp mid out.old right.entry
-        → IsLowered used (comparison (on_line c.now line) op l r) c.now.first_temp before out.new found) }
+    ensures { IfOk result (IsCompared used site.now op to from left.entry right.entry out.old out.new) }
 {
-    let spot = spot(c, line);
+    let spot = site.spot();
     let pointers = any_pointer(left.kind, right.kind);
     out.push_branch(spot, op, pointers, left.operand, right.operand)?;
     let operand = out.end_truth(spot, to, from, used)?;
@@ -146,20 +135,15 @@ pub fn lead_where_fails(from: usize, out: &mut Output)
 
 /// What two tests give of which the second stands behind where the first holds, as [`compared`] does.
 pub fn both<'a>(
-    c: &Context<'a>,
-    line: u32,
+    site: &Site<'_, 'a>,
     to: u32,
     from: usize,
     used: Use,
     out: &mut Output<'a>,
 ) -> Result<Found<'a>, AllocError>
-    ensures { IfOk result (λ found. (l r : Lowering) → (before start one led : Out) → BeginsTruth used c.now.first_temp before start to
-        → from ≡ length start.nodes
-        → EmitsTested (l.test start.temps) c.now.first_temp start one → LeadsWhereHolds from one led
-        → EmitsTested (r.test led.temps) c.now.first_temp led out.old
-        → IsLowered used (conjunction (on_line c.now line) l r) c.now.first_temp before out.new found) }
+    ensures { IfOk result (IsBoth used site.now to from out.old out.new) }
 {
-    let operand = out.end_truth(spot(c, line), to, from, used)?;
+    let operand = out.end_truth(site.spot(), to, from, used)?;
     Ok(Found {
         kind: CType::Int,
         operand,
@@ -168,20 +152,15 @@ pub fn both<'a>(
 
 /// What two tests give of which the second stands behind where the first doesn't hold, as [`compared`] does.
 pub fn either<'a>(
-    c: &Context<'a>,
-    line: u32,
+    site: &Site<'_, 'a>,
     to: u32,
     from: usize,
     used: Use,
     out: &mut Output<'a>,
 ) -> Result<Found<'a>, AllocError>
-    ensures { IfOk result (λ found. (l r : Lowering) → (before start one led : Out) → BeginsTruth used c.now.first_temp before start to
-        → from ≡ length start.nodes
-        → EmitsTested (l.test start.temps) c.now.first_temp start one → LeadsWhereFails from one led
-        → EmitsTested (r.test led.temps) c.now.first_temp led out.old
-        → IsLowered used (disjunction (on_line c.now line) l r) c.now.first_temp before out.new found) }
+    ensures { IfOk result (IsEither used site.now to from out.old out.new) }
 {
-    let operand = out.end_truth(spot(c, line), to, from, used)?;
+    let operand = out.end_truth(site.spot(), to, from, used)?;
     Ok(Found {
         kind: CType::Int,
         operand,
@@ -190,17 +169,15 @@ pub fn either<'a>(
 
 /// `!` before a test that begins at a place, as [`compared`] does.
 pub fn negation<'a>(
-    c: &Context<'a>,
-    line: u32,
+    site: &Site<'_, 'a>,
     to: u32,
     from: usize,
     used: Use,
     out: &mut Output<'a>,
 ) -> Result<Found<'a>, AllocError>
-    ensures { IfOk result (λ found. (l : Lowering) → (before start : Out) → BeginsTruth used c.now.first_temp before start to
-        → from ≡ length start.nodes
-        → EmitsTested (l.test start.temps) c.now.first_temp start out.old
-        → IsLowered used (negation (on_line c.now line) l) c.now.first_temp before out.new found) }
+    ensures { IfOk result (λ found. (l : Lowering) → (before start : Out) → BeginsTruth used site.now.first_temp before start to
+        → from ≡ length start.nodes → EmitsTested (l.test start.temps) site.now.first_temp start out.old
+        → IsLowered used (negation site.now l) site.now.first_temp before out.new found) }
 {
     let ways = Ways {
         holds: Label::Fails,
@@ -209,7 +186,7 @@ pub fn negation<'a>(
     };
     let past = out.len();
     out.redirect(from, past, ways);
-    let operand = out.end_truth(spot(c, line), to, from, used)?;
+    let operand = out.end_truth(site.spot(), to, from, used)?;
     Ok(Found {
         kind: CType::Int,
         operand,
@@ -218,46 +195,44 @@ pub fn negation<'a>(
 
 /// Calls a procedure with the arguments, for its result.
 pub fn called<'a>(
-    c: &Context<'a>,
-    line: u32,
+    site: &Site<'_, 'a>,
     callee: &Ident,
     args: Vec<Operand>,
     used: Use,
     out: &mut Output<'a>,
 ) -> Result<Found<'a>, AllocError>
     ensures { IfOk result (λ found. (before : Out)
-        → IsCalled used (on_line c.now line) (ident_tree callee.now) args.items c.now.first_temp before out.old out.new found) }
+        → IsCalled used site.now (ident_tree callee.now) args.items site.now.first_temp before out.old out.new found) }
 {
-    let kind = known(kind_of_call(c.tables(), &callee.text));
+    let kind = known(kind_of_call(site.tables(), &callee.text));
     let cmd = Cmd::Call {
         to: None,
         callee: copy_of(&callee.text)?,
         args: Row::from_vec(args),
         next: 0,
     };
-    let operand = out.make(spot(c, line), kind, cmd, used)?;
+    let operand = out.make(site.spot(), kind, cmd, used)?;
     Ok(Found { kind, operand })
 }
 
 /// A new structure, to which a pointer of the type is wanted.
 pub fn new<'a>(
-    c: &Context<'a>,
-    line: u32,
+    site: &Site<'_, 'a>,
     wanted: CType<'a>,
     target: &'a TypeSpecifier,
     used: Use,
     out: &mut Output<'a>,
 ) -> Result<Found<'a>, AllocError>
-    ensures { IfOk result (λ found. IsLowered used
-        (new (on_line c.now line) (type_seen wanted.entry) (specifier_tree target.now)) c.now.first_temp out.old out.new found) }
+    ensures { IfOk result (λ found. IsLowered used (new site.now (type_seen wanted.entry) (specifier_tree target.now))
+        site.now.first_temp out.old out.new found) }
 {
-    let pointer = known(pointer_of(c.tables(), target));
+    let pointer = known(pointer_of(site.tables(), target));
     let cmd = Cmd::New {
         to: 0,
-        kind: tag_of(c.alloc(), pointer)?,
+        kind: tag_of(site.alloc(), pointer)?,
         next: 0,
     };
-    let operand = out.make(spot(c, line), wanted, cmd, used)?;
+    let operand = out.make(site.spot(), wanted, cmd, used)?;
     Ok(Found {
         kind: wanted,
         operand,

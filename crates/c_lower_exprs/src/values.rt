@@ -1,5 +1,5 @@
 //! Expressions (C11 6.5). The calls nest as deep as the expressions do, and as chains of operators are long.
-ghost use Rattle.std.specs.Prelude.{◌≡◌, ◌≤◌, length, take, IfOk, pos};
+ghost use Rattle.std.specs.Prelude.{◌≡◌, ◌≤◌, length, take, IfOk};
 ghost use Rattle.shape_data.specs.declared.program.Operand.TheVariants.{Num};
 ghost use Rattle.shape_data.specs.declared.program.Ty.TheVariants.{Int};
 ghost use Rattle.c_tree.specs.Syntax.{expr_tree, links_tree, args_tree, binary_tree, prefix_tree};
@@ -7,16 +7,15 @@ ghost use Rattle.c_lower_rules.specs.Contexts.{Context as ContextValue};
 ghost use Rattle.c_lower_rules.specs.Values.{Lowering, at_hand};
 ghost use Rattle.c_lower_rules.specs.Expressions.{lowering, prefix, chain, binary, lowerings, arguments, no_arguments};
 ghost use Rattle.c_lower_rules.specs.Numbers.{HasIntNumbers, HaveIntNumbers, AllHaveIntNumbers};
-ghost use Rattle.c_lower_exprs.specs.Contexts.{on_line};
 ghost use Rattle.c_lower_exprs.specs.Lowered.{IsLowered, EmitsArguments};
 ghost use Rattle.c_lower_exprs.specs.Operators.{binary_of};
 
-use crate::context::Context;
 use crate::members::{Found, members};
 use crate::operators::{
     arithmetic, both, called, compared, either, lead_where_fails, lead_where_holds, negated,
-    negation, new, spot,
+    negation, new,
 };
+use crate::site::Site;
 use c_lower_emit::output::Output;
 use c_lower_emit::uses::Use;
 use c_tree::{BinaryOp, Expr, Link, PrefixOp};
@@ -57,59 +56,57 @@ fn what_it_does(op: BinaryOp) -> Operation
     }
 }
 
-/// An expression in a use, as code whose nodes have the line.
+/// An expression in a use, as code whose nodes have the site's line.
 #[cycle(values)]
 pub fn lower<'a>(
-    c: &Context<'a>,
-    line: u32,
+    site: &Site<'_, 'a>,
     expr: &'a Expr,
     used: Use,
     out: &mut Output<'a>,
 ) -> Result<Found<'a>, AllocError>
     ensures { IfOk result (λ found. HasIntNumbers (expr_tree expr.now)
-        → IsLowered used (lowering (on_line c.now line) (expr_tree expr.now)) c.now.first_temp out.old out.new found) }
+        → IsLowered used (lowering site.now (expr_tree expr.now)) site.now.first_temp out.old out.new found) }
 {
     match expr {
-        Expr::Chain(first, others) => chain(c, line, first, others, others.len(), used, out),
-        Expr::Prefix(_, op, inner) => prefix(c, line, *op, inner, used, out),
+        Expr::Chain(first, others) => chain(site, first, others, others.len(), used, out),
+        Expr::Prefix(_, op, inner) => prefix(site, *op, inner, used, out),
         Expr::Members(base, first, others) => {
-            let base = lower(c, line, base, Use::Value, out)?;
-            members(c, line, base, first, others.as_slice(), used, out)
+            let base = lower(site, base, Use::Value, out)?;
+            members(site, base, first, others.as_slice(), used, out)
         }
         Expr::Variable(name) => {
-            let kind = c.kind_of(&name.text);
-            let slot = Operand::Slot(c.slot_of(&name.text));
-            let operand = out.at_hand(spot(c, line), kind, slot, used)?;
+            let kind = site.kind_of(&name.text);
+            let slot = Operand::Slot(site.slot_of(&name.text));
+            let operand = out.at_hand(site.spot(), kind, slot, used)?;
             Ok(Found { kind, operand })
         }
         Expr::Number(_, value) => {
             let value = i32::try_from(*value).unwrap_or(i32::MAX);
-            number(c, line, value, used, out)
+            number(site, value, used, out)
         }
-        Expr::Null(_) => number(c, line, 0, used, out),
-        Expr::Paren(_, inner) => lower(c, line, inner, used, out),
+        Expr::Null(_) => number(site, 0, used, out),
+        Expr::Paren(_, inner) => lower(site, inner, used, out),
         Expr::Call(callee, args) => {
-            let operands = values(c, line, args, out)?;
-            called(c, line, callee, operands, used, out)
+            let operands = values(site, args, out)?;
+            called(site, callee, operands, used, out)
         }
         Expr::Malloc(_, types) => {
-            let pointer = known(pointer_of(c.tables(), &types.target));
-            new(c, line, pointer, &types.target, used, out)
+            let pointer = known(pointer_of(site.tables(), &types.target));
+            new(site, pointer, &types.target, used, out)
         }
     }
 }
 
 /// A number.
 fn number<'a>(
-    c: &Context<'a>,
-    line: u32,
+    site: &Site<'_, 'a>,
     value: i32,
     used: Use,
     out: &mut Output<'a>,
 ) -> Result<Found<'a>, AllocError>
-    ensures { IfOk result (λ found. IsLowered used (at_hand (on_line c.now line) Int (Num value)) c.now.first_temp out.old out.new found) }
+    ensures { IfOk result (λ found. IsLowered used (at_hand site.now Int (Num value)) site.now.first_temp out.old out.new found) }
 {
-    let operand = out.at_hand(spot(c, line), CType::Int, Operand::Num(value), used)?;
+    let operand = out.at_hand(site.spot(), CType::Int, Operand::Num(value), used)?;
     Ok(Found {
         kind: CType::Int,
         operand,
@@ -119,27 +116,26 @@ fn number<'a>(
 /// A prefix operator and its operand.
 #[cycle(values)]
 fn prefix<'a>(
-    c: &Context<'a>,
-    line: u32,
+    site: &Site<'_, 'a>,
     op: PrefixOp,
     inner: &'a Box<Expr>,
     used: Use,
     out: &mut Output<'a>,
 ) -> Result<Found<'a>, AllocError>
     ensures { IfOk result (λ found. HasIntNumbers (expr_tree inner.now.value)
-        → IsLowered used (prefix (on_line c.now line) (prefix_tree op)
-        (lowering (on_line c.now line) (expr_tree inner.now.value))) c.now.first_temp out.old out.new found) }
+        → IsLowered used (prefix site.now (prefix_tree op) (lowering site.now (expr_tree inner.now.value)))
+        site.now.first_temp out.old out.new found) }
 {
     match op {
         PrefixOp::Negate => {
-            let found = lower(c, line, inner, Use::Value, out)?;
-            negated(c, line, found, used, out)
+            let found = lower(site, inner, Use::Value, out)?;
+            negated(site, found, used, out)
         }
         PrefixOp::Not => {
-            let to = out.begin_truth(spot(c, line), used)?;
+            let to = out.begin_truth(site.spot(), used)?;
             let from = out.len();
-            lower(c, line, inner, Use::Test, out)?;
-            negation(c, line, to, from, used, out)
+            lower(site, inner, Use::Test, out)?;
+            negation(site, to, from, used, out)
         }
     }
 }
@@ -147,8 +143,7 @@ fn prefix<'a>(
 /// The first operands of a chain, so many behind the first one.
 #[cycle(values)]
 fn chain<'a>(
-    c: &Context<'a>,
-    line: u32,
+    site: &Site<'_, 'a>,
     first: &'a Box<Expr>,
     links: &'a Vec<Link>,
     count: usize,
@@ -157,41 +152,41 @@ fn chain<'a>(
 ) -> Result<Found<'a>, AllocError>
     requires { count ≤ length links.now.items }
     ensures { IfOk result (λ found. HasIntNumbers (expr_tree first.now.value) → HaveIntNumbers (links_tree links.now.items)
-        → IsLowered used (chain (on_line c.now line) (lowering (on_line c.now line) (expr_tree first.now.value))
-        (links_tree (take count links.now.items))) c.now.first_temp out.old out.new found) }
+        → IsLowered used (chain site.now (lowering site.now (expr_tree first.now.value)) (links_tree (take count links.now.items)))
+        site.now.first_temp out.old out.new found) }
 {
     if count == 0 {
-        return lower(c, line, first, used, out);
+        return lower(site, first, used, out);
     }
     let last = count - 1;
     match what_it_does(links[last].op) {
         Operation::Arith(op) => {
-            let left = chain(c, line, first, links, last, Use::Value, out)?;
-            let right = lower(c, line, &links[last].operand, Use::Value, out)?;
-            arithmetic(c, line, op, left, right, used, out)
+            let left = chain(site, first, links, last, Use::Value, out)?;
+            let right = lower(site, &links[last].operand, Use::Value, out)?;
+            arithmetic(site, op, left, right, used, out)
         }
         Operation::Compare(op) => {
-            let to = out.begin_truth(spot(c, line), used)?;
+            let to = out.begin_truth(site.spot(), used)?;
             let from = out.len();
-            let left = chain(c, line, first, links, last, Use::Value, out)?;
-            let right = lower(c, line, &links[last].operand, Use::Value, out)?;
-            compared(c, line, op, to, from, left, right, used, out)
+            let left = chain(site, first, links, last, Use::Value, out)?;
+            let right = lower(site, &links[last].operand, Use::Value, out)?;
+            compared(site, op, to, from, left, right, used, out)
         }
         Operation::Both => {
-            let to = out.begin_truth(spot(c, line), used)?;
+            let to = out.begin_truth(site.spot(), used)?;
             let from = out.len();
-            chain(c, line, first, links, last, Use::Test, out)?;
+            chain(site, first, links, last, Use::Test, out)?;
             lead_where_holds(from, out);
-            lower(c, line, &links[last].operand, Use::Test, out)?;
-            both(c, line, to, from, used, out)
+            lower(site, &links[last].operand, Use::Test, out)?;
+            both(site, to, from, used, out)
         }
         Operation::Either => {
-            let to = out.begin_truth(spot(c, line), used)?;
+            let to = out.begin_truth(site.spot(), used)?;
             let from = out.len();
-            chain(c, line, first, links, last, Use::Test, out)?;
+            chain(site, first, links, last, Use::Test, out)?;
             lead_where_fails(from, out);
-            lower(c, line, &links[last].operand, Use::Test, out)?;
-            either(c, line, to, from, used, out)
+            lower(site, &links[last].operand, Use::Test, out)?;
+            either(site, to, from, used, out)
         }
     }
 }
@@ -199,18 +194,17 @@ fn chain<'a>(
 /// The values of arguments, from the left.
 #[cycle(values)]
 pub fn values<'a>(
-    c: &Context<'a>,
-    line: u32,
+    site: &Site<'_, 'a>,
     args: &'a Vec<Expr>,
     out: &mut Output<'a>,
 ) -> Result<Vec<Operand>, AllocError>
     ensures { IfOk result (λ operands. AllHaveIntNumbers (args_tree args.now.items)
-        → EmitsArguments (arguments (no_arguments out.old.temps)
-        (lowerings (on_line c.now line) (args_tree args.now.items))) c.now.first_temp out.old out.new operands.items) }
+        → EmitsArguments (arguments (no_arguments out.old.temps) (lowerings site.now (args_tree args.now.items)))
+        site.now.first_temp out.old out.new operands.items) }
 {
-    let mut operands = Vec::new(c.alloc());
+    let mut operands = Vec::new(site.alloc());
     for arg in args {
-        let found = lower(c, line, arg, Use::Value, out)?;
+        let found = lower(site, arg, Use::Value, out)?;
         operands.push(found.operand)?;
     }
     Ok(operands)

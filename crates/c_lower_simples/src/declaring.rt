@@ -1,25 +1,23 @@
 //! Declarations of locals (C11 6.7, 6.7.9).
-ghost use Rattle.std.specs.Prelude.{◌≡◌, ◌++◌, ◌∷◌, [], List, ℕ, map, option_map, length, OnOk, IfOk, IfSome};
+ghost use Rattle.std.specs.Prelude.{◌≡◌, option_map, length, OnOk, IfOk, IfSome};
 ghost use Rattle.shape_data.specs.declared.program.Cmd.TheVariants as cmd;
-ghost use Rattle.c_grammar.specs.Trees as tree;
-ghost use Rattle.c_grammar.specs.Readers.{place_of_specifier};
 ghost use Rattle.c_grammar.specs.FirstPlaces.{place_of_local};
 ghost use Rattle.c_tree.specs.Syntax.{expr_tree, specifier_tree, initialized_tree, local_tree};
 ghost use Rattle.c_types_names.specs.Seen.{type_seen};
 ghost use Rattle.c_lower_rules.specs.Code.{command};
-ghost use Rattle.c_lower_rules.specs.Contexts.{Context as ContextValue};
 ghost use Rattle.c_lower_rules.specs.Statements as statements;
 ghost use Rattle.c_lower_rules.specs.Numbers.{HasIntNumbers, InitializedHasIntNumbers, LocalHasIntNumbers};
 ghost use Rattle.c_lower_emit.specs.declared.drafts.Label.TheVariants.{At};
-ghost use Rattle.c_lower_emit.specs.Emitting.{Out, EmitsCode};
-ghost use Rattle.c_lower_exprs.specs.Contexts.{on_line, IsWithin};
+ghost use Rattle.c_lower_emit.specs.Emitting.{EmitsCode};
+ghost use Rattle.c_lower_exprs.specs.Contexts.{IsWithin};
 ghost use Rattle.c_lower_simples.specs.Simples.{EmitsPiece};
-ghost use Rattle.c_lower_simples.specs.Declaring.{state, Declares};
+ghost use Rattle.c_lower_simples.specs.Declaring.{state, Declares, DeclaresMore};
 
 use c_lower_emit::drafts::Label;
 use c_lower_emit::output::Output;
 use c_lower_emit::uses::Use;
 use c_lower_exprs::context::Context;
+use c_lower_exprs::site::Site;
 use c_lower_exprs::values::lower;
 use c_tree::places::place_of_specifier;
 use c_tree::{Expr, Initialized, Local, Place, TypeSpecifier};
@@ -29,35 +27,39 @@ use shape_data::program::Cmd;
 use std::alloc::AllocError;
 
 /// The slot holds any value of the type.
-fn any<'a>(line: u32, to: u32, kind: CType<'a>, out: &mut Output<'a>) -> Result<(), AllocError>
-    ensures { OnOk result (EmitsCode (command line (cmd.Any to (type_seen kind.entry))) out.old.temps
-        (At (length out.old.nodes)) out.old out.new) }
+fn any<'a>(
+    site: &Site<'_, 'a>,
+    to: u32,
+    kind: CType<'a>,
+    out: &mut Output<'a>,
+) -> Result<(), AllocError>
+    ensures { OnOk result
+        (EmitsCode (command site.now.line (cmd.Any to (type_seen kind.entry))) out.old.temps (At (length out.old.nodes)) out.old out.new) }
 {
     let any = Cmd::Any {
         to,
         ty: type_of(kind)?,
         next: 0,
     };
-    out.push(line, any, Label::Next, Label::Next)
+    out.push(site.line(), any, Label::Next, Label::Next)
 }
 
 /// What a local in the slot begins with.
 fn initial<'a>(
-    c: &Context<'a>,
-    line: u32,
+    site: &Site<'_, 'a>,
     to: u32,
     kind: CType<'a>,
     value: &'a Option<Expr>,
     out: &mut Output<'a>,
 ) -> Result<(), AllocError>
     ensures { OnOk result (IfSome (option_map expr_tree value.now) HasIntNumbers
-        → EmitsPiece (statements.initial (on_line c.now line) to (type_seen kind.entry)
-        (option_map expr_tree value.now)) c.now.first_temp out.old out.new) }
+        → EmitsPiece (statements.initial site.now to (type_seen kind.entry) (option_map expr_tree value.now))
+        site.now.first_temp out.old out.new) }
 {
     match value {
-        None => any(line, to, kind, out),
+        None => any(site, to, kind, out),
         Some(value) => {
-            lower(c, line, value, Use::Into(to), out)?;
+            lower(site, value, Use::Into(to), out)?;
             Ok(())
         }
     }
@@ -74,13 +76,13 @@ fn local<'a>(
 ) -> Result<u32, AllocError>
     ensures within { OnOk result (IsWithin c.old c.new) }
     ensures declared { IfOk result (λ then. InitializedHasIntNumbers (initialized_tree one.now)
-        → Declares (statements.local (specifier_tree specifier.now) (initialized_tree one.now)
-        (state c.old line locals out.old)) c.old line locals c.new then out.old out.new) }
+        → Declares (statements.local (specifier_tree specifier.now) (initialized_tree one.now) (state c.old line locals out.old))
+        c.old line locals c.new then out.old out.new) }
 {
     let kind = object_kind(c.tables(), specifier, one.declarator.stars);
     let to = c.first_local().saturating_add(locals);
     c.add_local(&one.declarator.name.text, kind, to)?;
-    initial(c, line, to, known(kind), &one.value, out)?;
+    initial(&Site::on(c, line), to, known(kind), &one.value, out)?;
     Ok(locals.saturating_add(1))
 }
 
@@ -96,11 +98,7 @@ fn local_behind<'a>(
 ) -> Result<u32, AllocError>
     ensures within { OnOk result (IsWithin c.old c.new) }
     ensures declared { IfOk result (λ then. InitializedHasIntNumbers (initialized_tree one.now)
-        → (done : List tree.Initialized) → (first : ContextValue) → (count : ℕ) → (old : Out) → start ≡ length old.nodes
-        → Declares (statements.locals (specifier_tree specifier.now) done
-        (state first line count old)) first line count c.old locals old out.old
-        → Declares (statements.locals (specifier_tree specifier.now) (done ++ initialized_tree one.now ∷ [])
-        (state first line count old)) first line count c.new then old out.new) }
+        → DeclaresMore (specifier_tree specifier.now) (initialized_tree one.now) start line c.old locals c.new then out.old out.new) }
 {
     let past = out.len();
     let begin = Label::At(out.here());
@@ -119,8 +117,8 @@ pub fn declaration<'a>(
 ) -> Result<u32, AllocError>
     ensures within { OnOk result (IsWithin c.old c.new) }
     ensures declared { IfOk result (λ then. LocalHasIntNumbers (local_tree one.now)
-        → Declares (statements.declaration (local_tree one.now)
-        (state c.old line locals out.old)) c.old line locals c.new then out.old out.new) }
+        → Declares (statements.declaration (local_tree one.now) (state c.old line locals out.old))
+        c.old line locals c.new then out.old out.new) }
 {
     let start = out.len();
     let mut count = local(c, line, locals, &one.specifier, &one.first, out)?;

@@ -1,5 +1,5 @@
 //! Commands that give no value: stores, calls and frees.
-ghost use Rattle.std.specs.Prelude.{◌≡◌, ◌+◌, length, OnOk, IfOk, Option, None, pos};
+ghost use Rattle.std.specs.Prelude.{◌+◌, length, OnOk, None, pos};
 ghost use Rattle.shape_data.specs.declared.program.Cmd.TheVariants as cmd;
 ghost use Rattle.shape_data.specs.declared.program.Operand.TheVariants.{Num};
 ghost use Rattle.shape_data.specs.declared.program.Ty.TheVariants.{Int};
@@ -14,8 +14,8 @@ ghost use Rattle.c_lower_emit.specs.Emitting.{HasRoom, EmitsCode};
 
 use c_lower_emit::drafts::Label;
 use c_lower_emit::output::Output;
-use c_lower_exprs::context::Context;
 use c_lower_exprs::members::{Field, Found, field_behind, slot_read, tag_of};
+use c_lower_exprs::site::Site;
 use c_tree::Ident;
 use c_types_names::kinds::CType;
 use shape_data::program::{Cmd, Operand};
@@ -24,19 +24,18 @@ use std::alloc::AllocError;
 
 /// Puts the operand into a field of what a value points to.
 pub fn store<'a>(
-    c: &Context<'a>,
-    line: u32,
+    site: &Site<'_, 'a>,
     base: Found<'a>,
     name: &Ident,
     from: Operand,
     out: &mut Output<'a>,
 ) -> Result<(), AllocError>
-    ensures { OnOk result (EmitsCode
-        (command line (cmd.Store (slot_read base.entry.operand) (field_behind c.now (type_seen base.entry.kind) (ident_tree name.now)).tag
-        (field_behind c.now (type_seen base.entry.kind) (ident_tree name.now)).place from))
+    ensures { OnOk result (EmitsCode (command site.now.line
+        (cmd.Store (slot_read base.entry.operand) (field_behind site.now (type_seen base.entry.kind) (ident_tree name.now)).tag
+        (field_behind site.now (type_seen base.entry.kind) (ident_tree name.now)).place from))
         out.old.temps (At (length out.old.nodes)) out.old out.new) }
 {
-    let Field { tag, place, .. } = field_behind(c, base.kind, name)?;
+    let Field { tag, place, .. } = field_behind(site, base.kind, name)?;
     let store = Cmd::Store {
         base: slot_read(base.operand),
         kind: tag,
@@ -44,18 +43,19 @@ pub fn store<'a>(
         from,
         next: 0,
     };
-    out.push(line, store, Label::Next, Label::Next)
+    out.push(site.line(), store, Label::Next, Label::Next)
 }
 
 /// Calls a procedure with the arguments, and drops its result.
 pub fn call<'a>(
-    line: u32,
+    site: &Site<'_, 'a>,
     callee: &Ident,
     args: Vec<Operand>,
     out: &mut Output<'a>,
 ) -> Result<(), AllocError>
-    ensures { OnOk result (EmitsCode (command line (cmd.Call None callee.now.text args.items)) out.old.temps
-        (At (length out.old.nodes)) out.old out.new) }
+    ensures { OnOk result
+        (EmitsCode (command site.now.line (cmd.Call None callee.now.text args.items)) out.old.temps (At (length out.old.nodes))
+        out.old out.new) }
 {
     let call = Cmd::Call {
         to: None,
@@ -63,39 +63,39 @@ pub fn call<'a>(
         args: Row::from_vec(args),
         next: 0,
     };
-    out.push(line, call, Label::Next, Label::Next)
+    out.push(site.line(), call, Label::Next, Label::Next)
 }
 
 /// Frees what a slot of the type points to.
 pub fn free<'a>(
-    c: &Context<'a>,
-    line: u32,
+    site: &Site<'_, 'a>,
     slot: u32,
     kind: CType<'a>,
     out: &mut Output<'a>,
 ) -> Result<(), AllocError>
-    ensures { OnOk result (EmitsCode (command line (cmd.Free slot (tag_of (type_seen kind.entry)))) out.old.temps
-        (At (length out.old.nodes)) out.old out.new) }
+    ensures { OnOk result
+        (EmitsCode (command site.now.line (cmd.Free slot (tag_of (type_seen kind.entry)))) out.old.temps (At (length out.old.nodes))
+        out.old out.new) }
 {
     let free = Cmd::Free {
         base: slot,
-        kind: tag_of(c.alloc(), kind)?,
+        kind: tag_of(site.alloc(), kind)?,
         next: 0,
     };
-    out.push(line, free, Label::Next, Label::Next)
+    out.push(site.line(), free, Label::Next, Label::Next)
 }
 
 /// Puts 0 into an int temporary.
-pub fn zero<'a>(c: &Context<'a>, line: u32, out: &mut Output<'a>) -> Result<(), AllocError>
-    ensures { OnOk result (HasRoom c.now.first_temp 1 out.old
-        → EmitsCode (command line (cmd.Copy (c.now.first_temp + (take_temp Int out.old.temps).place) (Num (pos 0))))
+pub fn zero<'a>(site: &Site<'_, 'a>, out: &mut Output<'a>) -> Result<(), AllocError>
+    ensures { OnOk result (HasRoom site.now.first_temp 1 out.old
+        → EmitsCode (command site.now.line (cmd.Copy (site.now.first_temp + (take_temp Int out.old.temps).place) (Num (pos 0))))
         (take_temp Int out.old.temps).temps (At (length out.old.nodes)) out.old out.new) }
 {
     let place = out.take(CType::Int)?;
     let copy = Cmd::Copy {
-        to: c.first_temp().saturating_add(place),
+        to: site.first_temp().saturating_add(place),
         from: Operand::Num(0),
         next: 0,
     };
-    out.push(line, copy, Label::Next, Label::Next)
+    out.push(site.line(), copy, Label::Next, Label::Next)
 }

@@ -1,17 +1,13 @@
 //! `+=` and the like, `++` and `--` (C11 6.5.2.4, 6.5.16.2).
-ghost use Rattle.std.specs.Prelude.{◌≡◌, true, false, map, length, OnOk, IfOk};
-ghost use Rattle.shape_data.specs.declared.program.Operand.TheVariants.{Slot};
-ghost use Rattle.shape_data.specs.declared.program.Ty.TheVariants.{Int};
+ghost use Rattle.std.specs.Prelude.{◌≡◌, true, false, map, OnOk, IfOk};
 ghost use Rattle.c_tree.specs.Syntax.{ident_tree, expr_tree};
 ghost use Rattle.c_types_names.specs.Seen.{type_seen};
-ghost use Rattle.c_lower_rules.specs.Values.{at_hand};
 ghost use Rattle.c_lower_rules.specs.Expressions.{arithmetic, field_behind, lowering};
 ghost use Rattle.c_lower_rules.specs.Statements as statements;
 ghost use Rattle.c_lower_rules.specs.Statements.{field_at_hand, is_call, member_target, update};
 ghost use Rattle.c_lower_rules.specs.Numbers.{HasIntNumbers};
 ghost use Rattle.c_lower_emit.specs.declared.uses.Use.TheVariants.{Value};
 ghost use Rattle.c_lower_emit.specs.Emitting.{Out};
-ghost use Rattle.c_lower_exprs.specs.Contexts.{on_line};
 ghost use Rattle.c_lower_exprs.specs.Lowered.{IsLowered};
 ghost use Rattle.c_lower_simples.specs.Amounts.{amount, amount_is_call, AmountHasIntNumbers};
 ghost use Rattle.c_lower_simples.specs.Simples.{EmitsPiece};
@@ -21,9 +17,9 @@ use crate::storing::store;
 use crate::targets::{Pointer, lower_pointer};
 use c_lower_emit::output::Output;
 use c_lower_emit::uses::Use;
-use c_lower_exprs::context::Context;
 use c_lower_exprs::members::{Found, load};
 use c_lower_exprs::operators::arithmetic;
+use c_lower_exprs::site::Site;
 use c_lower_exprs::values::lower;
 use c_tree::{Expr, Ident};
 use c_types_names::kinds::CType;
@@ -68,107 +64,100 @@ fn amount_is_call(by: Amount) -> bool
 
 /// The value of the amount.
 fn lower_amount<'a>(
-    c: &Context<'a>,
-    line: u32,
+    site: &Site<'_, 'a>,
     by: Amount<'a>,
     out: &mut Output<'a>,
 ) -> Result<Found<'a>, AllocError>
     ensures { IfOk result (λ found. AmountHasIntNumbers by.entry
-        → IsLowered Value (amount (on_line c.now line) by.entry) c.now.first_temp out.old out.new found) }
+        → IsLowered Value (amount site.now by.entry) site.now.first_temp out.old out.new found) }
 {
     match by {
         Amount::One => Ok(Found {
             kind: CType::Int,
             operand: Operand::Num(1),
         }),
-        Amount::Of(value) => lower(c, line, value, Use::Value, out),
+        Amount::Of(value) => lower(site, value, Use::Value, out),
     }
 }
 
 /// Computes with a variable, and puts the value into it.
 pub fn update_variable<'a>(
-    c: &Context<'a>,
-    line: u32,
+    site: &Site<'_, 'a>,
     to: u32,
     op: ArithOp,
     by: Amount<'a>,
     out: &mut Output<'a>,
 ) -> Result<(), AllocError>
     ensures { OnOk result (AmountHasIntNumbers by.entry
-        → EmitsPiece (update (on_line c.now line) (statements.Target.Variable to) op (amount_is_call by.entry)
-        (amount (on_line c.now line) by.entry)) c.now.first_temp out.old out.new) }
+        → EmitsPiece (update site.now (statements.Target.Variable to) op (amount_is_call by.entry) (amount site.now by.entry))
+        site.now.first_temp out.old out.new) }
 {
     let left = Found {
         kind: CType::Int,
         operand: Operand::Slot(to),
     };
-    let by = lower_amount(c, line, by, out)?;
-    arithmetic(c, line, op, left, by, Use::Into(to), out)?;
+    let by = lower_amount(site, by, out)?;
+    arithmetic(site, op, left, by, Use::Into(to), out)?;
     Ok(())
 }
 
 /// Computes with a field of what was emitted as a pointer.
 fn computed<'a>(
-    c: &Context<'a>,
-    line: u32,
+    site: &Site<'_, 'a>,
     pointer: Pointer<'a>,
     op: ArithOp,
     by: Amount<'a>,
     out: &mut Output<'a>,
 ) -> Result<Found<'a>, AllocError>
     ensures { IfOk result (λ found. AmountHasIntNumbers by.entry
-        → IsLowered Value (arithmetic (on_line c.now line) op
-        (field_at_hand (on_line c.now line) (field_behind (on_line c.now line) (type_seen pointer.entry.base.kind)
-        (ident_tree pointer.entry.field.now)) pointer.entry.base.operand)
-        (amount (on_line c.now line) by.entry)) c.now.first_temp out.old out.new found) }
+        → IsLowered Value (arithmetic site.now op
+        (field_at_hand site.now (field_behind site.now (type_seen pointer.entry.base.kind) (ident_tree pointer.entry.field.now))
+        pointer.entry.base.operand)
+        (amount site.now by.entry))
+        site.now.first_temp out.old out.new found) }
 {
-    let field = load(c, line, pointer.base, pointer.field, Use::Value, out)?;
-    let by = lower_amount(c, line, by, out)?;
-    arithmetic(c, line, op, field, by, Use::Value, out)
+    let field = load(site, pointer.base, pointer.field, Use::Value, out)?;
+    let by = lower_amount(site, by, out)?;
+    arithmetic(site, op, field, by, Use::Value, out)
 }
 
 /// Computes with a field of what was emitted as a pointer, and puts the value into it.
 fn update_field<'a>(
-    c: &Context<'a>,
-    line: u32,
+    site: &Site<'_, 'a>,
     pointer: Pointer<'a>,
     op: ArithOp,
     by: Amount<'a>,
     out: &mut Output<'a>,
 ) -> Result<(), AllocError>
     ensures { OnOk result (AmountHasIntNumbers by.entry → amount_is_call by.entry ≡ false → (to : statements.Target) → (before : Out)
-        → IsPointer (on_line c.now line) to c.now.first_temp before out.old pointer.entry
-        → EmitsPiece (update (on_line c.now line) to op (amount_is_call by.entry)
-        (amount (on_line c.now line) by.entry)) c.now.first_temp before out.new) }
+        → IsPointer site.now to site.now.first_temp before out.old pointer.entry
+        → EmitsPiece (update site.now to op (amount_is_call by.entry) (amount site.now by.entry)) site.now.first_temp before out.new) }
 {
-    let value = computed(c, line, pointer, op, by, out)?;
-    store(c, line, pointer.base, pointer.field, value.operand, out)
+    let value = computed(site, pointer, op, by, out)?;
+    store(site, pointer.base, pointer.field, value.operand, out)
 }
 
 /// The same with a call, which comes before the field is loaded.
 fn update_field_by_call<'a>(
-    c: &Context<'a>,
-    line: u32,
+    site: &Site<'_, 'a>,
     pointer: Pointer<'a>,
     op: ArithOp,
     by: Amount<'a>,
     out: &mut Output<'a>,
 ) -> Result<(), AllocError>
     ensures { OnOk result (AmountHasIntNumbers by.entry → amount_is_call by.entry ≡ true → (to : statements.Target) → (before : Out)
-        → IsPointer (on_line c.now line) to c.now.first_temp before out.old pointer.entry
-        → EmitsPiece (update (on_line c.now line) to op (amount_is_call by.entry)
-        (amount (on_line c.now line) by.entry)) c.now.first_temp before out.new) }
+        → IsPointer site.now to site.now.first_temp before out.old pointer.entry
+        → EmitsPiece (update site.now to op (amount_is_call by.entry) (amount site.now by.entry)) site.now.first_temp before out.new) }
 {
-    let called = lower_amount(c, line, by, out)?;
-    let field = load(c, line, pointer.base, pointer.field, Use::Value, out)?;
-    let value = arithmetic(c, line, op, field, called, Use::Value, out)?;
-    store(c, line, pointer.base, pointer.field, value.operand, out)
+    let called = lower_amount(site, by, out)?;
+    let field = load(site, pointer.base, pointer.field, Use::Value, out)?;
+    let value = arithmetic(site, op, field, called, Use::Value, out)?;
+    store(site, pointer.base, pointer.field, value.operand, out)
 }
 
 /// Computes with a member, and puts the value into it. The pointer before `->` is evaluated once.
 pub fn update_member<'a>(
-    c: &Context<'a>,
-    line: u32,
+    site: &Site<'_, 'a>,
     base: &'a Box<Expr>,
     first: &'a Ident,
     others: &'a Vec<Ident>,
@@ -177,15 +166,16 @@ pub fn update_member<'a>(
     out: &mut Output<'a>,
 ) -> Result<(), AllocError>
     ensures { OnOk result (HasIntNumbers (expr_tree base.now.value) → AmountHasIntNumbers by.entry
-        → EmitsPiece (update (on_line c.now line)
-        (member_target (on_line c.now line) (lowering (on_line c.now line) (expr_tree base.now.value)) (ident_tree first.now)
+        → EmitsPiece (update site.now
+        (member_target site.now (lowering site.now (expr_tree base.now.value)) (ident_tree first.now)
         (map ident_tree others.now.items))
-        op (amount_is_call by.entry) (amount (on_line c.now line) by.entry)) c.now.first_temp out.old out.new) }
+        op (amount_is_call by.entry) (amount site.now by.entry))
+        site.now.first_temp out.old out.new) }
 {
-    let pointer = lower_pointer(c, line, base, first, others, out)?;
+    let pointer = lower_pointer(site, base, first, others, out)?;
     if amount_is_call(by) {
-        update_field_by_call(c, line, pointer, op, by, out)
+        update_field_by_call(site, pointer, op, by, out)
     } else {
-        update_field(c, line, pointer, op, by, out)
+        update_field(site, pointer, op, by, out)
     }
 }

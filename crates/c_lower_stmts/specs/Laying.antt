@@ -34,6 +34,7 @@ EmitsLowered l c locals after laid old new = HasRoom c.first_temp l.code.size ol
 abbrev pub EmitsWithin : Lowered → Context → ℕ → Laid → Out → Out → Type 0
 EmitsWithin l c locals laid old new = HasRoom c.first_temp l.code.size old → HasSlots c locals l.code.size → LaysCode l locals laid old new
 
--- a statement whose numbers are ints was emitted, whatever line it stands on
+-- a statement whose numbers are ints was emitted, whatever line the context has
 abbrev pub EmitsStmt : Stmt → Context → ℕ → Context → Laid → Out → Out → Type 0
-EmitsStmt one c locals after laid old new = StmtHasIntNumbers one → (line : ℕ) → EmitsLowered (stmt one (state (on_line c line) locals old)) c locals after laid old new
+EmitsStmt one c locals after laid old new =
+    StmtHasIntNumbers one → (line : ℕ) → EmitsLowered (stmt one (state (on_line c line) locals old)) c locals after laid old new

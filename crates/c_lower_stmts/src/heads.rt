@@ -1,5 +1,5 @@
-//! What stands at the head of statements, the tests of branches and loops and the parts of a `for`, and the statements that hold no others.
-ghost use Rattle.std.specs.Prelude.{◌≡◌, ℕ, None, Some, IfSome, OnOk, IfOk, option_map};
+//! Statements that hold no others, and the heads of those that do: the tests of branches and loops, and the parts of a `for`.
+ghost use Rattle.std.specs.Prelude.{ℕ, None, Some, IfSome, OnOk, IfOk, option_map};
 ghost use Rattle.c_tree.specs.Syntax.{expr_tree, simple_tree, for_step_tree, local_tree, init_tree};
 ghost use Rattle.c_lower_rules.specs.Statements.{
   condition,
@@ -23,7 +23,7 @@ use c_lower_emit::drafts::Label;
 use c_lower_emit::output::Output;
 use c_lower_emit::uses::Use;
 use c_lower_exprs::context::Context;
-use c_lower_exprs::operators::spot;
+use c_lower_exprs::site::Site;
 use c_lower_simples::declaring::declaration;
 use c_lower_simples::simples::place_of_simple;
 use c_tree::places::place_of_expr;
@@ -37,7 +37,7 @@ pub fn tested<'a>(c: &Context<'a>, expr: &'a Expr, out: &mut Output<'a>) -> Resu
     ensures { OnOk result (HasIntNumbers (expr_tree expr.now) → (line locals : ℕ)
         → EmitsTested (condition (state (on_line c.now line) locals out.old) (expr_tree expr.now)) c.now.first_temp out.old out.new) }
 {
-    condition(c, c.line_of(place_of_expr(expr)), expr, out)
+    condition(&Site::at(c, place_of_expr(expr)), expr, out)
 }
 
 /// The test that always holds, whose nodes have the line of the place.
@@ -45,9 +45,9 @@ fn forever<'a>(c: &Context<'a>, place: Place, out: &mut Output<'a>) -> Result<()
     ensures { OnOk result ((line locals : ℕ)
         → EmitsTested (for_condition (state (on_line c.now line) locals out.old) place None) c.now.first_temp out.old out.new) }
 {
-    let spot = spot(c, c.line_of(place));
+    let site = Site::at(c, place);
     out.release();
-    out.at_hand(spot, CType::Int, Operand::Num(1), Use::Test)?;
+    out.at_hand(site.spot(), CType::Int, Operand::Num(1), Use::Test)?;
     Ok(())
 }
 
@@ -59,8 +59,8 @@ pub fn tested_for<'a>(
     out: &mut Output<'a>,
 ) -> Result<(), AllocError>
     ensures { OnOk result (IfSome (option_map expr_tree expr.now) HasIntNumbers → (line locals : ℕ)
-        → EmitsTested (for_condition (state (on_line c.now line) locals out.old) place
-        (option_map expr_tree expr.now)) c.now.first_temp out.old out.new) }
+        → EmitsTested (for_condition (state (on_line c.now line) locals out.old) place (option_map expr_tree expr.now))
+        c.now.first_temp out.old out.new) }
 {
     match expr {
         None => forever(c, place, out),
@@ -81,7 +81,7 @@ pub fn once<'a>(
         (from_place (state (on_line c.now line) locals out.old) place) (simple_tree one.now)) c.now locals c.now laid out.old out.new) }
 {
     let begin = at(out.len());
-    performed(c, c.line_of(place), one, out)?;
+    performed(&Site::at(c, place), one, out)?;
     Ok(Laid { begin, locals })
 }
 
@@ -93,8 +93,8 @@ fn stepped<'a>(
     out: &mut Output<'a>,
 ) -> Result<Laid, AllocError>
     ensures { IfOk result (λ laid. SimpleHasIntNumbers (simple_tree one.now) → (line : ℕ)
-        → EmitsWithin (for_step (state (on_line c.now line) locals out.old)
-        (Some (simple_tree one.now))) c.now locals laid out.old out.new) }
+        → EmitsWithin (for_step (state (on_line c.now line) locals out.old) (Some (simple_tree one.now)))
+        c.now locals laid out.old out.new) }
 {
     once(c, locals, place_of_simple(one), one, out)
 }
@@ -107,8 +107,8 @@ pub fn step<'a>(
     out: &mut Output<'a>,
 ) -> Result<Laid, AllocError>
     ensures { IfOk result (λ laid. IfSome (option_map for_step_tree one.now) SimpleHasIntNumbers → (line : ℕ)
-        → EmitsWithin (for_step (state (on_line c.now line) locals out.old)
-        (option_map for_step_tree one.now)) c.now locals laid out.old out.new) }
+        → EmitsWithin (for_step (state (on_line c.now line) locals out.old) (option_map for_step_tree one.now))
+        c.now locals laid out.old out.new) }
 {
     match one {
         None => Ok(Laid {
@@ -129,11 +129,11 @@ pub fn exit<'a>(
 ) -> Result<Laid, AllocError>
     ensures { IfOk result (λ laid. IfSome (option_map expr_tree value.now) HasIntNumbers → (line : ℕ)
         → EmitsLowered (return_from (state (on_line c.now line) locals out.old)
-        (from_place (state (on_line c.now line) locals out.old) place)
-        (option_map expr_tree value.now)) c.now locals c.now laid out.old out.new) }
+        (from_place (state (on_line c.now line) locals out.old) place) (option_map expr_tree value.now))
+        c.now locals c.now laid out.old out.new) }
 {
     let begin = at(out.len());
-    returned(c, c.line_of(place), value, out)?;
+    returned(&Site::at(c, place), value, out)?;
     Ok(Laid { begin, locals })
 }
 
@@ -147,8 +147,8 @@ pub fn declared<'a>(
 ) -> Result<Laid, AllocError>
     ensures within { OnOk result (IsWithin c.old c.new) }
     ensures laid { IfOk result (λ laid. LocalHasIntNumbers (local_tree one.now) → (line : ℕ)
-        → EmitsLowered (declaration (local_tree one.now)
-        (from_place (state (on_line c.old line) locals out.old) place)) c.old locals c.new laid out.old out.new) }
+        → EmitsLowered (declaration (local_tree one.now) (from_place (state (on_line c.old line) locals out.old) place))
+        c.old locals c.new laid out.old out.new) }
 {
     let begin = at(out.len());
     let line = c.line_of(place);
@@ -167,8 +167,8 @@ pub fn init<'a>(
 ) -> Result<Laid, AllocError>
     ensures within { OnOk result (IsWithin c.old c.new) }
     ensures laid { IfOk result (λ laid. InitHasIntNumbers (init_tree one.now) → (line : ℕ)
-        → EmitsLowered (for_init (state (on_line c.old line) locals out.old) place
-        (init_tree one.now)) c.old locals c.new laid out.old out.new) }
+        → EmitsLowered (for_init (state (on_line c.old line) locals out.old) place (init_tree one.now))
+        c.old locals c.new laid out.old out.new) }
 {
     match one {
         ForInit::Empty => Ok(Laid {

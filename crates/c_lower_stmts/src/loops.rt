@@ -1,11 +1,9 @@
 //! Loops: what stands before their first node, and what their pieces become when they stand.
-ghost use Rattle.std.specs.Prelude.{◌≡◌, ◌<◌, ◌≤◌, List, length, OnOk, IfOk};
-ghost use Rattle.c_lower_rules.specs.Code.{Code, Test, repeat, repeat_first};
+ghost use Rattle.std.specs.Prelude.{◌≡◌, ◌<◌, ◌≤◌, length, OnOk, IfOk};
 ghost use Rattle.c_lower_rules.specs.Contexts.{visible};
-ghost use Rattle.c_lower_rules.specs.Temporaries.{Temp};
 ghost use Rattle.c_lower_emit.specs.declared.drafts.Label.TheVariants.{At};
-ghost use Rattle.c_lower_emit.specs.Emitting.{Out, with_loop, EmitsTest, EmitsCode};
-ghost use Rattle.c_lower_stmts.specs.Loops.{all_to, round};
+ghost use Rattle.c_lower_emit.specs.Emitting.{with_loop};
+ghost use Rattle.c_lower_stmts.specs.Loops.{all_to, round, ClosesLoop, ClosesLoopBehind};
 
 use c_lower_emit::drafts::{AS_THEY_ARE, Label, Ways};
 use c_lower_emit::output::Output;
@@ -74,10 +72,7 @@ pub fn close(
     step_begin: Label,
     out: &mut Output,
 ) -> Result<(), AllocError>
-    ensures { OnOk result ((t : Test) → (b s : Code) → (u v x : List Temp) → (o m n : Out) → opened.head ≡ length o.nodes
-        → opened.index ≡ length o.loops → body ≡ length m.nodes → step ≡ length n.nodes
-        → length out.old.nodes < 4294967296 → EmitsTest t u o m → EmitsCode b v body_begin m n → EmitsCode s x step_begin n out.old
-        → EmitsCode (repeat opened.visible.items t b s) x (At (length o.nodes)) o out.new) }
+    ensures { OnOk result (ClosesLoop opened body step body_begin step_begin out.old out.new) }
 {
     let Opened {
         head,
@@ -114,10 +109,7 @@ pub fn close_behind(
     body_begin: Label,
     out: &mut Output,
 ) -> Result<Label, AllocError>
-    ensures { IfOk result (λ begin. (t : Test) → (b : Code) → (u v : List Temp) → (o m : Out) → opened.head ≡ length o.nodes
-        → opened.index ≡ length o.loops → test ≡ length m.nodes
-        → length out.old.nodes < 4294967296 → EmitsCode b u body_begin o m → EmitsTest t v m out.old
-        → EmitsCode (repeat_first opened.visible.items b t) v begin o out.new) }
+    ensures { IfOk result (λ begin. ClosesLoopBehind opened test body_begin begin out.old out.new) }
 {
     let Opened {
         head,

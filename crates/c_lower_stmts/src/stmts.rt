@@ -88,7 +88,7 @@ fn stmt<'a>(
     }
 }
 
-/// A `while` (C11 6.8.5.1).
+/// A `while` (C11 6.8.5.1). `body` is before `test` among the parameters, since the calls end by its depth.
 #[cycle(stmts)]
 fn while_loop<'a>(
     c: &mut Context<'a>,
@@ -151,10 +151,9 @@ fn for_loop<'a>(
     out: &mut Output<'a>,
 ) -> Result<Laid, AllocError>
     ensures context { OnOk result (c.new ≡ c.old) }
-    ensures laid { IfOk result
-        (λ laid. EmitsStmt (tree.Stmt.For place (init_tree first.now) (option_map expr_tree test.now) (option_map for_step_tree last.now)
-        (stmt_tree body.now.value))
-        c.old locals c.new laid out.old out.new) }
+    ensures laid { IfOk result (λ laid. EmitsStmt
+        (tree.Stmt.For place (init_tree first.now) (option_map expr_tree test.now) (option_map for_step_tree last.now)
+        (stmt_tree body.now.value)) c.old locals c.new laid out.old out.new) }
 {
     let scope = c.enter();
     let start = out.len();
@@ -186,8 +185,8 @@ fn nested<'a>(
 ) -> Result<Laid, AllocError>
     ensures context { OnOk result (c.new ≡ c.old) }
     ensures laid { IfOk result (λ laid. StmtHasIntNumbers (stmt_tree body.now.value) → (line : ℕ)
-        → EmitsWithin (stmt (stmt_tree body.now.value)
-        (inside (state (on_line c.old line) locals out.old))) c.old locals laid out.old out.new) }
+        → EmitsWithin (stmt (stmt_tree body.now.value) (inside (state (on_line c.old line) locals out.old)))
+        c.old locals laid out.old out.new) }
 {
     let scope = c.enter();
     let laid = stmt(c, locals, body, out)?;
@@ -205,8 +204,8 @@ fn block<'a>(
 ) -> Result<Laid, AllocError>
     ensures context { OnOk result (c.new ≡ c.old) }
     ensures laid { IfOk result (λ laid. StmtsHaveIntNumbers (stmts_tree body.now.stmts.items) → (line : ℕ)
-        → EmitsWithin (stmts (stmts_tree body.now.stmts.items)
-        (inside (state (on_line c.old line) locals out.old))) c.old locals laid out.old out.new) }
+        → EmitsWithin (stmts (stmts_tree body.now.stmts.items) (inside (state (on_line c.old line) locals out.old)))
+        c.old locals laid out.old out.new) }
 {
     let scope = c.enter();
     let laid = stmts(c, locals, &body.stmts, out)?;
@@ -224,8 +223,8 @@ pub fn stmts<'a>(
 ) -> Result<Laid, AllocError>
     ensures within { OnOk result (IsWithin c.old c.new) }
     ensures laid { IfOk result (λ laid. StmtsHaveIntNumbers (stmts_tree ones.now.items) → (line : ℕ)
-        → EmitsLowered (stmts (stmts_tree ones.now.items)
-        (state (on_line c.old line) locals out.old)) c.old locals c.new laid out.old out.new) }
+        → EmitsLowered (stmts (stmts_tree ones.now.items) (state (on_line c.old line) locals out.old))
+        c.old locals c.new laid out.old out.new) }
 {
     let start = out.len();
     let mut laid = Laid {

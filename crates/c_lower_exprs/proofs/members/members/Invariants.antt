@@ -3,12 +3,11 @@ use Rattle.c_tree.specs.Syntax.{ident_tree}
 use Rattle.c_lower_rules.specs.Values.{Lowering}
 use Rattle.c_lower_emit.specs.Emitting.{Out}
 use Rattle.c_lower_emit.specs.declared.uses.Use.TheVariants.{Value}
-use Rattle.c_lower_exprs.specs.Contexts.{on_line}
 use Rattle.c_lower_exprs.specs.Lowered.{IsLowered}
 use Rattle.c_lower_exprs.proofs.Loading.{MembersSoFar}
 use Rattle.c_lower_exprs.proofs.members.members.Given as goal
 
 abbrev pub invariant-loop-next : goal.invariant-loop-next
 invariant-loop-next l =
-    (lowering : Lowering) → (before : Out) → IsLowered Value lowering l.c.first_temp before l.fn.out l.fn.base
-    → MembersSoFar (on_line l.c l.line) l.c.first_temp lowering before (ident_tree l.fn.first ∷ map ident_tree l.others) (ident_tree l.field ∷ map ident_tree (drop l.next-index l.others)) l.out l.current
+    (lowering : Lowering) → (before : Out) → IsLowered Value lowering l.site.first_temp before l.fn.out l.fn.base
+    → MembersSoFar l.site l.site.first_temp lowering before (ident_tree l.fn.first ∷ map ident_tree l.others) (ident_tree l.field ∷ map ident_tree (drop l.next-index l.others)) l.out l.current

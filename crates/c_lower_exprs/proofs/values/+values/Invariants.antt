@@ -1,7 +1,6 @@
 use Rattle.std.proofs.Common.{◌+◌, map, take, drop}
 use Rattle.c_tree.specs.Syntax.{expr_tree, links_tree, args_tree}
 use Rattle.c_lower_rules.specs.Numbers.{AllHaveIntNumbers}
-use Rattle.c_lower_exprs.specs.Contexts.{on_line}
 use Rattle.c_lower_exprs.proofs.Arguing.{ArgumentsSoFar}
 use Rattle.c_lower_exprs.proofs.Weights.{weight, links_weight, args_weight}
 use Rattle.c_lower_exprs.proofs.values.+values.Given as goal
@@ -21,4 +20,4 @@ decreases-values l = args_weight (args_tree l.args.now.items) + 1
 abbrev pub invariant-values-loop-arg : goal.invariant-values-loop-arg
 invariant-values-loop-arg l =
     AllHaveIntNumbers (args_tree l.fn.args.items)
-    → ArgumentsSoFar (on_line l.c l.line) l.c.first_temp (map expr_tree l.fn.args.items) (map expr_tree (drop l.arg-index l.arg-items)) l.fn.out l.out l.operands.items
+    → ArgumentsSoFar l.site l.site.first_temp (map expr_tree l.fn.args.items) (map expr_tree (drop l.arg-index l.arg-items)) l.fn.out l.out l.operands.items

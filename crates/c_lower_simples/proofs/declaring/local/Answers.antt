@@ -1,7 +1,8 @@
 use Rattle.std.proofs.Common.{◌+◌, min, option_map, ap, ◌∙◌, subst}
 use Rattle.c_tree.specs.Syntax.{expr_tree, specifier_tree, initialized_tree}
 use Rattle.c_types_rules.specs.Tables.{object_kind}
-use Rattle.c_types_names.specs.Seen.{kind_seen}
+use Rattle.c_types_names.specs.Seen.{kind_seen, type_seen}
+use Rattle.c_lower_rules.specs.Contexts.{Context}
 use Rattle.c_lower_rules.specs.Statements.{initial}
 use Rattle.c_lower_exprs.specs.Contexts.{on_line}
 use Rattle.c_lower_simples.specs.Simples.{EmitsPiece}
@@ -24,4 +25,6 @@ returns-clause-declared c = λ numbers.
     (c.saturating_add-to.ensures ∙ ap (λ f. min (f + c.args.locals) 4294967295) c.first_local.ensures) c.in_ok-add_local.ensures
     (subst (λ k. EmitsPiece (initial (on_line behind c.args.line) c.saturating_add-to.result k (option_map expr_tree one.value)) behind.first_temp
     c.args.out.now c.initial.new.out)
-    c.known.ensures (c.in_ok-initial.ensures numbers)) c.saturating_add.ensures
+    c.known.ensures
+    (subst (λ (site : Context). EmitsPiece (initial site c.saturating_add-to.result (type_seen c.known.result) (option_map expr_tree one.value)) site.first_temp
+    c.args.out.now c.initial.new.out) c.on.ensures (c.in_ok-initial.ensures numbers))) c.saturating_add.ensures

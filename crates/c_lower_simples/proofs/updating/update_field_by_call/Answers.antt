@@ -5,7 +5,6 @@ use Rattle.c_types_names.specs.Seen.{type_seen}
 use Rattle.c_lower_rules.specs.Values.{at_hand}
 use Rattle.c_lower_rules.specs.Expressions.{field_behind}
 use Rattle.c_lower_rules.specs.Statements.{Target, field_at_hand, update}
-use Rattle.c_lower_exprs.specs.Contexts.{on_line}
 use Rattle.c_lower_simples.specs.Amounts.{amount}
 use Rattle.c_lower_simples.specs.Simples.{EmitsPiece}
 use Rattle.c_lower_simples.proofs.AtHand.{at_hand_lowered}
@@ -14,8 +13,8 @@ use Rattle.c_lower_simples.proofs.updating.update_field_by_call.Goals as goal
 
 pub returns : goal.returns
 returns c = on_ok_weaker c.store.result (λ emits numbers calls to before is.
-    let ctx = on_line c.args.c.now c.args.line in
-    let first = c.args.c.now.first_temp in
+    let ctx = c.args.site.now in
+    let first = c.args.site.now.first_temp in
     let base = c.args.pointer.base in
     let name = ident_tree c.args.pointer.field.now in
     let by = amount ctx c.args.by in
