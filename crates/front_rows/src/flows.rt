@@ -1,4 +1,10 @@
-//! Rows of lowering.
+//! Rows of lowering: the texts of procedures and nodes.
+//!
+//! Commands: `copy TO FROM`, `add TO LEFT RIGHT` (also `sub`, `mul`), `any TO TYPE`, `load TO BASE TAG.FIELD`, `store BASE TAG.FIELD FROM`,
+//! `new TO TAG`, `free BASE TAG`, `call TO NAME OPERANDS` (TO may be `-`), each with `>NODE` behind it, where a run goes on;
+//! `branch OP WHAT LEFT RIGHT >YES >NO` (OP is `eq`, `ne`, `lt`, `le`, `gt` or `ge`, WHAT `p` for pointers and `i` for ints);
+//! `ret OPERAND`. Slots, fields and nodes are numbers from 0. An operand is a slot, or `#N` for a number. A type is `int`, `*TAG` or
+//! `void`. A loop's head has `head ints SLOTS dead SLOTS` behind its command.
 use crate::rows::{both_sides, text_behind};
 use itoa::Buffer;
 use project_form::{ProgramFault, Project, PutFault};
