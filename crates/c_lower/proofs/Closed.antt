@@ -26,7 +26,7 @@ use Rattle.c_lower_emit.proofs.Joining.{behind_nodes, room_first, room_then, str
 use Rattle.c_lower_exprs.specs.Contexts.{on_line, IsWithin}
 use Rattle.c_lower_stmts.specs.declared.laid.Laid.{Laid}
 use Rattle.c_lower_stmts.specs.Laying.{state, Lays, EmitsLowered}
-use Rattle.c_lower_simples.specs.Declaring.{HasSlots}
+use Rattle.c_lower_stmts.specs.Declaring.{HasSlots}
 use Rattle.c_lower.specs.Closing.{value_closing, closing, closed_body, Closes}
 
 -- WHAT CLOSES A BODY

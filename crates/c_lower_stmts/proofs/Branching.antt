@@ -13,8 +13,8 @@ use Rattle.c_lower_emit.specs.Drafts.{Places, exits, resolve}
 use Rattle.c_lower_emit.specs.Emitting.{Out, HasRoom, Grows, EmitsTest, EmitsCode, EmitsTested}
 use Rattle.c_lower_emit.proofs.Joining.{behind_nodes, code_none}
 use Rattle.c_lower_exprs.specs.Contexts.{on_line}
-use Rattle.c_lower_simples.specs.Declaring.{HasSlots, IsDeclared, Declares}
-use Rattle.c_lower_simples.specs.Declaring as declaring
+use Rattle.c_lower_stmts.specs.Declaring.{HasSlots, IsDeclared, Declares}
+use Rattle.c_lower_stmts.specs.Declaring as declaring
 use Rattle.c_lower_stmts.specs.declared.laid.Laid.{Laid}
 use Rattle.c_lower_stmts.specs.Laying.{state, EmitsLowered, EmitsWithin}
 use Rattle.c_lower_stmts.specs.Parts.{EmitsReleased}

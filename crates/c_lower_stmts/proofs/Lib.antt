@@ -1,3 +1,10 @@
+mod AtHand
+mod KindsOfTargets
+mod Zeroing
+mod Walking
+mod Locals
+mod Within
+mod Stores
 mod Releasing
 mod Repeating
 mod Branching

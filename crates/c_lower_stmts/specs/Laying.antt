@@ -6,7 +6,7 @@ use Rattle.c_lower_rules.specs.Numbers.{StmtHasIntNumbers}
 use Rattle.c_lower_rules.specs.Statements.{State, Lowered, stmt}
 use Rattle.c_lower_emit.specs.Emitting.{Out, HasRoom, EmitsCode}
 use Rattle.c_lower_exprs.specs.Contexts.{on_line}
-use Rattle.c_lower_simples.specs.Declaring.{HasSlots}
+use Rattle.c_lower_stmts.specs.Declaring.{HasSlots}
 use Rattle.c_lower_stmts.specs.declared.laid.Laid.{Laid}
 
 -- where a statement stands

@@ -16,16 +16,16 @@ ghost use Rattle.c_lower_emit.specs.Emitting.{EmitsTested};
 ghost use Rattle.c_lower_exprs.specs.Contexts.{on_line, IsWithin};
 ghost use Rattle.c_lower_stmts.specs.Laying.{state, EmitsLowered, EmitsWithin};
 
+use crate::declaring::declaration;
 use crate::laid::Laid;
 use crate::loops::at;
 use crate::parts::{condition, performed, returned};
+use crate::simples::place_of_simple;
 use c_lower_emit::drafts::Label;
 use c_lower_emit::output::Output;
 use c_lower_emit::uses::Use;
 use c_lower_exprs::context::Context;
 use c_lower_exprs::site::Site;
-use c_lower_simples::declaring::declaration;
-use c_lower_simples::simples::place_of_simple;
 use c_tree::places::place_of_expr;
 use c_tree::{Expr, ForInit, Local, Place, Simple};
 use c_types_names::kinds::CType;

@@ -1,9 +1,15 @@
-//! Statements as code of the flow form: branches, loops, scopes and lists of statements, each the piece that the definitions of
-//! `c_lower_rules` say.
+//! Statements as code of the flow form: simple ones and declarations of locals, branches, loops, scopes and lists of statements, each
+//! emitted as the piece that the definitions of `c_lower_rules` say.
 #![tactic(auto)]
 
+mod declaring;
 mod heads;
 pub mod laid;
 mod loops;
 mod parts;
+mod simples;
 pub mod stmts;
+mod storing;
+mod targets;
+mod updating;
+mod wanting;

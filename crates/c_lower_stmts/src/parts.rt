@@ -11,13 +11,13 @@ ghost use Rattle.c_lower_emit.specs.declared.drafts.Label.TheVariants.{At};
 ghost use Rattle.c_lower_emit.specs.Emitting.{EmitsCode, EmitsTested};
 ghost use Rattle.c_lower_stmts.specs.Parts.{EmitsReleased, Chooses};
 
+use crate::simples::simple;
+use crate::wanting::wanted;
 use c_lower_emit::drafts::{AS_THEY_ARE, Label, Ways};
 use c_lower_emit::output::Output;
 use c_lower_emit::uses::Use;
 use c_lower_exprs::site::Site;
 use c_lower_exprs::values::lower;
-use c_lower_simples::simples::simple;
-use c_lower_simples::wanting::wanted;
 use c_tree::{Expr, Simple};
 use shape_data::program::{Cmd, Operand};
 use std::alloc::AllocError;

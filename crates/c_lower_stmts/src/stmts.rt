@@ -8,15 +8,15 @@ ghost use Rattle.c_lower_rules.specs.Numbers.{StmtHasIntNumbers, StmtsHaveIntNum
 ghost use Rattle.c_lower_exprs.specs.Contexts.{on_line, IsWithin};
 ghost use Rattle.c_lower_stmts.specs.Laying.{state, EmitsLowered, EmitsStmt, EmitsWithin};
 
+use crate::declaring::place_of_local;
 use crate::heads::{declared, exit, init, once, step, tested, tested_for};
 use crate::laid::Laid;
 use crate::loops::{at, close, close_behind, open};
 use crate::parts::choose;
+use crate::simples::place_of_simple;
 use c_lower_emit::drafts::Label;
 use c_lower_emit::output::Output;
 use c_lower_exprs::context::Context;
-use c_lower_simples::declaring::place_of_local;
-use c_lower_simples::simples::place_of_simple;
 use c_tree::{Block, Expr, ForInit, Place, Simple, Stmt};
 use std::alloc::AllocError;
 

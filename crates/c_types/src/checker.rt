@@ -1,6 +1,5 @@
 //! The type checker.
-ghost use Rattle.std.specs.Prelude.{◌≡◌, ◌<◌, IfOk, IfErr, None, length, map};
-ghost use Rattle.c_tree.specs.Syntax.{unit_tree};
+ghost use Rattle.std.specs.Prelude.{◌≡◌, ◌<◌, IfOk, IfErr, None, length};
 ghost use Rattle.c_types_rules.specs.Tables.{no_tables, items_of};
 ghost use Rattle.c_types_rules.specs.Programs as program;
 ghost use Rattle.c_types.specs.Typing.{files_of};

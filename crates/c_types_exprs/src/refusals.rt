@@ -1,5 +1,5 @@
 //! What is refused in an expression. The calls nest as deep as the expression does.
-ghost use Rattle.std.specs.Prelude.{◌≡◌, ◌∷◌, ◌++◌, map, option_map, length};
+ghost use Rattle.std.specs.Prelude.{◌≡◌, map, option_map};
 ghost use Rattle.c_types_rules.specs.Tables.{field_of, param_kind, param_kinds, procedure_in};
 ghost use Rattle.c_types_rules.specs.Expressions.{
   member_refusals,

@@ -1,6 +1,6 @@
 //! Which variables stand at a place of a procedure's body (C11 6.2.1).
-ghost use Rattle.std.specs.Prelude.{◌≡◌, ◌++◌, ◌≤◌, option_map, length, IfOk, OnOk, List, [], map, take};
-ghost use Rattle.c_types_rules.specs.Scopes.{Variable as ScopeVariable, variable, variable_in, stands_here, with_variable, entered};
+ghost use Rattle.std.specs.Prelude.{◌≡◌, ◌++◌, ◌≤◌, option_map, length, OnOk, List, [], take};
+ghost use Rattle.c_types_rules.specs.Scopes.{Variable as ScopeVariable, variable, stands_here, with_variable, entered};
 ghost use Rattle.c_types_names.specs.Seen.{kind_seen, variable_seen, stacked};
 
 use crate::kinds::Kind;

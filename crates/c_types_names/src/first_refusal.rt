@@ -39,7 +39,7 @@ fn first_of_two(one: At, other: At) -> At
 }
 
 impl FirstRefusal {
-    /// With one more refusal: the first of it and the one that was found stays.
+    /// Takes in one more refusal: of it and the one that was found before, the earlier one is the first now.
     fn add(&mut self, refusal: Refusal)
         ensures { self.new ≡ with_refusal self.old refusal }
     {

@@ -118,8 +118,8 @@ impl<'a> StructFields<'a> {
         specifier: &'a TypeSpecifier,
         declarator: &'a Declarator,
     ) -> Result<(), AllocError>
-        ensures { OnOk result (self.new ≡ self.old ++ declared_by_one (specifier_tree specifier.now) (declarator_tree declarator.now)
-            ∷ []) }
+        ensures { OnOk result (self.new
+            ≡ self.old ++ declared_by_one (specifier_tree specifier.now) (declarator_tree declarator.now) ∷ []) }
     {
         self.push(DeclaredField {
             specifier,

@@ -22,7 +22,7 @@ use crate::name_tables::{Aliases, Procedures, Structures};
 use crate::struct_fields::{
     DeclaredField, FieldTable, StructFields, add_fields, field_in_table, place_in_table,
 };
-use c_tree::{FieldDecl, Head, Ident, Item, Name};
+use c_tree::{FieldDecl, Ident, Item, Name};
 use indexmap::IndexMap;
 use std::alloc::{AllocError, Global};
 use std::marker::Model;

@@ -104,8 +104,8 @@ fn is_of_program(
     slot: &Slot,
 ) -> Result<bool, AllocError>
     requires { All (λ row. All (λ number. number < length program.now.procs) row.members.items) rows.now }
-    ensures { IfOk result (λ is. is
-        ≡ list_any (λ row. same_names (names_of (filter_map (slice_get (flows_of program.now)) row.members.items)) slot.now.members)
+    ensures { IfOk result (λ is.
+        is ≡ list_any (λ row. same_names (names_of (filter_map (slice_get (flows_of program.now)) row.members.items)) slot.now.members)
         rows.now) }
 {
     for row in rows {

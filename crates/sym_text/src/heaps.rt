@@ -53,8 +53,8 @@ fn read_turn<'a>(
 ) -> Result<ReadTurn<'a>, Fault>
     requires few { length scope.now.params.now ≤ 32768 }
     requires structs { AreStructs scope.now.structs.now }
-    ensures ok { IfOk result (λ read. read_turn with_ret scope.now.structs.now scope.now.params.now scope.now.facts scope.now.is_first left
-        text.now
+    ensures ok { IfOk result (λ read.
+        read_turn with_ret scope.now.structs.now scope.now.params.now scope.now.facts scope.now.is_first left text.now
         ≡ Got (record { 0 = read.0; 1 = read.1 }) read.2.now) }
     ensures err { IfErr result (λ fault. IsStop fault
         (read_turn with_ret scope.now.structs.now scope.now.params.now scope.now.facts scope.now.is_first left text.now)) }

@@ -113,8 +113,8 @@ fn read_tail<'a>(
 fn read_bracket<'a>(scope: &Scope<'a>, word: &[u8], text: &'a [u8]) -> Result<ReadPart<'a>, Fault>
     requires few { length scope.now.params.now ≤ 32768 }
     requires structs { AreStructs scope.now.structs.now }
-    ensures ok { IfOk result (λ read. word_by scope.now.structs.now scope.now.params.now scope.now.facts scope.now.is_first word.now
-        next.Bracket text.now
+    ensures ok { IfOk result (λ read.
+        word_by scope.now.structs.now scope.now.params.now scope.now.facts scope.now.is_first word.now next.Bracket text.now
         ≡ Got read.0 read.1.now) }
     ensures err { IfErr result (λ fault. IsStop fault
         (word_by scope.now.structs.now scope.now.params.now scope.now.facts scope.now.is_first word.now next.Bracket text.now)) }
@@ -138,8 +138,8 @@ fn read_bracket<'a>(scope: &Scope<'a>, word: &[u8], text: &'a [u8]) -> Result<Re
 /// Reads `junk` or `emp`, where the word ends there.
 #[tactic(auto, unfolding(crate::specs::Reading::word_by))]
 fn read_end<'a>(scope: &Scope<'a>, word: &[u8], text: &'a [u8]) -> Result<ReadPart<'a>, Fault>
-    ensures ok { IfOk result (λ read. word_by scope.now.structs.now scope.now.params.now scope.now.facts scope.now.is_first word.now
-        next.End text.now
+    ensures ok { IfOk result (λ read.
+        word_by scope.now.structs.now scope.now.params.now scope.now.facts scope.now.is_first word.now next.End text.now
         ≡ Got read.0 read.1.now) }
     ensures err { IfErr result (λ fault. IsStop fault
         (word_by scope.now.structs.now scope.now.params.now scope.now.facts scope.now.is_first word.now next.End text.now)) }
@@ -162,9 +162,9 @@ fn read_behind_name<'a>(
     text: &'a [u8],
 ) -> Result<ReadPart<'a>, Fault>
     requires { length scope.now.params.now ≤ 32768 }
-    ensures ok { IfOk result (λ read. only_if (is_one_of scope.now.params.now word.now)
-        (tail_by scope.now.structs.now scope.now.params.now scope.now.facts (Var (place_of scope.now.params.now word.now)) next)
-        text.now
+    ensures ok { IfOk result (λ read.
+        only_if (is_one_of scope.now.params.now word.now)
+        (tail_by scope.now.structs.now scope.now.params.now scope.now.facts (Var (place_of scope.now.params.now word.now)) next) text.now
         ≡ Got read.0 read.1.now) }
     ensures err { IfErr result (λ fault. IsStop fault
         (only_if (is_one_of scope.now.params.now word.now)
@@ -190,8 +190,8 @@ fn read_behind_word<'a>(
 ) -> Result<ReadPart<'a>, Fault>
     requires few { length scope.now.params.now ≤ 32768 }
     requires structs { AreStructs scope.now.structs.now }
-    ensures ok { IfOk result (λ read. word_by scope.now.structs.now scope.now.params.now scope.now.facts scope.now.is_first word.now next
-        text.now
+    ensures ok { IfOk result (λ read.
+        word_by scope.now.structs.now scope.now.params.now scope.now.facts scope.now.is_first word.now next text.now
         ≡ Got read.0 read.1.now) }
     ensures err { IfErr result (λ fault. IsStop fault
         (word_by scope.now.structs.now scope.now.params.now scope.now.facts scope.now.is_first word.now next text.now)) }
@@ -215,8 +215,8 @@ fn read_lettered<'a>(
 ) -> Result<ReadPart<'a>, Fault>
     requires few { length scope.now.params.now ≤ 32768 }
     requires structs { AreStructs scope.now.structs.now }
-    ensures ok { IfOk result (λ read. part_by scope.now.structs.now scope.now.params.now scope.now.facts scope.now.is_first start.Letter
-        text.now
+    ensures ok { IfOk result (λ read.
+        part_by scope.now.structs.now scope.now.params.now scope.now.facts scope.now.is_first start.Letter text.now
         ≡ Got read.0 read.1.now) }
     ensures err { IfErr result (λ fault. IsStop fault
         (part_by scope.now.structs.now scope.now.params.now scope.now.facts scope.now.is_first start.Letter text.now)) }

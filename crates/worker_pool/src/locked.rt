@@ -148,12 +148,12 @@ impl<J: Meaning, A: Ledger, B: Ledger> Locked<J, A, B> {
         requires formed { IsProgram program.now.value }
         requires sizes { HasProgramSizes program.now.value }
         ensures program { OnOk result ((replay self.new.counted.book.log).program ≡ program.now.value) }
-        ensures log { IfOk result
-            (λ turn. self.new.counted.book.log ≡ met_log self.old.counted.book.log program.now.value ++ events_by leader (next_in turn)) }
-        ensures next { IfOk result (λ turn. IsNext (replay (met_log self.old.counted.book.log program.now.value))
-            (aimed program.now.value aim.now) (next_in turn)) }
-        ensures turn { IfOk result
-            (λ turn. IsTurn J.solves (met_log self.old.counted.book.log program.now.value) program.now.value aim.now hands.new.seen turn) }
+        ensures log { IfOk result (λ turn.
+            self.new.counted.book.log ≡ met_log self.old.counted.book.log program.now.value ++ events_by leader (next_in turn)) }
+        ensures next { IfOk result (λ turn.
+            IsNext (replay (met_log self.old.counted.book.log program.now.value)) (aimed program.now.value aim.now) (next_in turn)) }
+        ensures turn { IfOk result (λ turn.
+            IsTurn J.solves (met_log self.old.counted.book.log program.now.value) program.now.value aim.now hands.new.seen turn) }
         ensures rises { hands.old.seen ≤ hands.new.seen }
         ensures err { OnErr result (IsMetAtMost self.old.counted.book.log self.new.counted.book.log program.now.value) }
         ensures closed { self.new.closed ≡ self.old.closed }
@@ -180,8 +180,8 @@ impl<J: Meaning, A: Ledger, B: Ledger> Locked<J, A, B> {
     ) -> Result<Turn, AllocError>
         requires formed { IsProgram program.now.value }
         requires sizes { HasProgramSizes program.now.value }
-        ensures turn { IfOk result
-            (λ turn. IsTurn J.solves (met_log self.old.counted.book.log program.now.value) program.now.value aim.now hands.new.seen turn) }
+        ensures turn { IfOk result (λ turn.
+            IsTurn J.solves (met_log self.old.counted.book.log program.now.value) program.now.value aim.now hands.new.seen turn) }
         ensures goes { IfOk result
             (λ turn. GoesOn self.old.counted.book.log self.new.counted.book.log program.now.value aim.now turn) }
         ensures rises { hands.old.seen ≤ hands.new.seen }

@@ -144,8 +144,8 @@ impl Exact for Cmd {
         (variant (and_same number_same (and_same name_same (last_same number_same)))
         (variant (and_same number_same (and_same name_same (last_same number_same)))
         (variant (and_same (option_same number_same) (and_same name_same (and_same (row_same operand_same) (last_same number_same))))
-        (variant
-        (and_same test_op_same (and_same bool_same (and_same operand_same (and_same operand_same (and_same number_same (last_same number_same))))))
+        (variant (and_same test_op_same (and_same bool_same (and_same operand_same (and_same operand_same
+        (and_same number_same (last_same number_same))))))
         (variant (last_same operand_same) no_variant)))))))))) };
 
     ghost clone_is_same = { λ x. elim x as (λ x. (y : AnyCmd) → ⟦<Cmd as Clone>⟧.is_clone x y → y ≡ x) [

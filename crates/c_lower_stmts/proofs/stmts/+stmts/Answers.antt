@@ -15,7 +15,7 @@ use Rattle.c_lower_stmts.specs.Laying.{state, EmitsLowered, EmitsWithin}
 use Rattle.c_lower_stmts.proofs.Branching.{jumped, if_laid, if_else_laid}
 use Rattle.c_lower_stmts.proofs.Rounds.{while_laid, do_laid, for_laid}
 use Rattle.c_lower_stmts.proofs.Rows.{stmts_turn, numbers_at, one_more}
-use Rattle.c_lower_simples.proofs.Within.{within_then}
+use Rattle.c_lower_stmts.proofs.Within.{within_then}
 use Rattle.c_lower_stmts.proofs.Scopes.{entered_within}
 use Rattle.c_tree.proofs.Trees.{local_is, simple_is, break_is, continue_is, return_is}
 use Rattle.c_lower_stmts.proofs.stmts.+stmts.Goals as goal

@@ -1,4 +1,0 @@
-pub mod Simples
-pub mod Targets
-pub mod Amounts
-pub mod Declaring
