@@ -21,6 +21,7 @@ IsLogical (NoMatch wanted) = Unit {0}
 -- fields of their structures; what was bound stays so
 abbrev pub SplitsBeside : SymHeap → SymHeap → List (ℕ × Exp) → List ℕ → List ℕ → Abd → Type 0
 SplitsBeside a b bound flexible avoid (Found missing frame binding) =
-    (structs : List StructDef) → All (FitsAtom structs) b.spatial → (s : ℕ → ℤ) (heap : List Cell) → Holds structs s heap (beside a missing) →
+    (structs : List StructDef) → All (FitsAtom structs) b.spatial → (s : ℕ → ℤ) (heap : List Cell) →
+    Holds structs s heap (beside a missing) →
     GivesBeside structs s heap (beside a missing) b bound flexible avoid binding frame
 SplitsBeside a b bound flexible avoid (NoMatch wanted) = Unit {0}

@@ -53,4 +53,5 @@ post_of other state = record { ret = result_of other state.locals; heap = state.
 
 -- a post at an exit, in normal and then in canonical form. None is a contradiction
 abbrev pub abstract_exit : Post → Flow → List StructDef → Bool → Option Post
-abstract_exit post flow structs recursive = of_form (λ form. canon_post (post_of post.ret form) (length flow.params)) (normal (at_exit recursive structs flow post))
+abstract_exit post flow structs recursive =
+    of_form (λ form. canon_post (post_of post.ret form) (length flow.params)) (normal (at_exit recursive structs flow post))

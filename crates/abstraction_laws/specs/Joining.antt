@@ -61,7 +61,8 @@ join_into i j v None = None
 
 -- the join of two atoms, the second of which starts at an expression
 abbrev pub join_from : (ℕ → Bool) → List Atom → ℕ → ℕ → Option Atom → Option Atom → Option Exp → Option Join
-join_from may atoms i j (Some first) (Some second) (Some v) = if is_joint may atoms v then join_into i j v (segment_of v first second) else None
+join_from may atoms i j (Some first) (Some second) (Some v) =
+    if is_joint may atoms v then join_into i j v (segment_of v first second) else None
 join_from may atoms i j _ _ _ = None
 
 -- the source of an atom, if there is one
@@ -71,7 +72,8 @@ start_of_some None = None
 
 -- the join of the atoms at two places, which are not the same
 abbrev pub join_at : (ℕ → Bool) → List Atom → ℕ → ℕ → Option Join
-join_at may atoms i j = if i == j then None else join_from may atoms i j (slice_get atoms i) (slice_get atoms j) (start_of_some (slice_get atoms j))
+join_at may atoms i j = if i == j then None
+    else join_from may atoms i j (slice_get atoms i) (slice_get atoms j) (start_of_some (slice_get atoms j))
 
 -- the first of two that is there
 abbrev pub or_else : Option Join → Option Join → Option Join

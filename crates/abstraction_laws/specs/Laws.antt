@@ -21,16 +21,19 @@ use Rattle.abstraction_laws.specs.Repeating.{reduce, reduce_once}
 
 -- whatever meets a state meets another, under the same assignment to the logical variables; over any list of structures
 abbrev pub StateWeakens : SymState → SymState → Type 0
-StateWeakens state weaker = (structs : List StructDef) (s : ℕ → ℤ) (locals : List ℤ) (heap : List Cell) → MeetsState structs s locals heap state → MeetsState structs s locals heap weaker
+StateWeakens state weaker = (structs : List StructDef) (s : ℕ → ℤ) (locals : List ℤ) (heap : List Cell)
+    → MeetsState structs s locals heap state → MeetsState structs s locals heap weaker
 
 -- the same of what is answered; where nothing is, nothing meets the state
 abbrev pub StateWeakensTo : SymState → Option SymState → Type 0
 StateWeakensTo state (Some weaker) = StateWeakens state weaker
-StateWeakensTo state None = (structs : List StructDef) (s : ℕ → ℤ) (locals : List ℤ) (heap : List Cell) → ¬ MeetsState structs s locals heap state
+StateWeakensTo state None = (structs : List StructDef) (s : ℕ → ℤ) (locals : List ℤ) (heap : List Cell)
+    → ¬ MeetsState structs s locals heap state
 
 -- whatever meets a post meets another
 abbrev pub PostWeakens : Post → Post → Type 0
-PostWeakens post weaker = (structs : List StructDef) (s : ℕ → ℤ) (ret : ℤ) (heap : List Cell) → MeetsPost structs s ret heap post → MeetsPost structs s ret heap weaker
+PostWeakens post weaker = (structs : List StructDef) (s : ℕ → ℤ) (ret : ℤ) (heap : List Cell) → MeetsPost structs s ret heap post
+    → MeetsPost structs s ret heap weaker
 
 -- the same of what is answered; where nothing is, nothing meets the post
 abbrev pub PostWeakensTo : Post → Option Post → Type 0
@@ -39,7 +42,8 @@ PostWeakensTo post None = (structs : List StructDef) (s : ℕ → ℤ) (ret : �
 
 -- what holds of a heap under an assignment to all variables holds of another under the same one
 abbrev pub HeapWeakens : SymHeap → SymHeap → Type 0
-HeapWeakens shape weaker = (structs : List StructDef) (t : ℕ → ℤ) (heap : List Cell) → Holds structs t heap shape → Holds structs t heap weaker
+HeapWeakens shape weaker = (structs : List StructDef) (t : ℕ → ℤ) (heap : List Cell) → Holds structs t heap shape
+    → Holds structs t heap weaker
 
 -- the second to the fourth rule weaken a heap and need no other assignment
 abbrev pub ReduceWeakens : Type 0
@@ -51,17 +55,20 @@ ForgetWeakens = (kinds : List StructDef) (mark : HeadMark) (state : SymState) �
 
 -- whatever meets a state meets its abstraction at the head of a loop
 abbrev pub AbstractHeadWeakens : Type 0
-AbstractHeadWeakens = (state : SymState) (flow : Flow) (mark : HeadMark) (kinds : List StructDef) → StateWeakensTo state (abstract_head state flow mark kinds)
+AbstractHeadWeakens = (state : SymState) (flow : Flow) (mark : HeadMark) (kinds : List StructDef)
+    → StateWeakensTo state (abstract_head state flow mark kinds)
 
 -- whatever meets a post meets its abstraction at an exit
 abbrev pub AbstractExitWeakens : Type 0
-AbstractExitWeakens = (post : Post) (flow : Flow) (kinds : List StructDef) (recursive : Bool) → PostWeakensTo post (abstract_exit post flow kinds recursive)
+AbstractExitWeakens = (post : Post) (flow : Flow) (kinds : List StructDef) (recursive : Bool)
+    → PostWeakensTo post (abstract_exit post flow kinds recursive)
 
 -- ITS REPETITIONS END
 
 -- so often as `reduce` goes, nothing changes any more
 abbrev pub ReduceIsDone : Type 0
-ReduceIsDone = (joins : Bool) (locals : List Exp) (heap : SymHeap) → reduce_once joins locals (reduce joins locals heap) ≡ reduce joins locals heap
+ReduceIsDone = (joins : Bool) (locals : List Exp) (heap : SymHeap)
+    → reduce_once joins locals (reduce joins locals heap) ≡ reduce joins locals heap
 
 -- so often as `join_pair` goes, there is no join any more
 abbrev pub JoinPairIsDone : Type 0

@@ -1,5 +1,6 @@
 -- Abstraction of a pair of a missing heap and a state at the head of a loop, and of a candidate.
-use Rattle.std.specs.Prelude.{ℕ, zero, suc, ◌+◌, Bool, true, false, not, if◌then◌else◌, ◌==◌, ◌&&◌, ◌||◌, leb, ltb, List, ◌++◌, length, is_some, option_map}
+use Rattle.std.specs.Prelude.{ℕ, zero, suc, ◌+◌, Bool, true, false, not, if◌then◌else◌, ◌==◌, ◌&&◌, ◌||◌, leb, ltb, List, ◌++◌, length}
+use Rattle.std.specs.Prelude.{is_some, option_map}
 use Rattle.std.specs.declared.option.Option.{Option}
 use Rattle.std.specs.declared.option.Option.TheVariants.{None, Some}
 use Rattle.shape_data.specs.declared.program.Flow.{Flow}
@@ -45,12 +46,14 @@ heap_with_join heap join = record { pure = heap.pure; spatial = with_join heap.s
 
 -- the state with its atoms joined at the variable, where they may be
 abbrev pub state_joined_at : SymState → Exp → SymState
-state_joined_at state (Var x) = record { locals = state.locals; heap = heap_with_join state.heap (find_join (λ y. y == x) state.heap.spatial) }
+state_joined_at state (Var x) =
+    record { locals = state.locals; heap = heap_with_join state.heap (find_join (λ y. y == x) state.heap.spatial) }
 state_joined_at state (Const n) = state
 
 -- the pair with a join of the missing heap made, in the state too if the middle stands in its atoms
 abbrev pub pair_with_join : Pair → Option Join → Pair
-pair_with_join pair (Some join) = record { missing = heap_with_join pair.missing (Some join); state = state_joined_at pair.state join.middle }
+pair_with_join pair (Some join) =
+    record { missing = heap_with_join pair.missing (Some join); state = state_joined_at pair.state join.middle }
 pair_with_join pair None = pair
 
 -- the first join of the missing heap at which the pair may be joined, made
@@ -85,7 +88,8 @@ made_existential params first missing (Const n) = Const n
 -- Third step: logical variables of the state that are no parameters and not in the missing heap become existential; above the
 -- state's own existential variables all are new
 abbrev pub make_existential : ℕ → Pair → Pair
-make_existential params pair = record { missing = pair.missing; state = on_state (made_existential params (first_new pair.state) pair.missing) pair.state }
+make_existential params pair =
+    record { missing = pair.missing; state = on_state (made_existential params (first_new pair.state) pair.missing) pair.state }
 
 -- the fact is an equation of a variable that is neither a parameter nor in the missing heap
 abbrev pub is_lost_equation : ℕ → SymHeap → Fact → Bool
@@ -99,7 +103,8 @@ state_without_facts test state = record { locals = state.locals; heap = without_
 
 -- Fourth step: such equations go from the state
 abbrev pub lose_equations : ℕ → Pair → Pair
-lose_equations params pair = record { missing = pair.missing; state = state_without_facts (is_lost_equation params pair.missing) pair.state }
+lose_equations params pair =
+    record { missing = pair.missing; state = state_without_facts (is_lost_equation params pair.missing) pair.state }
 
 -- the expressions of the locals and of the atoms of both heaps
 abbrev pub exps_beside_facts : Pair → List Exp
@@ -113,12 +118,15 @@ heap_without_disequalities test heap = record { pure = without_disequalities tes
 abbrev pub lose_in_pair : ℕ → Pair → Pair
 lose_in_pair params pair = record {
   missing = heap_without_disequalities (is_lost_among params (exps_beside_facts pair)) pair.missing;
-  state = record { locals = pair.state.locals; heap = heap_without_disequalities (is_lost_among params (exps_beside_facts pair)) pair.state.heap };
+  state =
+    record { locals = pair.state.locals;
+    heap = heap_without_disequalities (is_lost_among params (exps_beside_facts pair)) pair.state.heap };
 }
 
 -- the five steps, once and in order
 abbrev pub five_steps : ℕ → List StructDef → HeadMark → Pair → Pair
-five_steps params structs mark pair = lose_in_pair params (lose_equations params (make_existential params (join_pair params (reduce_state structs mark pair))))
+five_steps params structs mark pair =
+    lose_in_pair params (lose_equations params (make_existential params (join_pair params (reduce_state structs mark pair))))
 
 -- THE TWO CALLS
 

@@ -29,19 +29,23 @@ pub record IsWithinRoom (state : SymState) : Type 0 where
 -- a well-formed state of as many slots as a procedure may have is within room
 abbrev pub WellFormedIsWithinRoom : Type 0
 WellFormedIsWithinRoom =
-    (structs : List StructDef) (params slots : ℕ) (state : SymState) → AreStructs structs → slots ≤ 32768 → IsState widest structs params slots state → IsWithinRoom state
+    (structs : List StructDef) (params slots : ℕ) (state : SymState) → AreStructs structs → slots ≤ 32768 →
+    IsState widest structs params slots state → IsWithinRoom state
 
 -- the cells of a well-formed heap have few fields
 abbrev pub CellsHaveFewFields : Type 0
-CellsHaveFewFields = (structs : List StructDef) (params : ℕ) (heap : SymHeap) → AreStructs structs → IsSymHeap widest structs params heap → HaveFewFields heap.spatial
+CellsHaveFewFields = (structs : List StructDef) (params : ℕ) (heap : SymHeap) → AreStructs structs → IsSymHeap widest structs params heap →
+    HaveFewFields heap.spatial
 
 -- the state of a well-formed pair is within room however many parts there are, where its atoms are few, and the missing cells have few
 -- fields
 abbrev pub LargePairHasRoom : Type 0
 LargePairHasRoom =
-    (parts : ℕ) (structs : List StructDef) (params slots : ℕ) (pair : Pair) → AreStructs structs → slots ≤ 32768 → IsPair (with_at_most parts) structs params slots pair →
+    (parts : ℕ) (structs : List StructDef) (params slots : ℕ) (pair : Pair) → AreStructs structs → slots ≤ 32768 →
+    IsPair (with_at_most parts) structs params slots pair →
     length pair.state.heap.spatial ≤ 12000 → IsWithinRoom pair.state × HaveFewFields pair.missing.spatial
 
 -- after the state of a pair was reduced and the pair joined, there is room for as many new variables as there are logical ones
 abbrev pub JoinedPairHasRoom : Type 0
-JoinedPairHasRoom = (kinds : List StructDef) (params : ℕ) (pair : Pair) (mark : HeadMark) → HasRoom pair.state → first_new (join_pair params (reduce_state kinds mark pair)).state + 65536 ≤ 4294967296
+JoinedPairHasRoom = (kinds : List StructDef) (params : ℕ) (pair : Pair) (mark : HeadMark) → HasRoom pair.state →
+    first_new (join_pair params (reduce_state kinds mark pair)).state + 65536 ≤ 4294967296

@@ -67,7 +67,8 @@ without_turns listing (item ∷ queue) = Spent budget.Turns 2049
 -- the first of the queue has its turn, and so again
 abbrev pub with_turn : (Listing → Annotated) → Task → Listing → List (ℕ × SymState) → Annotated
 with_turn again task listing [] = all_done listing
-with_turn again task listing ((node, state) ∷ queue) = end_of again (turn_of task node state (record { nodes = listing.nodes; exits = listing.exits; queue = queue }))
+with_turn again task listing ((node, state) ∷ queue) =
+    end_of again (turn_of task node state (record { nodes = listing.nodes; exits = listing.exits; queue = queue }))
 
 -- so many turns are left
 abbrev pub turns : ℕ → Task → Listing → Annotated

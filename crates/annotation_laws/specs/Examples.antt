@@ -18,11 +18,14 @@ use Rattle.annotation_laws.specs.Listing.{Listing}
 
 -- the strict analysis of a procedure whose callees are these
 abbrev pub strict : Flow → List Callee → Task
-strict flow callees = record { flow = flow; structs = node_struct ∷ []; table = record { own = []; outer = callees; cut = false }; recursive = false }
+strict flow callees =
+    record { flow = flow; structs = node_struct ∷ []; table = record { own = []; outer = callees; cut = false }; recursive = false }
 
 -- the analysis of a procedure that calls itself, while no spec of it is known: strict, or under a cut table
 abbrev pub unknown : Flow → Bool → Task
-unknown flow cut = record { flow = flow; structs = node_struct ∷ []; table = record { own = callee flow.name flow.params [] ∷ []; outer = []; cut = cut }; recursive = true }
+unknown flow cut =
+    record { flow = flow; structs = node_struct ∷ []; table = record { own = callee flow.name flow.params [] ∷ []; outer = []; cut = cut };
+    recursive = true }
 
 -- the procedure that reads, where the one that it calls has its spec
 abbrev pub read_task : Task
@@ -47,9 +50,12 @@ walk_exits = post null null_heap ∷ post null (heap [] (cell (Var 0) (any 1) nu
 abbrev pub walk_whole_cert : Cert
 walk_whole_cert =
     cert (
-    (record { locals = Var 0 ∷ []; heap = whole_list } ∷ state (any 1 ∷ []) [] (cell (Var 0) (any 2) (any 1) ∷ list (any 1) null ∷ []) ∷ walk_head ∷ []) ∷
-    (state (Var 0 ∷ []) (Ne (Var 0) null ∷ []) (list (Var 0) null ∷ []) ∷ state (any 1 ∷ []) (Ne (any 1) null ∷ []) (cell (Var 0) (any 2) (any 1) ∷ list (any 1) null ∷ []) ∷ walk_body ∷ []) ∷
-    (record { locals = null ∷ []; heap = null_heap } ∷ state (null ∷ []) [] (cell (Var 0) (any 1) null ∷ []) ∷ walk_end ∷ []) ∷ []) walk_exits
+    (record { locals = Var 0 ∷ []; heap = whole_list } ∷ state (any 1 ∷ []) [] (cell (Var 0) (any 2) (any 1) ∷ list (any 1) null ∷ [])
+    ∷ walk_head ∷ []) ∷
+    (state (Var 0 ∷ []) (Ne (Var 0) null ∷ []) (list (Var 0) null ∷ [])
+    ∷ state (any 1 ∷ []) (Ne (any 1) null ∷ []) (cell (Var 0) (any 2) (any 1) ∷ list (any 1) null ∷ []) ∷ walk_body ∷ []) ∷
+    (record { locals = null ∷ []; heap = null_heap } ∷ state (null ∷ []) [] (cell (Var 0) (any 1) null ∷ []) ∷ walk_end ∷ [])
+    ∷ []) walk_exits
 
 -- under a cut table the call of the procedure that calls itself leads nowhere: only the empty list is known, whose length is forgotten
 abbrev pub length_cut_cert : Cert
@@ -58,7 +64,8 @@ length_cut_cert =
     (record { locals = Var 0 ∷ null ∷ null ∷ null ∷ []; heap = whole_list } ∷ []) ∷
     (record { locals = null ∷ null ∷ null ∷ null ∷ []; heap = null_heap } ∷ []) ∷
     (state (Var 0 ∷ null ∷ null ∷ null ∷ []) (Ne (Var 0) null ∷ []) (list (Var 0) null ∷ []) ∷ []) ∷
-    (state (Var 0 ∷ null ∷ any 1 ∷ null ∷ []) [] (cell (Var 0) (any 2) (any 1) ∷ list (any 1) null ∷ []) ∷ []) ∷ [] ∷ [] ∷ [] ∷ [] ∷ []) (post (any 1) null_heap ∷ [])
+    (state (Var 0 ∷ null ∷ any 1 ∷ null ∷ []) [] (cell (Var 0) (any 2) (any 1) ∷ list (any 1) null ∷ []) ∷ []) ∷ [] ∷ [] ∷ [] ∷ [] ∷ [])
+    (post (any 1) null_heap ∷ [])
 
 -- THE LIMITS
 

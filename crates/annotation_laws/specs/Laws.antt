@@ -21,13 +21,15 @@ spec_of pre posts = record { pre = pre; posts = posts }
 -- what is done is an inductive certificate of the precondition with the posts, under the table that was used, cut or not
 abbrev pub DoneIsInductive : Type 0
 DoneIsInductive =
-    (task : Task) (pre : SymHeap) (posts : List Post) (cert : Cert) → IsTask task → IsSymHeap analysable task.structs (length task.flow.params) pre →
+    (task : Task) (pre : SymHeap) (posts : List Post) (cert : Cert) → IsTask task →
+    IsSymHeap analysable task.structs (length task.flow.params) pre →
     annotate task pre ≡ Done posts cert → IsInductiveCert task (spec_of pre posts) cert
 
 -- it is well formed, with at most 96 parts in each heap, where the precondition is
 abbrev pub DoneIsWellFormed : Type 0
 DoneIsWellFormed =
-    (task : Task) (pre : SymHeap) (posts : List Post) (cert : Cert) → IsTask task → IsSymHeap analysable task.structs (length task.flow.params) pre →
+    (task : Task) (pre : SymHeap) (posts : List Post) (cert : Cert) → IsTask task →
+    IsSymHeap analysable task.structs (length task.flow.params) pre →
     annotate task pre ≡ Done posts cert → IsTaskSpec task (spec_of pre posts) × IsTaskCert task cert
 
 -- a certificate has at most sixteen states at each node, and at most sixteen exits
@@ -37,4 +39,5 @@ pub record IsSmallCert (cert : Cert) : Type 0 where
 
 -- and so is what is done
 abbrev pub DoneIsSmall : Type 0
-DoneIsSmall = (task : Task) (pre : SymHeap) (posts : List Post) (cert : Cert) → annotate task pre ≡ Done posts cert → (length posts ≤ MOST_STATES) × IsSmallCert cert
+DoneIsSmall = (task : Task) (pre : SymHeap) (posts : List Post) (cert : Cert) → annotate task pre ≡ Done posts cert →
+    (length posts ≤ MOST_STATES) × IsSmallCert cert

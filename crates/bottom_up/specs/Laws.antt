@@ -26,7 +26,8 @@ pub record IsReported (program : Program) (number : ℕ) (proc : Proc) (summary 
 abbrev pub AreReported : Program → List ProcSummary → Type 0
 AreReported program summaries =
     (length summaries ≡ length program.procs)
-    × ((number : ℕ) (proc : Proc) (summary : ProcSummary) → slice_get program.procs number ≡ Some proc → slice_get summaries number ≡ Some summary →
+    × ((number : ℕ) (proc : Proc) (summary : ProcSummary) → slice_get program.procs number ≡ Some proc →
+    slice_get summaries number ≡ Some summary →
     IsReported program number proc summary)
 
 -- SOLVED OR LOADED
@@ -56,7 +57,8 @@ LookedUpAreRight = (loaded : List Solution) → All IsRight loaded → AreRight 
 -- so over right entries each procedure of a well-formed program is reported, and over none at all, where each key is solved
 abbrev pub EachIsReported : Type 0
 EachIsReported =
-    (loaded : List Solution) → All IsRight loaded → (program : Program) → IsProgram program → AreReported program (program_summaries loaded program)
+    (loaded : List Solution) → All IsRight loaded → (program : Program) → IsProgram program →
+    AreReported program (program_summaries loaded program)
 
 -- HONEST ENTRIES
 

@@ -48,4 +48,5 @@ first_place firsts name = get_by (λ k. bytes_eq name k.now) firsts
 -- a map has, for the names of these summaries and for no other, the place among answers of the first of them with that name
 abbrev pub AreFirst : {S : Type 0} → List Answer → List ProcSummary → IndexMap (Bor (List ℕ)) Place S → Type 0
 AreFirst answers summaries firsts =
-    (name : List ℕ) → option_map (summary_in answers) (first_place firsts name) ≡ option_map (λ summary. Some summary) (first_named summaries name)
+    (name : List ℕ)
+    → option_map (summary_in answers) (first_place firsts name) ≡ option_map (λ summary. Some summary) (first_named summaries name)

@@ -2,7 +2,10 @@
 -- contract cites it.
 use Rattle.std.specs.Prelude.{ℕ, zero, suc, false, List, [], ◌∷◌}
 use Rattle.grammar_laws.specs.Form.{Facts, Form, Word, Closed, Nothing, Both, Either, Many, Nearest, Known}
-use Rattle.c_grammar.specs.Classes.{END, NAME, NUMBER, OPEN, CAST, INT, VOID, STRUCT, TYPEDEF, IF, ELSE, WHILE, FOR, DO, BREAK, CONTINUE, RETURN, SIZEOF, NULL, MALLOC, FREE, CLOSE, OPEN_BRACE, CLOSE_BRACE, SEMICOLON, COMMA, ARROW, SET, ADD_TO, SUBTRACT_FROM, MULTIPLY_BY, INCREMENT, DECREMENT, EQUAL, NOT_EQUAL, LESS, LESS_EQUAL, GREATER, GREATER_EQUAL, PLUS, MINUS, STAR, NOT, AND, OR}
+use Rattle.c_grammar.specs.Classes.{END, NAME, NUMBER, OPEN, CAST, INT, VOID, STRUCT, TYPEDEF, IF, ELSE, WHILE, FOR, DO, BREAK, CONTINUE}
+use Rattle.c_grammar.specs.Classes.{RETURN, SIZEOF, NULL, MALLOC, FREE, CLOSE, OPEN_BRACE, CLOSE_BRACE, SEMICOLON, COMMA, ARROW, SET}
+use Rattle.c_grammar.specs.Classes.{ADD_TO, SUBTRACT_FROM, MULTIPLY_BY, INCREMENT, DECREMENT, EQUAL, NOT_EQUAL, LESS, LESS_EQUAL, GREATER}
+use Rattle.c_grammar.specs.Classes.{GREATER_EQUAL, PLUS, MINUS, STAR, NOT, AND, OR}
 
 infixr 30 ◌⨟◌
 infixr 25 ◌∣◌
@@ -262,7 +265,8 @@ item_end_form n = Word SEMICOLON ∣ nest n OPEN_BRACE (block_tail_form (stmt_be
 abbrev pub typedef_form : Form
 typedef_form =
     Word TYPEDEF ⨟ Word STRUCT
-    ⨟ ((struct_body_form ⨟ Word NAME ⨟ Word SEMICOLON) ∣ (Word NAME ⨟ ((struct_body_form ⨟ Word NAME ⨟ Word SEMICOLON) ∣ (Word NAME ⨟ Word SEMICOLON))))
+    ⨟ ((struct_body_form ⨟ Word NAME ⨟ Word SEMICOLON) ∣
+    (Word NAME ⨟ ((struct_body_form ⨟ Word NAME ⨟ Word SEMICOLON) ∣ (Word NAME ⨟ Word SEMICOLON))))
 
 abbrev pub item_facts : Facts
 item_facts = record {

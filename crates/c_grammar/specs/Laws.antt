@@ -31,13 +31,15 @@ HaveOneRefusal = (words : List Word) (one other : Refusal) → RefusedAt words o
 
 -- no words are refused that a file within the levels spells
 abbrev pub HaveNotBoth : Type 0
-HaveNotBoth = (words : List Word) (file : File) (refusal : Refusal) → Spells file words → file_nesting file ≤ MOST_LEVELS → ¬ RefusedAt words refusal
+HaveNotBoth = (words : List Word) (file : File) (refusal : Refusal) → Spells file words → file_nesting file ≤ MOST_LEVELS
+    → ¬ RefusedAt words refusal
 
 -- each list of tokens is spelled by a file within the levels, or refused
 abbrev pub HaveEither : Type 0
 HaveEither =
     (tokens : List Token) → IsTokenList tokens
-    → ((file : File) × Spells file (words_of tokens) × (file_nesting file ≤ MOST_LEVELS)) ⊎ ((refusal : Refusal) × RefusedAt (words_of tokens) refusal)
+    → ((file : File) × Spells file (words_of tokens) × (file_nesting file ≤ MOST_LEVELS))
+    ⊎ ((refusal : Refusal) × RefusedAt (words_of tokens) refusal)
 
 -- an operand of an operator binds tighter than the operator: `a - (b - c)` is not written `a - b - c` (C11 6.5)
 abbrev pub HaveTighterOperands : Type 0
@@ -55,7 +57,8 @@ minus_word place = record { class = Classes.MINUS; text = []; place = place }
 abbrev pub HaveChains : Type 0
 HaveChains =
     (a b c : Name) (first second : Place)
-    → expr_at 0 (Expr.Chain (Expr.Variable a) (Links.Link BinaryOp.Subtract (Expr.Variable b) (Links.Link BinaryOp.Subtract (Expr.Variable c) Links.NoLinks)))
+    → expr_at 0 (Expr.Chain (Expr.Variable a)
+    (Links.Link BinaryOp.Subtract (Expr.Variable b) (Links.Link BinaryOp.Subtract (Expr.Variable c) Links.NoLinks)))
     (name_word a ∷ minus_word first ∷ name_word b ∷ minus_word second ∷ name_word c ∷ []) []
 
 -- an `if` without `else` is not written before an `else` (C11 6.8.4.1)
@@ -66,4 +69,5 @@ HaveNearestElse =
 
 -- `void` alone is no list of parameters (C11 6.7.6.3)
 abbrev pub HaveVoidAlone : Type 0
-HaveVoidAlone = (place : Place) (from to : List Word) → ¬ params (Params.Listed (record { specifier = Specifier.Void place; stars = 0; name = None }) []) from to
+HaveVoidAlone = (place : Place) (from to : List Word)
+    → ¬ params (Params.Listed (record { specifier = Specifier.Void place; stars = 0; name = None }) []) from to

@@ -1,7 +1,8 @@
 -- A syntax tree without its places: each is 0:0. Two trees are equal up to places where these are equal.
 use Rattle.std.specs.Prelude.{Option, Some, None, map}
 use Rattle.c_tokens.specs.declared.places.Place.{Place}
-use Rattle.c_grammar.specs.Trees.{Name, Specifier, Declarator, Fields, Param, Params, Head, Expr, Links, Args, Simple, Initialized, Local, ForInit, Stmt, Stmts, Item, File}
+use Rattle.c_grammar.specs.Trees.{Name, Specifier, Declarator, Fields, Param, Params, Head, Expr, Links, Args, Simple, Initialized, Local}
+use Rattle.c_grammar.specs.Trees.{ForInit, Stmt, Stmts, Item, File}
 
 abbrev pub nowhere : Place
 nowhere = record { line = 0; column = 0 }
@@ -54,7 +55,8 @@ abbrev mutual
   placeless_expr (Expr.Null place) = Expr.Null nowhere
   placeless_expr (Expr.Paren place inner) = Expr.Paren nowhere (placeless_expr inner)
   placeless_expr (Expr.Call callee args) = Expr.Call (placeless_name callee) (placeless_args args)
-  placeless_expr (Expr.Malloc place as_type target) = Expr.Malloc nowhere (placeless_maybe placeless_specifier as_type) (placeless_specifier target)
+  placeless_expr (Expr.Malloc place as_type target) =
+    Expr.Malloc nowhere (placeless_maybe placeless_specifier as_type) (placeless_specifier target)
 
   pub placeless_links : Links → Links
   placeless_links Links.NoLinks = Links.NoLinks
@@ -92,11 +94,13 @@ abbrev mutual
   placeless_stmt (Stmt.Declare l) = Stmt.Declare (placeless_local l)
   placeless_stmt (Stmt.Do s) = Stmt.Do (placeless_simple s)
   placeless_stmt (Stmt.If place test body) = Stmt.If nowhere (placeless_expr test) (placeless_stmt body)
-  placeless_stmt (Stmt.IfElse place test body other) = Stmt.IfElse nowhere (placeless_expr test) (placeless_stmt body) (placeless_stmt other)
+  placeless_stmt (Stmt.IfElse place test body other) =
+    Stmt.IfElse nowhere (placeless_expr test) (placeless_stmt body) (placeless_stmt other)
   placeless_stmt (Stmt.While place test body) = Stmt.While nowhere (placeless_expr test) (placeless_stmt body)
   placeless_stmt (Stmt.DoWhile place body test) = Stmt.DoWhile nowhere (placeless_stmt body) (placeless_expr test)
   placeless_stmt (Stmt.For place init test step body) =
-      Stmt.For nowhere (placeless_init init) (placeless_maybe placeless_expr test) (placeless_maybe placeless_simple step) (placeless_stmt body)
+      Stmt.For nowhere (placeless_init init) (placeless_maybe placeless_expr test) (placeless_maybe placeless_simple step)
+      (placeless_stmt body)
   placeless_stmt (Stmt.Break place) = Stmt.Break nowhere
   placeless_stmt (Stmt.Continue place) = Stmt.Continue nowhere
   placeless_stmt (Stmt.Return place value) = Stmt.Return nowhere (placeless_maybe placeless_expr value)

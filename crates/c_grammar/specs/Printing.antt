@@ -2,7 +2,8 @@
 -- before what stands behind it.
 use Rattle.std.specs.Prelude.{ℕ, zero, suc, Option, Some, None, List, [], ◌∷◌, ◌++◌, codes}
 use Rattle.std.specs.Fmt.{decimal}
-use Rattle.c_grammar.specs.Trees.{Name, Specifier, Declarator, Fields, Param, Params, Head, BinaryOp, PrefixOp, Expr, Links, Args, AssignOp, StepOp, Simple, Initialized, Local, ForInit, Stmt, Stmts, Item, File}
+use Rattle.c_grammar.specs.Trees.{Name, Specifier, Declarator, Fields, Param, Params, Head, BinaryOp, PrefixOp, Expr, Links, Args, AssignOp}
+use Rattle.c_grammar.specs.Trees.{StepOp, Simple, Initialized, Local, ForInit, Stmt, Stmts, Item, File}
 
 abbrev pub Texts : Type 0
 Texts = List (List ℕ)
@@ -36,7 +37,8 @@ abbrev pub print_declarator : Declarator → Texts → Texts
 print_declarator decl behind = print_stars decl.stars (print_name decl.name behind)
 
 abbrev pub print_fields : Fields → Texts → Texts
-print_fields line behind = print_specifier line.specifier (print_declarator line.first (print_more print_declarator line.others (codes ";" ∷ behind)))
+print_fields line behind =
+    print_specifier line.specifier (print_declarator line.first (print_more print_declarator line.others (codes ";" ∷ behind)))
 
 abbrev pub print_struct_body : List Fields → Texts → Texts
 print_struct_body lines behind = codes "{" ∷ print_each print_fields lines (codes "}" ∷ behind)
@@ -75,7 +77,8 @@ print_size_of target behind = codes "(" ∷ codes "sizeof" ∷ codes "(" ∷ pri
 
 abbrev pub print_malloc : Option Specifier → Specifier → Texts → Texts
 print_malloc None target behind = codes "malloc" ∷ print_size_of target behind
-print_malloc (Some as_type) target behind = codes "(" ∷ print_specifier as_type (codes "*" ∷ codes ")" ∷ codes "malloc" ∷ print_size_of target behind)
+print_malloc (Some as_type) target behind =
+    codes "(" ∷ print_specifier as_type (codes "*" ∷ codes ")" ∷ codes "malloc" ∷ print_size_of target behind)
 
 abbrev mutual
   pub print_expr : Expr → Texts → Texts
@@ -119,7 +122,8 @@ print_simple (Simple.Perform callee args) behind = print_name callee (codes "(" 
 print_simple (Simple.Free place pointer) behind = codes "free" ∷ codes "(" ∷ print_expr pointer (codes ")" ∷ behind)
 
 abbrev pub print_initialized : Initialized → Texts → Texts
-print_initialized one behind = print_declarator one.declarator (print_maybe (λ value rest. codes "=" ∷ print_expr value rest) one.value behind)
+print_initialized one behind =
+    print_declarator one.declarator (print_maybe (λ value rest. codes "=" ∷ print_expr value rest) one.value behind)
 
 abbrev pub print_local : Local → Texts → Texts
 print_local l behind = print_specifier l.specifier (print_initialized l.first (print_more print_initialized l.others behind))
@@ -142,7 +146,9 @@ abbrev mutual
   print_stmt (Stmt.DoWhile place body test) behind =
       codes "do" ∷ print_stmt body (codes "while" ∷ codes "(" ∷ print_expr test (codes ")" ∷ codes ";" ∷ behind))
   print_stmt (Stmt.For place init test step body) behind =
-      codes "for" ∷ codes "(" ∷ print_init init (codes ";" ∷ print_maybe print_expr test (codes ";" ∷ print_maybe print_simple step (codes ")" ∷ print_stmt body behind)))
+      codes "for" ∷ codes "("
+      ∷ print_init init
+      (codes ";" ∷ print_maybe print_expr test (codes ";" ∷ print_maybe print_simple step (codes ")" ∷ print_stmt body behind)))
   print_stmt (Stmt.Break place) behind = codes "break" ∷ codes ";" ∷ behind
   print_stmt (Stmt.Continue place) behind = codes "continue" ∷ codes ";" ∷ behind
   print_stmt (Stmt.Return place value) behind = codes "return" ∷ print_maybe print_expr value (codes ";" ∷ behind)
@@ -155,7 +161,8 @@ abbrev pub print_item : Item → Texts → Texts
 print_item (Item.StructItem place tag lines) behind = codes "struct" ∷ print_name tag (print_struct_body lines (codes ";" ∷ behind))
 print_item (Item.TypedefStruct place tag lines alias) behind =
     codes "typedef" ∷ codes "struct" ∷ print_maybe print_name tag (print_struct_body lines (print_name alias (codes ";" ∷ behind)))
-print_item (Item.TypedefAlias place tag alias) behind = codes "typedef" ∷ codes "struct" ∷ print_name tag (print_name alias (codes ";" ∷ behind))
+print_item (Item.TypedefAlias place tag alias) behind =
+    codes "typedef" ∷ codes "struct" ∷ print_name tag (print_name alias (codes ";" ∷ behind))
 print_item (Item.Prototype h) behind = print_head h (codes ";" ∷ behind)
 print_item (Item.Definition h place body end) behind = print_head h (codes "{" ∷ print_stmts body (codes "}" ∷ behind))
 

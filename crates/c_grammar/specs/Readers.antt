@@ -1,6 +1,7 @@
 -- What the parser computes: for each rule of the grammar the tree that words begin with, or where reading them stops. No
 -- public contract cites it.
-use Rattle.std.specs.Prelude.{ℕ, zero, suc, Bool, true, false, ◌==◌, ◌||◌, Option, Some, None, List, [], ◌∷◌, if◌then◌else◌, length, Result, Ok, Err}
+use Rattle.std.specs.Prelude.{ℕ, zero, suc, Bool, true, false, ◌==◌, ◌||◌, Option, Some, None, List, [], ◌∷◌, if◌then◌else◌, length, Result}
+use Rattle.std.specs.Prelude.{Ok, Err}
 use Rattle.std.specs.Str.Parse.{digits_value}
 use Rattle.c_tokens.specs.declared.places.Place.{Place}
 use Rattle.c_tokens.specs.declared.places.Refusal.{Refusal}
@@ -8,7 +9,8 @@ use Rattle.c_grammar.specs.declared.class.Class.{Class}
 use Rattle.c_grammar.specs.declared.class.Class.TheVariants as class
 use Rattle.c_grammar.specs.Classes.{number_of, numbered}
 use Rattle.c_grammar.specs.Words.{Word}
-use Rattle.c_grammar.specs.Trees.{Name, Specifier, Declarator, Fields, Param, Params, Head, BinaryOp, PrefixOp, Expr, Links, Args, AssignOp, StepOp, Simple, Initialized, Local, ForInit, Stmt, Stmts, Item, File}
+use Rattle.c_grammar.specs.Trees.{Name, Specifier, Declarator, Fields, Param, Params, Head, BinaryOp, PrefixOp, Expr, Links, Args, AssignOp}
+use Rattle.c_grammar.specs.Trees.{StepOp, Simple, Initialized, Local, ForInit, Stmt, Stmts, Item, File}
 use Rattle.c_grammar.specs.Spelling.{is_void_alone}
 
 -- where reading stops: at the first of these words, which cannot stand there, or else (deep) opens a level too many
@@ -215,12 +217,14 @@ read_malloc words = read_size_of (behind words) >>= (λ target. Ok (Expr.Malloc 
 
 unfoldable pub read_cast : List Word → Got Expr
 read_cast words =
-    read_specifier (behind words) >>= (λ as_type. take class.Star as_type.1 >>= (λ a. take class.Close a >>= (λ b. take class.Malloc b >>= (λ c.
+    read_specifier (behind words)
+    >>= (λ as_type. take class.Star as_type.1 >>= (λ a. take class.Close a >>= (λ b. take class.Malloc b >>= (λ c.
     read_size_of c >>= (λ target. Ok (Expr.Malloc (place_at words) (Some as_type.0) target.0, target.1))))))
 
 abbrev pub read_paren : Below → List Word → Got Expr
 read_paren None words = too_deep words
-read_paren (Some read) words = read (behind words) >>= (λ inner. take class.Close inner.1 >>= (λ rest. Ok (Expr.Paren (place_at words) inner.0, rest)))
+read_paren (Some read) words = read (behind words)
+    >>= (λ inner. take class.Close inner.1 >>= (λ rest. Ok (Expr.Paren (place_at words) inner.0, rest)))
 
 -- a primary expression that begins with no name
 abbrev pub closed_by : Class → Below → List Word → Got Expr
@@ -349,7 +353,8 @@ read_named n first words =
 -- a simple statement that begins with no name
 abbrev pub other_by : Class → ℕ → List Word → Got Simple
 other_by class.Free n words =
-    take_open (behind words) >>= (λ a. read_expr n a >>= (λ pointer. take class.Close pointer.1 >>= (λ rest. Ok (Simple.Free (place_at words) pointer.0, rest))))
+    take_open (behind words)
+    >>= (λ a. read_expr n a >>= (λ pointer. take class.Close pointer.1 >>= (λ rest. Ok (Simple.Free (place_at words) pointer.0, rest))))
 other_by kind n words = closed_by kind (read_below n) words >>= (λ base. read_target n base.0 base.1)
 
 abbrev pub simple_by : Class → ℕ → List Word → Got Simple
@@ -436,7 +441,8 @@ flat_by class.Semicolon n words = Ok (Stmt.Empty (place_at words), behind words)
 flat_by class.Break n words = take class.Semicolon (behind words) >>= (λ rest. Ok (Stmt.Break (place_at words), rest))
 flat_by class.Continue n words = take class.Semicolon (behind words) >>= (λ rest. Ok (Stmt.Continue (place_at words), rest))
 flat_by class.Return n words =
-    read_maybe begins_expr (read_expr n) (behind words) >>= (λ value. take class.Semicolon value.1 >>= (λ rest. Ok (Stmt.Return (place_at words) value.0, rest)))
+    read_maybe begins_expr (read_expr n) (behind words)
+    >>= (λ value. take class.Semicolon value.1 >>= (λ rest. Ok (Stmt.Return (place_at words) value.0, rest)))
 flat_by kind n words = clause_by kind n words >>= (λ c. take class.Semicolon c.1 >>= (λ rest. Ok (stmt_of c.0, rest)))
 
 -- a test in parentheses
@@ -469,7 +475,8 @@ pub record Body : Type 0 where
 
 abbrev pub read_body : (List Word → Got Stmt) → List Word → Got Body
 read_body read words =
-    read_stmts (length words) read words >>= (λ body. take class.CloseBrace body.1 >>= (λ rest. Ok (record { stmts = body.0; end = place_at body.1 }, rest)))
+    read_stmts (length words) read words
+    >>= (λ body. take class.CloseBrace body.1 >>= (λ rest. Ok (record { stmts = body.0; end = place_at body.1 }, rest)))
 
 -- `else` and its statement, if they follow
 abbrev pub if_of : Place → Expr → Stmt → Option Stmt → Stmt
@@ -485,7 +492,8 @@ read_if n read words =
     Ok (if_of (place_at words) test.0 body.0 other.0, other.1))))
 
 abbrev pub read_while : ℕ → (List Word → Got Stmt) → List Word → Got Stmt
-read_while n read words = read_test n (behind words) >>= (λ test. read test.1 >>= (λ body. Ok (Stmt.While (place_at words) test.0 body.0, body.1)))
+read_while n read words = read_test n (behind words)
+    >>= (λ test. read test.1 >>= (λ body. Ok (Stmt.While (place_at words) test.0 body.0, body.1)))
 
 abbrev pub read_do : ℕ → (List Word → Got Stmt) → List Word → Got Stmt
 read_do n read words =
@@ -501,7 +509,8 @@ read_for n read words =
 
 -- a statement that opens a level, by the readers within it
 abbrev pub nested_by : Class → ℕ → (List Word → Got Stmt) → List Word → Got Stmt
-nested_by class.OpenBrace n read words = read_body read (behind words) >>= (λ body. Ok (Stmt.Block (place_at words) body.0.stmts body.0.end, body.1))
+nested_by class.OpenBrace n read words =
+    read_body read (behind words) >>= (λ body. Ok (Stmt.Block (place_at words) body.0.stmts body.0.end, body.1))
 nested_by class.If n read words = read_if n read words
 nested_by class.While n read words = read_while n read words
 nested_by class.Do n read words = read_do n read words
@@ -594,7 +603,8 @@ begins_item _ = false
 -- all of the words
 unfoldable pub read_file : ℕ → List Word → Result File Halt
 read_file n words =
-    read_each (length words) begins_item (read_item n) words >>= (λ items. take class.End items.1 >>= (λ rest. Ok (record { items = items.0 })))
+    read_each (length words) begins_item (read_item n) words
+    >>= (λ items. take class.End items.1 >>= (λ rest. Ok (record { items = items.0 })))
 
 -- the refusal of a stop: at the first word that is left
 abbrev pub refusal_of : Halt → Refusal

@@ -5,7 +5,8 @@ use Rattle.std.specs.Str.Parse.{digits_value}
 use Rattle.c_tokens.specs.declared.places.Place.{Place}
 use Rattle.c_grammar.specs.Classes
 use Rattle.c_grammar.specs.Words.{Word}
-use Rattle.c_grammar.specs.Trees.{Name, Specifier, Declarator, Fields, Param, Params, Head, BinaryOp, PrefixOp, Expr, Links, Args, AssignOp, StepOp, Simple, Initialized, Local, ForInit, Stmt, Stmts, Item, File}
+use Rattle.c_grammar.specs.Trees.{Name, Specifier, Declarator, Fields, Param, Params, Head, BinaryOp, PrefixOp, Expr, Links, Args, AssignOp}
+use Rattle.c_grammar.specs.Trees.{StepOp, Simple, Initialized, Local, ForInit, Stmt, Stmts, Item, File}
 
 abbrev pub Rule : Type 1
 Rule = List Word → List Word → Type 0
@@ -70,7 +71,8 @@ declarator decl = stars decl.stars ⨾ name decl.name
 
 abbrev pub fields : Fields → Rule
 fields line =
-    specifier line.specifier ⨾ declarator line.first ⨾ each (λ decl. word Classes.COMMA ⨾ declarator decl) line.others ⨾ word Classes.SEMICOLON
+    specifier line.specifier ⨾ declarator line.first ⨾ each (λ decl. word Classes.COMMA ⨾ declarator decl) line.others
+    ⨾ word Classes.SEMICOLON
 
 -- `{ .. }` of a structure
 abbrev pub struct_body : List Fields → Rule
@@ -159,11 +161,13 @@ abbrev mutual
   -- operator (C11 6.5)
   pub expr_at : ℕ → Expr → Rule
   expr_at level (Expr.Chain first (Links.Link op second others)) =
-      at_least level (level_of op) (expr_at (level_of op + 1) first ⨾ word (class_of_binary op) ⨾ expr_at (level_of op + 1) second ⨾ links_at (level_of op) others)
+      at_least level (level_of op)
+      (expr_at (level_of op + 1) first ⨾ word (class_of_binary op) ⨾ expr_at (level_of op + 1) second ⨾ links_at (level_of op) others)
   expr_at level (Expr.Chain first Links.NoLinks) = λ from to. ⊥
   expr_at level (Expr.Prefix place op inner) = at_least level UNARY (word_at place (class_of_prefix op) ⨾ expr_at UNARY inner)
   expr_at level (Expr.Members base first others) =
-      at_least level POSTFIX (expr_at PRIMARY base ⨾ word Classes.ARROW ⨾ name first ⨾ each (λ field. word Classes.ARROW ⨾ name field) others)
+      at_least level POSTFIX
+      (expr_at PRIMARY base ⨾ word Classes.ARROW ⨾ name first ⨾ each (λ field. word Classes.ARROW ⨾ name field) others)
   expr_at level (Expr.Variable n) = name n
   expr_at level (Expr.Number place value) = number place value
   expr_at level (Expr.Null place) = word_at place Classes.NULL
@@ -246,7 +250,8 @@ abbrev pub item : Item → Rule
 item (Item.StructItem place tag lines) = word_at place Classes.STRUCT ⨾ name tag ⨾ struct_body lines ⨾ word Classes.SEMICOLON
 item (Item.TypedefStruct place tag lines alias) =
     word_at place Classes.TYPEDEF ⨾ word Classes.STRUCT ⨾ maybe name tag ⨾ struct_body lines ⨾ name alias ⨾ word Classes.SEMICOLON
-item (Item.TypedefAlias place tag alias) = word_at place Classes.TYPEDEF ⨾ word Classes.STRUCT ⨾ name tag ⨾ name alias ⨾ word Classes.SEMICOLON
+item (Item.TypedefAlias place tag alias) =
+    word_at place Classes.TYPEDEF ⨾ word Classes.STRUCT ⨾ name tag ⨾ name alias ⨾ word Classes.SEMICOLON
 item (Item.Prototype h) = head h ⨾ word Classes.SEMICOLON
 item (Item.Definition h place body end) = head h ⨾ word_at place Classes.OPEN_BRACE ⨾ stmts body ⨾ word_at end Classes.CLOSE_BRACE
 

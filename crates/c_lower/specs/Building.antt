@@ -31,7 +31,8 @@ item_part tables file one = record { refusals = item_refusals tables one; procs 
 abbrev pub items_part : Tables → List ℕ → List Item → Part
 items_part tables file items = record { refusals = items_refusals tables items; procs = items_procs tables file items }
 
--- afterwards stands what stood before, with what is found in a part: the first that is too large, and the procedures, if in the part nothing is too large
+-- afterwards stands what stood before, with what is found in a part: the first that is too large, and the procedures, if in the part
+-- nothing is too large
 pub record Adds (part : Part) (before after : Building) : Type 0 where
   pub first : after.first ≡ with_refusals before.first part.refusals
   pub procs : part.refusals ≡ [] → after.procs ≡ before.procs ++ part.procs
@@ -41,7 +42,8 @@ pub record AddsUpTo (left all : Part) (before now : Building) : Type 0 where
   pub whole : (after : Building) → Adds left now after → Adds all before after
 
 -- with what is left to be found in files, from one on, all is found
-pub record IsBuiltUpTo (tables : Tables) (files : List File) (names : List (List ℕ)) (left : List File) (left_names : List (List ℕ)) (unit : ℕ)
+pub record IsBuiltUpTo (tables : Tables) (files : List File) (names : List (List ℕ)) (left : List File) (left_names : List (List ℕ))
+    (unit : ℕ)
     (now : Building) : Type 0 where
   pub refusal : first_with now.first.found (files_refusals tables unit left) ≡ first_with None (files_refusals tables 0 files)
   pub none : files_refusals tables 0 files ≡ [] → files_refusals tables unit left ≡ []

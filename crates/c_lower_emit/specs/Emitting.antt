@@ -114,5 +114,6 @@ BeginsTruth AsTest first old start to = start ≡ old
 abbrev pub EndsTruth : Use → Spot → ℕ → ℕ → Out → Out → Operand → Type 0
 EndsTruth used spot to from old new operand =
     (c : Context) → c.line ≡ spot.line → c.first_temp ≡ spot.first_temp → (testing : List temporaries.Temp → Tested) → (before start : Out)
-    → BeginsTruth used spot.first_temp before start to → from ≡ length start.nodes → EmitsTested (testing start.temps) spot.first_temp start old
+    → BeginsTruth used spot.first_temp before start to → from ≡ length start.nodes
+    → EmitsTested (testing start.temps) spot.first_temp start old
     → Emits used (truth c testing) spot.first_temp before new operand

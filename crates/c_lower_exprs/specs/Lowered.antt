@@ -22,22 +22,26 @@ pub record IsLowered (used : Use) (l : Lowering) (first : ℕ) (old new : Out) (
 
 -- arguments were emitted, where there is room for them
 abbrev pub EmitsArguments : Arguments → ℕ → Out → Out → List Operand → Type 0
-EmitsArguments args first old new operands = HasRoom first args.code.size old → EmitsStraight args.code args.temps old new × (operands ≡ args.operands)
+EmitsArguments args first old new operands =
+    HasRoom first args.code.size old → EmitsStraight args.code args.temps old new × (operands ≡ args.operands)
 
 -- behind any arguments that have these values, the call was emitted
 abbrev pub IsCalled : Use → Context → Name → List Operand → ℕ → Out → Out → Out → Found → Type 0
 IsCalled used c callee operands first before old new found =
-    (args : List Lowering) → EmitsArguments (arguments (no_arguments before.temps) args) first before old operands → IsLowered used (called c callee args) first before new found
+    (args : List Lowering) → EmitsArguments (arguments (no_arguments before.temps) args) first before old operands
+    → IsLowered used (called c callee args) first before new found
 
 -- the test that begins at a place leads to what comes next where it holds, or where it doesn't hold
 abbrev pub LeadsWhereHolds : ℕ → Out → Out → Type 0
 LeadsWhereHolds from old new =
-    from ≤ length old.nodes → length old.nodes < 4294967296 → new ≡ led_out from (length old.nodes) (record as_they_are { holds = At (length old.nodes) }) old
+    from ≤ length old.nodes → length old.nodes < 4294967296
+      → new ≡ led_out from (length old.nodes) (record as_they_are { holds = At (length old.nodes) }) old
 
 -- the same, where it doesn't hold
 abbrev pub LeadsWhereFails : ℕ → Out → Out → Type 0
 LeadsWhereFails from old new =
-    from ≤ length old.nodes → length old.nodes < 4294967296 → new ≡ led_out from (length old.nodes) (record as_they_are { fails = At (length old.nodes) }) old
+    from ≤ length old.nodes → length old.nodes < 4294967296
+      → new ≡ led_out from (length old.nodes) (record as_they_are { fails = At (length old.nodes) }) old
 
 -- OPERATORS, behind any operands. A test begins at `from`, and its value goes to the slot `to`
 
@@ -58,12 +62,14 @@ IsCompared used c op to from left right old new found =
 abbrev pub IsBoth : Use → Context → ℕ → ℕ → Out → Out → Found → Type 0
 IsBoth used c to from old new found =
     (l r : Lowering) → (before start one led : Out) → BeginsTruth used c.first_temp before start to → from ≡ length start.nodes
-    → EmitsTested (l.test start.temps) c.first_temp start one → LeadsWhereHolds from one led → EmitsTested (r.test led.temps) c.first_temp led old
+    → EmitsTested (l.test start.temps) c.first_temp start one → LeadsWhereHolds from one led
+    → EmitsTested (r.test led.temps) c.first_temp led old
     → IsLowered used (conjunction c l r) c.first_temp before new found
 
 -- behind two tests, the second where the first doesn't hold, their disjunction was emitted
 abbrev pub IsEither : Use → Context → ℕ → ℕ → Out → Out → Found → Type 0
 IsEither used c to from old new found =
     (l r : Lowering) → (before start one led : Out) → BeginsTruth used c.first_temp before start to → from ≡ length start.nodes
-    → EmitsTested (l.test start.temps) c.first_temp start one → LeadsWhereFails from one led → EmitsTested (r.test led.temps) c.first_temp led old
+    → EmitsTested (l.test start.temps) c.first_temp start one → LeadsWhereFails from one led
+    → EmitsTested (r.test led.temps) c.first_temp led old
     → IsLowered used (disjunction c l r) c.first_temp before new found

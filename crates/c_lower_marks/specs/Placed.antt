@@ -14,7 +14,8 @@ first_loop (first ∷ others) = Some first
 -- the marks of the nodes that are left, from a place on
 abbrev pub marks_from : List Ty → List Node → List Loop → ℕ → List Node → List (Option HeadMark)
 marks_from slots nodes loops place [] = []
-marks_from slots nodes loops place (first ∷ others) = mark_by slots nodes (loops_at place loops) ∷ marks_from slots nodes loops (suc place) others
+marks_from slots nodes loops place (first ∷ others) =
+    mark_by slots nodes (loops_at place loops) ∷ marks_from slots nodes loops (suc place) others
 
 -- the first nodes with these marks, the others as they are
 abbrev pub with_marks : List (Option HeadMark) → List Node → List Node

@@ -14,7 +14,9 @@ abbrev pub head : Head
 head = record {
   specifier = Specifier.Int (at 1);
   declarator = plain_name (codes "f") 5;
-  params = Params.Listed (record { specifier = Specifier.Struct (at 7) (named (codes "node") 14); stars = 1; name = Some (named (codes "p") 20) }) [];
+  params =
+    Params.Listed
+    (record { specifier = Specifier.Struct (at 7) (named (codes "node") 14); stars = 1; name = Some (named (codes "p") 20) }) [];
 }
 
 -- statements as a body
@@ -48,7 +50,8 @@ assign left right = Stmt.Do (Simple.Assign left AssignOp.Set right)
 
 -- `int NAME = VALUE`
 abbrev pub int_local : List ℕ → Option Expr → Local
-int_local name value = record { specifier = Specifier.Int (at 1); first = record { declarator = plain_name name 5; value = value }; others = [] }
+int_local name value =
+    record { specifier = Specifier.Int (at 1); first = record { declarator = plain_name name 5; value = value }; others = [] }
 
 -- `struct node *NAME = VALUE`
 abbrev pub node_local : List ℕ → Option Expr → Local

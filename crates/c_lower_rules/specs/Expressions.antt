@@ -53,7 +53,8 @@ compare_both c op pointers left right = record {
 -- `a == b`, `a < b` and the like (C11 6.5.8, 6.5.9): pointers are compared where one of the operands has a pointer's type
 abbrev pub comparison : Context → TestOp → Lowering → Lowering → Lowering
 comparison c op left right =
-    truth c (λ temps. left.value temps ▹ (λ l. right.value l.temps ▹ (λ r. compare_both c op (is_pointer left.kind || is_pointer right.kind) l r)))
+    truth c (λ temps. left.value temps
+    ▹ (λ l. right.value l.temps ▹ (λ r. compare_both c op (is_pointer left.kind || is_pointer right.kind) l r)))
 
 -- `a && b` (C11 6.5.13)
 abbrev pub conjunction : Context → Lowering → Lowering → Lowering

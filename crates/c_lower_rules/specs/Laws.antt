@@ -17,7 +17,8 @@ use Rattle.c_lower_rules.specs.Examples.{body, nodes, p, p_v, p_n, assign, int_l
 -- (`Texts`), one name is given for each, and structures and procedures can be counted
 abbrev pub HaveWellFormed : Type 0
 HaveWellFormed =
-    (names : List (List ℕ)) (files : List File) → IsWellTyped files → first_too_large files ≡ None → All IsText files → length names ≡ length files
+    (names : List (List ℕ)) (files : List File) → IsWellTyped files → first_too_large files ≡ None → All IsText files
+    → length names ≡ length files
     → IsCountable (program_of names files).structs → IsCountable (program_of names files).procs → IsProgram (program_of names files)
 
 -- the nodes of small bodies; what closes them is `Any` and `Return`
@@ -45,7 +46,8 @@ pub record HaveExamples : Type 0 where
       ∷ closing (cmd.Any 1 Int 5) ∷ closing (cmd.Return (Slot 1)) ∷ []
   -- `p->v += f(p);`: the call, then the load
   pub updates_by_call : nodes (Stmt.Do (Simple.Assign p_v AssignOp.AddTo (Expr.Call (named (codes "f") 9) (Args.Arg p Args.NoArgs))) ∷ []) ≡
-      step (cmd.Call (Some 1) (codes "f") (Slot 0 ∷ []) 1) ∷ step (cmd.Load 2 0 (codes "node") 0 2) ∷ step (cmd.Arith 3 arith.Add (Slot 2) (Slot 1) 3)
+      step (cmd.Call (Some 1) (codes "f") (Slot 0 ∷ []) 1) ∷ step (cmd.Load 2 0 (codes "node") 0 2)
+      ∷ step (cmd.Arith 3 arith.Add (Slot 2) (Slot 1) 3)
       ∷ step (cmd.Store 0 (codes "node") 0 (Slot 3) 4)
       ∷ closing (cmd.Any 1 Int 5) ∷ closing (cmd.Return (Slot 1)) ∷ []
   -- `p->n->v = p->v;`: the value, then the pointer, then the store
@@ -59,7 +61,8 @@ pub record HaveExamples : Type 0 where
   -- `for (int i = 0; i < 3; i++) { int j = i; continue; }`: `continue` goes to the step; `j` is out of scope at the head
   pub for_loop : nodes (Stmt.For (at 1) (ForInit.Locals (int_local (codes "i") (Some (number 0 9))))
       (Some (two BinaryOp.Less (variable (codes "i") 1) (number 3 5))) (Some (Simple.Step (variable (codes "i") 1) StepOp.Increment))
-      (Stmt.Block (at 1) (body (Stmt.Declare (int_local (codes "j") (Some (variable (codes "i") 9))) ∷ Stmt.Continue (at 1) ∷ [])) (at 9)) ∷ []) ≡
+      (Stmt.Block (at 1) (body (Stmt.Declare (int_local (codes "j") (Some (variable (codes "i") 9))) ∷ Stmt.Continue (at 1) ∷ [])) (at 9))
+      ∷ []) ≡
       step (cmd.Copy 1 (Num (pos 0)) 1) ∷ loop (1 ∷ 2 ∷ []) (2 ∷ 3 ∷ []) (cmd.Branch test.Lt false (Slot 1) (Num (pos 3)) 2 4)
       ∷ step (cmd.Copy 2 (Slot 1) 3) ∷ step (cmd.Arith 1 arith.Add (Slot 1) (Num (pos 1)) 1)
       ∷ closing (cmd.Any 3 Int 5) ∷ closing (cmd.Return (Slot 3)) ∷ []
@@ -73,13 +76,17 @@ pub record HaveExamples : Type 0 where
       loop [] (1 ∷ []) (cmd.Branch test.Ne false (Num (pos 0)) (Num (pos 0)) 0 1)
       ∷ closing (cmd.Any 1 Int 2) ∷ closing (cmd.Return (Slot 1)) ∷ []
   -- `do { break; return 1; } while (1); return 2;`: a run begins behind the loop
-  pub begins_later : nodes (Stmt.DoWhile (at 1) (Stmt.Block (at 1) (body (Stmt.Break (at 1) ∷ returns (number 1 8) ∷ [])) (at 9)) (number 1 1) ∷ returns (number 2 8) ∷ []) ≡
+  pub begins_later : nodes
+    (Stmt.DoWhile (at 1) (Stmt.Block (at 1) (body (Stmt.Break (at 1) ∷ returns (number 1 8) ∷ [])) (at 9)) (number 1 1)
+    ∷ returns (number 2 8) ∷ []) ≡
       step (cmd.Branch test.Ne false (Num (pos 1)) (Num (pos 0)) 3 3)
-      ∷ loop [] (1 ∷ []) (cmd.Return (Num (pos 1))) ∷ step (cmd.Branch test.Ne false (Num (pos 1)) (Num (pos 0)) 3 3) ∷ step (cmd.Return (Num (pos 2)))
+      ∷ loop [] (1 ∷ []) (cmd.Return (Num (pos 1))) ∷ step (cmd.Branch test.Ne false (Num (pos 1)) (Num (pos 0)) 3 3)
+      ∷ step (cmd.Return (Num (pos 2)))
       ∷ closing (cmd.Any 1 Int 5) ∷ closing (cmd.Return (Slot 1)) ∷ []
   -- `for (;;) if (p) break;`
   pub forever : nodes (Stmt.For (at 1) ForInit.NoInit None None (Stmt.If (at 1) p (Stmt.Break (at 1))) ∷ []) ≡
-      loop [] (1 ∷ []) (cmd.Branch test.Ne false (Num (pos 1)) (Num (pos 0)) 1 2) ∷ step (cmd.Branch test.Ne true (Slot 0) (Num (pos 0)) 2 0)
+      loop [] (1 ∷ []) (cmd.Branch test.Ne false (Num (pos 1)) (Num (pos 0)) 1 2)
+      ∷ step (cmd.Branch test.Ne true (Slot 0) (Num (pos 0)) 2 0)
       ∷ closing (cmd.Any 1 Int 3) ∷ closing (cmd.Return (Slot 1)) ∷ []
   -- `struct node *q = malloc(sizeof(struct node)); q->n = malloc(sizeof(struct node)); free(0); free(q);`
   pub memory : nodes (Stmt.Declare (node_local (codes "q") (Some new_node))

@@ -1,5 +1,6 @@
 -- The marks of loop heads.
-use Rattle.std.specs.Prelude.{ℕ, suc, ◌-◌, ◌==◌, Bool, true, false, ◌&&◌, ◌||◌, not, Option, Some, None, List, [], ◌∷◌, take, drop, if◌then◌else◌}
+use Rattle.std.specs.Prelude.{ℕ, suc, ◌-◌, ◌==◌, Bool, true, false, ◌&&◌, ◌||◌, not, Option, Some, None, List, [], ◌∷◌, take, drop}
+use Rattle.std.specs.Prelude.{if◌then◌else◌}
 use Rattle.shape_data.specs.declared.program.Cmd.{Cmd}
 use Rattle.shape_data.specs.declared.program.Cmd.TheVariants as cmd
 use Rattle.shape_data.specs.declared.program.HeadMark.{HeadMark}

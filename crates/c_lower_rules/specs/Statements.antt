@@ -17,7 +17,8 @@ use Rattle.c_lower_rules.specs.Code.{Code, Straight, no_nodes, nothing, jump, co
 use Rattle.c_lower_rules.specs.Temporaries.{Temp, Taken, released, take_temp}
 use Rattle.c_lower_rules.specs.Contexts.{Context, slot_of, visible, at_place, within_scope, tag_of}
 use Rattle.c_lower_rules.specs.Values.{◌▹◌, Piece, Value, Tested, Lowering, slot_taken, at_hand, made}
-use Rattle.c_lower_rules.specs.Expressions.{Field, Arguments, slot_read, field_behind, load_by, member, arithmetic, arguments, no_arguments, lowering, lowerings, wanted}
+use Rattle.c_lower_rules.specs.Expressions.{Field, Arguments, slot_read, field_behind, load_by, member, arithmetic, arguments, no_arguments}
+use Rattle.c_lower_rules.specs.Expressions.{lowering, lowerings, wanted}
 
 -- SIMPLE STATEMENTS
 
@@ -142,7 +143,8 @@ pub record Lowered : Type 0 where
 -- behind the declaration of a local (C11 6.2.1)
 abbrev pub with_local : Context → ℕ → Specifier → Initialized → Context
 with_local c locals specifier one =
-    record c { env = behind_local c.env specifier one; bound = record { name = one.declarator.name.text; slot = c.first_local + locals } ∷ c.bound }
+    record c { env = behind_local c.env specifier one;
+      bound = record { name = one.declarator.name.text; slot = c.first_local + locals } ∷ c.bound }
 
 -- a local holds any value, or that of its initializer (C11 6.7.9), in which its name means it already
 abbrev pub initial : Context → ℕ → Ty → Option Expr → List Temp → Piece
@@ -262,7 +264,8 @@ abbrev mutual
   stmt (Stmt.DoWhile place body e) before =
       stmt body (inside before)
       ▹ (λ b. condition (with_names before b.behind) e
-      ▹ (λ t. record { code = repeat_first (visible before.context) b.code t.test; behind = with_temps (with_names before b.behind) t.temps }))
+      ▹ (λ t. record { code = repeat_first (visible before.context) b.code t.test;
+        behind = with_temps (with_names before b.behind) t.temps }))
   stmt (Stmt.For place first e step body) before =
       for_init (inside before) place first
       ▹ (λ i. for_condition i.behind place e

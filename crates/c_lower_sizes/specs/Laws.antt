@@ -40,12 +40,14 @@ AreBodiesNoLarger = (tables : Tables) (head : Head) (body : Stmts) (place : Plac
 abbrev pub for_loop : Stmts
 for_loop = body (Stmt.For (at 1) (ForInit.Locals (int_local (codes "i") (Some (number 0 9))))
     (Some (two BinaryOp.Less (variable (codes "i") 1) (number 3 5))) (Some (Simple.Step (variable (codes "i") 1) StepOp.Increment))
-    (Stmt.Block (at 1) (body (Stmt.Declare (int_local (codes "j") (Some (variable (codes "i") 9))) ∷ Stmt.Continue (at 1) ∷ [])) (at 9)) ∷ [])
+    (Stmt.Block (at 1) (body (Stmt.Declare (int_local (codes "j") (Some (variable (codes "i") 9))) ∷ Stmt.Continue (at 1) ∷ [])) (at 9))
+    ∷ [])
 
 -- the sizes and locals of small bodies
 pub record HaveExamples : Type 0 where
   -- `return p && p->v || 0;`
-  pub short_circuit : stmts_size (body (returns (Expr.Chain (two BinaryOp.And p p_v) (Links.Link BinaryOp.Or (number 0 9) Links.NoLinks)) ∷ [])) ≡ 7
+  pub short_circuit : stmts_size
+    (body (returns (Expr.Chain (two BinaryOp.And p p_v) (Links.Link BinaryOp.Or (number 0 9) Links.NoLinks)) ∷ [])) ≡ 7
   -- `p->v += p->v;`
   pub updates : stmts_size (body (Stmt.Do (Simple.Assign p_v AssignOp.AddTo p_v) ∷ [])) ≡ 4
   -- `p->n->v = p->v;`

@@ -28,7 +28,8 @@ pub record Lays (l : Lowered) (c : Context) (locals : ℕ) (after : Context) (la
 
 -- where there is room for it
 abbrev pub EmitsLowered : Lowered → Context → ℕ → Context → Laid → Out → Out → Type 0
-EmitsLowered l c locals after laid old new = HasRoom c.first_temp l.code.size old → HasSlots c locals l.code.size → Lays l c locals after laid old new
+EmitsLowered l c locals after laid old new =
+    HasRoom c.first_temp l.code.size old → HasSlots c locals l.code.size → Lays l c locals after laid old new
 
 -- a piece in a scope of its own was emitted, where there is room for it
 abbrev pub EmitsWithin : Lowered → Context → ℕ → Laid → Out → Out → Type 0

@@ -16,6 +16,7 @@ EmitsReleased piece first old new =
 -- the test between the two places and the two pieces behind it, whose runs begin at `holds` and `fails`, are one piece then
 abbrev pub Chooses : ℕ → ℕ → Label → Label → Out → Out → Type 0
 Chooses from past holds fails old new =
-    (tested : Test) → (one other : Code) → (s t u : List Temp) → (start behind mid : Out) → from ≡ length start.nodes → past ≡ length behind.nodes
+    (tested : Test) → (one other : Code) → (s t u : List Temp) → (start behind mid : Out) → from ≡ length start.nodes
+    → past ≡ length behind.nodes
     → EmitsTest tested s start behind → EmitsCode one t holds behind mid → EmitsCode other u fails mid old
     → EmitsCode (choose tested one other) u (At (length start.nodes)) start new

@@ -6,7 +6,9 @@ use Rattle.c_grammar.specs.declared.class.Class.TheVariants as class
 use Rattle.c_grammar.specs.Words.{Word}
 use Rattle.c_grammar.specs.Readers as readers
 use Rattle.c_grammar.specs.Trees as tree
-use Rattle.c_grammar.specs.Readers.{Got, ◌>>=◌, class_at, place_at, behind, take, take_open, is_class, if_of, read_else, read_maybe, begins_expr, read_expr, begins_simple, read_simple, begins_clause, read_clause, other_by, stmt_of, init_of, flat_by, read_test, read_stmts}
+use Rattle.c_grammar.specs.Readers.{Got, ◌>>=◌, class_at, place_at, behind, take, take_open, is_class, if_of, read_else, read_maybe}
+use Rattle.c_grammar.specs.Readers.{begins_expr, read_expr, begins_simple, read_simple, begins_clause, read_clause, other_by, stmt_of}
+use Rattle.c_grammar.specs.Readers.{init_of, flat_by, read_test, read_stmts}
 use Rattle.c_tree.specs.Syntax.{BlockTree, expr_tree, simple_tree, for_step_tree, local_tree, init_tree}
 use Rattle.c_parse.specs.declared.locals.Clause.{Clause}
 use Rattle.c_parse.specs.declared.locals.Clause.TheVariants as clause
@@ -49,7 +51,8 @@ abbrev pub read_for_head : ℕ → List Word → Got ForHeadTree
 read_for_head n words =
     take_open words >>= (λ a. read_maybe begins_clause (read_clause n) a >>= (λ init. take class.Semicolon init.1 >>= (λ b.
     read_maybe begins_expr (read_expr n) b >>= (λ test. take class.Semicolon test.1 >>= (λ c.
-    read_maybe begins_simple (read_simple n) c >>= (λ step. take class.Close step.1 >>= (λ rest. Ok (record { init = init_of init.0; test = test.0; step = step.0 }, rest))))))))
+    read_maybe begins_simple (read_simple n) c
+    >>= (λ step. take class.Close step.1 >>= (λ rest. Ok (record { init = init_of init.0; test = test.0; step = step.0 }, rest))))))))
 
 -- a block, by the reader of its statements
 abbrev pub read_block : (List Word → Got tree.Stmt) → List Word → Got BlockTree

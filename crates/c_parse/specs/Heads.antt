@@ -39,7 +39,8 @@ read_other read one words = read_if_end read one.place one.test one.body words
 -- an `if` by its parts
 abbrev pub read_whole_if : ℕ → (List Word → Got tree.Stmt) → List Word → Got tree.Stmt
 read_whole_if n read words =
-    read_tested n words >>= (λ one. read one.1 >>= (λ body. read_other read (record { place = one.0.place; test = one.0.test; body = body.0 }) body.1))
+    read_tested n words
+    >>= (λ one. read one.1 >>= (λ body. read_other read (record { place = one.0.place; test = one.0.test; body = body.0 }) body.1))
 
 -- what stands before the statement of an iteration statement
 pub data IterationTree : Type 0 where
@@ -71,4 +72,5 @@ read_iteration n read words =
 
 -- a block behind its statements
 abbrev pub read_block_end : Place → tree.Stmts → List Word → Got BlockTree
-read_block_end place body words = take class.CloseBrace words >>= (λ rest. Ok (record { place = place; body = body; end = place_at words }, rest))
+read_block_end place body words =
+    take class.CloseBrace words >>= (λ rest. Ok (record { place = place; body = body; end = place_at words }, rest))

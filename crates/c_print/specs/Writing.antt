@@ -1,7 +1,8 @@
 -- What writing words to a text does, whatever words come behind.
 use Rattle.std.specs.Prelude.{◌≡◌, ℕ, zero, suc, List, ◌∷◌, ◌++◌, Option, codes}
 use Rattle.c_grammar.specs.Trees.{Name, Specifier, Expr, Args, Simple, ForInit}
-use Rattle.c_grammar.specs.Printing.{Texts, spaced_texts, print_maybe, print_name, print_specifier, print_expr, print_args, print_simple, print_init, print_stmts}
+use Rattle.c_grammar.specs.Printing.{Texts, spaced_texts, print_maybe, print_name, print_specifier, print_expr, print_args, print_simple}
+use Rattle.c_grammar.specs.Printing.{print_init, print_stmts}
 use Rattle.c_tree.specs.Syntax.{BlockTree}
 
 -- of the words to print before anything behind, all but those that `rest` prints have been written, each with a space behind it
@@ -36,7 +37,8 @@ print_value value behind = print_maybe (λ one rest. codes "=" ∷ print_expr on
 -- `for` and its three parts in parentheses
 abbrev pub print_for : ForInit → Option Expr → Option Simple → Texts → Texts
 print_for init test step behind =
-    codes "for" ∷ codes "(" ∷ print_init init (codes ";" ∷ print_maybe print_expr test (codes ";" ∷ print_maybe print_simple step (codes ")" ∷ behind)))
+    codes "for" ∷ codes "("
+    ∷ print_init init (codes ";" ∷ print_maybe print_expr test (codes ";" ∷ print_maybe print_simple step (codes ")" ∷ behind)))
 
 -- statements in braces
 abbrev pub print_block : BlockTree → Texts → Texts

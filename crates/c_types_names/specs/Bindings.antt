@@ -15,7 +15,8 @@ variable_of one = one.variable
 -- the innermost variable of the name, the last one declared being the first of the list
 abbrev pub binding_in : List Declared → List ℕ → Option Binding
 binding_in [] n = None
-binding_in (last ∷ before) n = if bytes_eq last.variable.name.now n then Some (record { variable = last.variable; place = length before }) else binding_in before n
+binding_in (last ∷ before) n = if bytes_eq last.variable.name.now n then Some (record { variable = last.variable; place = length before })
+    else binding_in before n
 
 -- each variable says what its name was bound to before
 abbrev pub AreLinked : List Declared → Type 0

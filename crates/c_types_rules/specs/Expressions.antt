@@ -7,8 +7,10 @@ use Rattle.c_tokens.specs.declared.places.Refusal.{Refusal}
 use Rattle.c_tokens.specs.Places.{refusal}
 use Rattle.c_grammar.specs.Trees.{Name, Specifier, BinaryOp, PrefixOp, Expr, Links, Args}
 use Rattle.c_grammar.specs.FirstPlaces.{place_of_expr}
-use Rattle.c_types_rules.specs.Types.{Kind, may_agree, may_be_int, may_be_scalar, may_be_compared, unless, UNDECLARED, CLASH, ARGUMENTS, LEFT_OUT}
-use Rattle.c_types_rules.specs.Tables.{Tables, Procedure, FieldKind, procedure_in, is_defined, pointer_of, names_structure, field_of, param_kinds, kind_of_result}
+use Rattle.c_types_rules.specs.Types.{Kind, may_agree, may_be_int, may_be_scalar, may_be_compared, unless, UNDECLARED, CLASH, ARGUMENTS}
+use Rattle.c_types_rules.specs.Types.{LEFT_OUT}
+use Rattle.c_types_rules.specs.Tables.{Tables, Procedure, FieldKind, procedure_in, is_defined, pointer_of, names_structure, field_of}
+use Rattle.c_types_rules.specs.Tables.{param_kinds, kind_of_result}
 use Rattle.c_types_rules.specs.Scopes.{Env, Variable, variable, specifier_refusals_in, pointer_in}
 
 abbrev pub kind_of_variable : Option Variable → Kind
@@ -147,7 +149,8 @@ lacks tables tag (Some found) = false
 -- a member is one of the structure that the pointer before it points to; the place is that of the expression
 abbrev pub member_refusals : Tables → Place → Kind → Name → List Refusal
 member_refusals tables place None field = []
-member_refusals tables place (Some (Ptr tag)) field = unless (not (lacks tables tag (field_of tables tag field.text))) field.place UNDECLARED
+member_refusals tables place (Some (Ptr tag)) field =
+    unless (not (lacks tables tag (field_of tables tag field.text))) field.place UNDECLARED
 member_refusals tables place (Some other) field = refusal place CLASH ∷ []
 
 abbrev pub members_refusals : Tables → Place → Kind → List Name → List Refusal
@@ -186,7 +189,8 @@ callee_refusals env (Some found) callee args =
 abbrev mutual
   -- what is refused in an expression where no call and no `malloc` may stand
   pub expr_refusals : Env → Expr → List Refusal
-  expr_refusals env (Expr.Chain first others) = expr_refusals env first ++ links_refusals env (place_of_expr first) (kind_of env first) (given_by env first) (is_null first) others
+  expr_refusals env (Expr.Chain first others) =
+    expr_refusals env first ++ links_refusals env (place_of_expr first) (kind_of env first) (given_by env first) (is_null first) others
   expr_refusals env (Expr.Prefix place op inner) = expr_refusals env inner ++ unless (may_stand_behind op (given_by env inner)) place CLASH
   expr_refusals env (Expr.Members base first others) =
       expr_refusals env base ++ members_refusals env.tables (place_of_expr base) (kind_of env base) (first ∷ others)
@@ -195,7 +199,8 @@ abbrev mutual
   expr_refusals env (Expr.Null place) = []
   expr_refusals env (Expr.Paren place inner) = expr_refusals env inner
   expr_refusals env (Expr.Call callee args) =
-      refusal callee.place LEFT_OUT ∷ args_refusals env args ++ callee_refusals env (procedure_in env.tables.procedures callee.text) callee args
+      refusal callee.place LEFT_OUT ∷ args_refusals env args
+      ++ callee_refusals env (procedure_in env.tables.procedures callee.text) callee args
   expr_refusals env (Expr.Malloc place as_type target) = refusal place LEFT_OUT ∷ malloc_refusals env place as_type target
 
   -- the other operands of a chain, behind operands of this type that give this; all of the chain's expressions begin at the
@@ -204,7 +209,8 @@ abbrev mutual
   links_refusals env place kind given null Links.NoLinks = []
   links_refusals env place kind given null (Links.Link op operand others) =
       expr_refusals env operand ++ unless (may_stand_by op given null (given_by env operand) (is_null operand)) place CLASH
-      ++ links_refusals env place (kind_of_binary op kind (kind_of env operand)) (OfKind (kind_of_binary op kind (kind_of env operand))) false others
+      ++ links_refusals env place (kind_of_binary op kind (kind_of env operand))
+      (OfKind (kind_of_binary op kind (kind_of env operand))) false others
 
   pub args_refusals : Env → Args → List Refusal
   args_refusals env Args.NoArgs = []

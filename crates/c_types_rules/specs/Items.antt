@@ -6,7 +6,9 @@ use Rattle.c_grammar.specs.Trees.{Name, Specifier, Declarator, Fields, Param, Pa
 use Rattle.c_grammar.specs.Readers.{place_of_specifier}
 use Rattle.c_grammar.specs.FirstPlaces.{place_of_head}
 use Rattle.c_types_rules.specs.Types.{Kind, may_agree, unless, UNDECLARED, CLASH, SECOND, DIFFERS, LEFT_OUT}
-use Rattle.c_types_rules.specs.Tables.{Structure, Alias, Procedure, Tables, FieldKind, tag_or, structure_in, alias_in, procedure_in, is_defined, is_alias, specifier_refusals, may_be_object, may_be_result, field_kinds, param_kind, param_kinds, kind_of_result}
+use Rattle.c_types_rules.specs.Tables.{Structure, Alias, Procedure, Tables, FieldKind, tag_or, structure_in, alias_in, procedure_in}
+use Rattle.c_types_rules.specs.Tables.{is_defined, is_alias, specifier_refusals, may_be_object, may_be_result, field_kinds, param_kind}
+use Rattle.c_types_rules.specs.Tables.{param_kinds, kind_of_result}
 use Rattle.c_types_rules.specs.Scopes.{Variable}
 use Rattle.c_types_rules.specs.Statements.{Found, refuses, ◌⊹◌, stmts}
 
@@ -39,7 +41,8 @@ field_names (line ∷ lines) = map (λ (decl : Declarator). decl.name) (line.fir
 -- the same names, in one order, and types that may agree
 abbrev pub same_fields : List FieldKind → List FieldKind → Bool
 same_fields [] [] = true
-same_fields (one ∷ ones) (other ∷ others) = (bytes_eq one.name.text other.name.text && may_agree one.kind other.kind) && same_fields ones others
+same_fields (one ∷ ones) (other ∷ others) =
+    (bytes_eq one.name.text other.name.text && may_agree one.kind other.kind) && same_fields ones others
 same_fields _ _ = false
 
 -- a structure that was defined before has the same fields
@@ -50,7 +53,8 @@ repeated_refusals tables (Some first) tag lines =
 
 abbrev pub structure_refusals : Tables → Tables → Name → List Fields → List Refusal
 structure_refusals tables before tag lines =
-    lines_refusals tables lines ++ twice [] (field_names lines) ++ repeated_refusals tables (structure_in before.structures tag.text) tag lines
+    lines_refusals tables lines ++ twice [] (field_names lines)
+    ++ repeated_refusals tables (structure_in before.structures tag.text) tag lines
 
 -- NAMES OF TYPES (C11 6.7.8)
 
@@ -64,7 +68,8 @@ is_procedure tables n = elim (procedure_in tables.procedures n.text) [ None ↦ 
 
 -- a name of a type is no procedure's, and one structure's
 abbrev pub alias_refusals : Tables → Name → Name → List Refusal
-alias_refusals before alias tag = unless (same_alias (alias_in before.aliases alias.text) tag && not (is_procedure before alias)) alias.place SECOND
+alias_refusals before alias tag =
+    unless (same_alias (alias_in before.aliases alias.text) tag && not (is_procedure before alias)) alias.place SECOND
 
 -- PROCEDURES (C11 6.7.6.3, 6.9.1)
 
@@ -111,7 +116,8 @@ same_kinds _ _ = false
 abbrev pub same_head : Tables → Option Procedure → Head → Bool
 same_head tables None head = true
 same_head tables (Some first) head =
-    may_agree (kind_of_result tables first.head) (kind_of_result tables head) && same_kinds (param_kinds tables first.head.params) (param_kinds tables head.params)
+    may_agree (kind_of_result tables first.head) (kind_of_result tables head)
+    && same_kinds (param_kinds tables first.head.params) (param_kinds tables head.params)
 
 -- a declaration of a procedure: its types are fit, its name is no type's, and of those procedures that were declared before the
 -- first one of its name has the same types. (Each other of that name was compared with the first too.)
@@ -128,11 +134,13 @@ same_bool false other = not other
 -- the definitions among procedures, or the others
 abbrev pub definitions : Bool → List Procedure → List Procedure
 definitions wanted [] = []
-definitions wanted (first ∷ others) = if same_bool first.defines wanted then first ∷ definitions wanted others else definitions wanted others
+definitions wanted (first ∷ others) =
+    if same_bool first.defines wanted then first ∷ definitions wanted others else definitions wanted others
 
 -- the procedure is defined before
 abbrev pub is_defined_before : Tables → Head → Bool
-is_defined_before before head = elim (procedure_in (definitions true before.procedures) head.declarator.name.text) [ None ↦ false | Some found ↦ true ]
+is_defined_before before head =
+    elim (procedure_in (definitions true before.procedures) head.declarator.name.text) [ None ↦ false | Some found ↦ true ]
 
 abbrev pub has_name : Option Name → Bool
 has_name None = false

@@ -1,5 +1,6 @@
 -- Programs: what is refused in files, what is refused first, and the structures and types of a program in which nothing is.
-use Rattle.std.specs.Prelude.{◌≡◌, ℕ, suc, nat_lt, ◌==◌, Bool, true, false, ◌&&◌, ◌||◌, not, Option, Some, None, List, [], ◌∷◌, ◌++◌, map, if◌then◌else◌}
+use Rattle.std.specs.Prelude.{◌≡◌, ℕ, suc, nat_lt, ◌==◌, Bool, true, false, ◌&&◌, ◌||◌, not, Option, Some, None, List, [], ◌∷◌, ◌++◌, map}
+use Rattle.std.specs.Prelude.{if◌then◌else◌}
 use Rattle.shape_data.specs.declared.program.Field.{Field}
 use Rattle.shape_data.specs.declared.program.StructDef.{StructDef}
 use Rattle.shape_data.specs.declared.program.Ty.{Ty}
@@ -8,7 +9,8 @@ use Rattle.c_tokens.specs.declared.places.Refusal.{Refusal}
 use Rattle.c_grammar.specs.Trees.{Item, File}
 use Rattle.c_types_rules.specs.declared.at.At.{At}
 use Rattle.c_types_rules.specs.Types.{Kind}
-use Rattle.c_types_rules.specs.Tables.{Structure, Tables, FieldKind, no_tables, joined, declares, declared_by, items_of, structure_in, field_kinds}
+use Rattle.c_types_rules.specs.Tables.{Structure, Tables, FieldKind, no_tables, joined, declares, declared_by, items_of, structure_in}
+use Rattle.c_types_rules.specs.Tables.{field_kinds}
 use Rattle.c_types_rules.specs.Statements.{Found, nothing_found, ◌⊹◌}
 use Rattle.c_types_rules.specs.Items.{item}
 
@@ -24,7 +26,8 @@ in_unit unit refusal = record { unit = unit; refusal = refusal }
 abbrev pub files_refusals : Tables → Tables → ℕ → List File → List At
 files_refusals tables before unit [] = []
 files_refusals tables before unit (file ∷ files) =
-    map (in_unit unit) (items tables before file.items).refusals ++ files_refusals tables (joined before (declared_by file.items)) (suc unit) files
+    map (in_unit unit) (items tables before file.items).refusals
+    ++ files_refusals tables (joined before (declared_by file.items)) (suc unit) files
 
 -- the tables of a program
 abbrev pub tables_of : List File → Tables

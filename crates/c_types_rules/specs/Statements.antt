@@ -9,7 +9,8 @@ use Rattle.c_grammar.specs.FirstPlaces.{place_of_expr}
 use Rattle.c_types_rules.specs.Types.{Kind, may_be_int, unless, CLASH, SECOND, LEFT_OUT}
 use Rattle.c_types_rules.specs.Tables.{object_kind, may_be_object, procedure_in}
 use Rattle.c_types_rules.specs.Scopes.{Env, stands_here, with_variable, entered, is_hidden, specifier_refusals_in}
-use Rattle.c_types_rules.specs.Expressions.{kind_of, kind_of_call, is_null, given_by, gives_int, gives_scalar, gives_pointer, fits, expr_refusals, call_refusals, whole_refusals}
+use Rattle.c_types_rules.specs.Expressions.{kind_of, kind_of_call, is_null, given_by, gives_int, gives_scalar, gives_pointer, fits}
+use Rattle.c_types_rules.specs.Expressions.{expr_refusals, call_refusals, whole_refusals}
 use Rattle.c_types_rules.specs.Kinds.{kinds, arg_kinds}
 
 -- what is found in a part of a text: what is refused, and the types of its expressions

@@ -1,5 +1,6 @@
 -- How marks of what is reached grow.
-use Rattle.std.specs.Prelude.{◌≡◌, ℕ, ◌+◌, ◌<◌, Bool, true, false, ◌&&◌, ◌||◌, not, List, [], ◌∷◌, map, length, slice_index_or, cond, suc, ◌⊎◌}
+use Rattle.std.specs.Prelude.{◌≡◌, ℕ, ◌+◌, ◌<◌, Bool, true, false, ◌&&◌, ◌||◌, not, List, [], ◌∷◌, map, length, slice_index_or, cond, suc}
+use Rattle.std.specs.Prelude.{◌⊎◌}
 use Rattle.std.specs.Global.{Vec}
 use Rattle.component_keys.specs.Components.{holds, calls_of, reached_from}
 
@@ -30,7 +31,8 @@ pub record IsReaching (calls : List (List ℕ)) (starts : List ℕ) (marks : Lis
   pub within : (number : ℕ) → marked marks number ≡ true → holds (reached_from calls starts) number ≡ true
   pub start : (number : ℕ) → holds starts number ≡ true → marked marks number ≡ true
   pub todo_marked : (number : ℕ) → holds todo number ≡ true → marked marks number ≡ true
-  pub closed : (one callee : ℕ) → marked marks one ≡ true → holds (calls_of calls one) callee ≡ true → (marked marks callee ≡ true) ⊎ (holds todo one ≡ true)
+  pub closed : (one callee : ℕ) → marked marks one ≡ true → holds (calls_of calls one) callee ≡ true
+    → (marked marks callee ≡ true) ⊎ (holds todo one ≡ true)
 
 -- whoever is called is defined
 abbrev pub AreDefined : List (List ℕ) → Type 0

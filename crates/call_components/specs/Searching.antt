@@ -1,6 +1,7 @@
 -- What a search for classes keeps (Gabow 2000; Purdom and Munro 1968): the open numbers stand on a stack, in sets that call one another
 -- and of which each reaches the next one; whom a class that is done calls is of it or of one done before.
-use Rattle.std.specs.Prelude.{◌≡◌, ◌≢◌, ℕ, ◌<◌, ◌≤◌, ◌+◌, true, List, [], ◌∷◌, ◌++◌, length, slice_get, slice_index_or, drop, ◌⊎◌, if◌then◌else◌}
+use Rattle.std.specs.Prelude.{◌≡◌, ◌≢◌, ℕ, ◌<◌, ◌≤◌, ◌+◌, true, List, [], ◌∷◌, ◌++◌, length, slice_get, slice_index_or, drop, ◌⊎◌}
+use Rattle.std.specs.Prelude.{if◌then◌else◌}
 use Rattle.std.specs.declared.option.Option.TheVariants.{Some}
 use Rattle.component_keys.specs.Components.{holds, calls_of, reached}
 use Rattle.call_components.specs.declared.marks.Entry.{Entry}
@@ -30,25 +31,31 @@ pub record IsCalled (calls : List (List ℕ)) (stack : List ℕ) (entries : List
   pub above : (i : ℕ) (entry : Entry) → slice_get entries i ≡ Some entry → entry.todo ≤ turn → entry.first ≤ place
   pub below : (i : ℕ) (entry : Entry) → slice_get entries i ≡ Some entry → turn < entry.todo → place < entry.first
 
-pub record IsSearching (calls : List (List ℕ)) (marks : List Mark) (stack : List ℕ) (entries : List Entry) (todo : List ℕ) (count : ℕ) : Type 0 where
+pub record IsSearching (calls : List (List ℕ)) (marks : List Mark) (stack : List ℕ) (entries : List Entry) (todo : List ℕ)
+    (count : ℕ) : Type 0 where
   pub lengths : length marks ≡ length calls
   pub numbers : (place number : ℕ) → slice_get stack place ≡ Some number → number < length calls
   pub callees : (turn number : ℕ) → slice_get todo turn ≡ Some number → number < length calls
   pub opened : (place number : ℕ) → slice_get stack place ≡ Some number → mark_of marks number ≡ Open place
   pub stacked : (place number : ℕ) → mark_of marks number ≡ Open place → slice_get stack place ≡ Some number
-  pub rising : (i j : ℕ) (entry later : Entry) → i < j → slice_get entries i ≡ Some entry → slice_get entries j ≡ Some later → (entry.first < later.first) × (entry.todo ≤ later.todo)
+  pub rising : (i j : ℕ) (entry later : Entry) → i < j → slice_get entries i ≡ Some entry → slice_get entries j ≡ Some later →
+    (entry.first < later.first) × (entry.todo ≤ later.todo)
   pub within : (i : ℕ) (entry : Entry) → slice_get entries i ≡ Some entry → (entry.first < length stack) × (entry.todo ≤ length todo)
   pub bottom : 0 < length stack → (entry : Entry) × (slice_get entries 0 ≡ Some entry) × (entry.first ≡ 0)
-  pub edges : (i place number callee : ℕ) (entry : Entry) → slice_get entries i ≡ Some entry → entry.first ≤ place → slice_get stack place ≡ Some number → holds (calls_of calls number) callee ≡ true → IsSeen marks entry todo callee
+  pub edges : (i place number callee : ℕ) (entry : Entry) → slice_get entries i ≡ Some entry → entry.first ≤ place →
+    slice_get stack place ≡ Some number → holds (calls_of calls number) callee ≡ true → IsSeen marks entry todo callee
   pub reach : (one other number reached_number : ℕ) → slice_get stack one ≡ Some number → slice_get stack other ≡ Some reached_number →
-      ((i : ℕ) (entry : Entry) → slice_get entries i ≡ Some entry → entry.first ≤ one → entry.first ≤ other) → Reaches calls number reached_number
+      ((i : ℕ) (entry : Entry) → slice_get entries i ≡ Some entry → entry.first ≤ one → entry.first ≤ other) →
+      Reaches calls number reached_number
   pub called : (turn callee : ℕ) → slice_get todo turn ≡ Some callee → IsCalled calls stack entries turn callee
-  pub closed : (number callee class : ℕ) → mark_of marks number ≡ Done class → holds (calls_of calls number) callee ≡ true → (other : ℕ) × (mark_of marks callee ≡ Done other) × (other ≤ class)
+  pub closed : (number callee class : ℕ) → mark_of marks number ≡ Done class → holds (calls_of calls number) callee ≡ true →
+    (other : ℕ) × (mark_of marks callee ≡ Done other) × (other ≤ class)
   pub classes : (number other class : ℕ) → mark_of marks number ≡ Done class → mark_of marks other ≡ Done class → Reaches calls number other
   pub counted : (number class : ℕ) → mark_of marks number ≡ Done class → class < count
 
 abbrev pub IsSearch : List (List ℕ) → Search → Type 0
-IsSearch calls search = IsSearching calls search.marks.items search.stack.items search.entries.items search.todo.items (length search.done.items)
+IsSearch calls search =
+    IsSearching calls search.marks.items search.stack.items search.entries.items search.todo.items (length search.done.items)
 
 -- the sets that begin behind a place are put together with the one that holds it
 pub record AreMerged (place : ℕ) (entries kept : List Entry) : Type 0 where
@@ -58,7 +65,8 @@ pub record AreMerged (place : ℕ) (entries kept : List Entry) : Type 0 where
 
 -- the numbers of the set that begins at a place get the class, and all else stays
 abbrev pub AreClassed : ℕ → ℕ → List ℕ → List Mark → List Mark → Type 0
-AreClassed first class stack before after = (number : ℕ) → mark_of after number ≡ (if holds (drop first stack) number then Done class else mark_of before number)
+AreClassed first class stack before after =
+    (number : ℕ) → mark_of after number ≡ (if holds (drop first stack) number then Done class else mark_of before number)
 
 -- what is still to be done: for each number that was not met, itself and its calls
 abbrev pub work : List (List ℕ) → List Mark → ℕ
@@ -77,7 +85,8 @@ AreMet before after = (number : ℕ) → mark_of after number ≡ New → mark_o
 
 -- sets begin one behind the other
 abbrev pub AreRising : List Entry → Type 0
-AreRising entries = (i j : ℕ) (entry later : Entry) → i < j → slice_get entries i ≡ Some entry → slice_get entries j ≡ Some later → entry.first < later.first
+AreRising entries = (i j : ℕ) (entry later : Entry) → i < j → slice_get entries i ≡ Some entry → slice_get entries j ≡ Some later →
+    entry.first < later.first
 
 -- the last set
 abbrev pub IsLast : List Entry → Entry → Type 0

@@ -7,7 +7,8 @@ use Rattle.std.specs.declared.option.Option.TheVariants.{Some}
 
 -- by names, and where those are the same by the numbers themselves
 abbrev pub name_rank : List (List ℕ) → ℕ → ℕ → Ordering
-name_rank names one other = ordering_then (slice_cmp nat_cmp (slice_index_or names one []) (slice_index_or names other [])) (nat_cmp one other)
+name_rank names one other =
+    ordering_then (slice_cmp nat_cmp (slice_index_or names one []) (slice_index_or names other [])) (nat_cmp one other)
 
 -- the numbers below, in their own order
 abbrev pub below : ℕ → List ℕ

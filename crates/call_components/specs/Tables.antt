@@ -1,7 +1,8 @@
 -- Classes by a table of who reaches whom.
 use Rattle.std.specs.declared.option.Option.{Option}
 use Rattle.std.specs.declared.option.Option.TheVariants.{None, Some}
-use Rattle.std.specs.Prelude.{slice_get, slice_set, ◌≡◌, ℕ, ◌<◌, ◌==◌, Bool, true, ◌&&◌, ◌||◌, not, List, [], ◌∷◌, ◌++◌, map, length, slice_index_or}
+use Rattle.std.specs.Prelude.{slice_get, slice_set, ◌≡◌, ℕ, ◌<◌, ◌==◌, Bool, true, ◌&&◌, ◌||◌, not, List, [], ◌∷◌, ◌++◌, map, length}
+use Rattle.std.specs.Prelude.{slice_index_or}
 use Rattle.std.specs.List.{filter, list_any, list_all}
 use Rattle.component_keys.specs.Components.{holds, calls_of, are_mutual, is_first}
 use Rattle.call_components.specs.Reaching.{marked}
@@ -34,7 +35,8 @@ put_slot (Some old) kind place slots = slots
 -- no member is listed, and each that one of them calls is of its kind or listed
 abbrev pub is_next_in : List ℕ → List (List ℕ) → List Bool → List ℕ → Bool
 is_next_in kinds calls listed class =
-    not (list_any (marked listed) class) && list_all (λ number. list_all (λ callee. same_kind kinds callee number || marked listed callee) (calls_of calls number)) class
+    not (list_any (marked listed) class)
+    && list_all (λ number. list_all (λ callee. same_kind kinds callee number || marked listed callee) (calls_of calls number)) class
 
 -- the classes before a place are listed: each has a member that is
 abbrev pub AreListed : List Bool → List (List ℕ) → ℕ → Type 0

@@ -33,22 +33,27 @@ pub record AreNeeded (marks : List Bool) (before after : List ℕ) : Type 0 wher
   pub kept : (number : ℕ) → holds before number ≡ true → (marked marks number ≡ true) ⊎ (holds after number ≡ true)
 
 -- a class is listed, is ready, is still to be looked at, or waits for a number that is not listed or whose classes are still to be woken
-pub data IsHeld (all : List (List ℕ)) (marks : List Bool) (wakes rest : List ℕ) (needs waits : List (List ℕ)) (ready : List ℕ) (place : ℕ) : Type 0 where
+pub data IsHeld (all : List (List ℕ)) (marks : List Bool) (wakes rest : List ℕ) (needs waits : List (List ℕ)) (ready : List ℕ)
+    (place : ℕ) : Type 0 where
   IsListed : is_listed marks all place ≡ true → IsHeld all marks wakes rest needs waits ready place
   IsReady : holds ready place ≡ true → IsHeld all marks wakes rest needs waits ready place
   IsLeft : holds rest place ≡ true → IsHeld all marks wakes rest needs waits ready place
-  IsWaiting : (number : ℕ) → holds (calls_of needs place) number ≡ true → holds (calls_of waits number) place ≡ true → (marked marks number ≡ false) ⊎ (holds wakes number ≡ true) →
+  IsWaiting : (number : ℕ) → holds (calls_of needs place) number ≡ true → holds (calls_of waits number) place ≡ true →
+    (marked marks number ≡ false) ⊎ (holds wakes number ≡ true) →
       IsHeld all marks wakes rest needs waits ready place
 
 -- each class is held; whom it calls outside is listed or needed, and once it is ready all of them are listed
-pub record AreHeld (all outs : List (List ℕ)) (marks : List Bool) (wakes rest : List ℕ) (needs waits : List (List ℕ)) (ready : List ℕ) : Type 0 where
+pub record AreHeld (all outs : List (List ℕ)) (marks : List Bool) (wakes rest : List ℕ) (needs waits : List (List ℕ))
+    (ready : List ℕ) : Type 0 where
   pub own : (place number : ℕ) → holds (calls_of needs place) number ≡ true → holds (calls_of outs place) number ≡ true
-  pub needed : (place number : ℕ) → holds (calls_of outs place) number ≡ true → (marked marks number ≡ true) ⊎ (holds (calls_of needs place) number ≡ true)
+  pub needed : (place number : ℕ) → holds (calls_of outs place) number ≡ true →
+    (marked marks number ≡ true) ⊎ (holds (calls_of needs place) number ≡ true)
   pub listed : (place number : ℕ) → holds ready place ≡ true → holds (calls_of outs place) number ≡ true → marked marks number ≡ true
   pub each : (place : ℕ) → place < length all → IsHeld all marks wakes rest needs waits ready place
 
 abbrev pub AreWaiting : List (List ℕ) → List (List ℕ) → List Bool → List ℕ → List ℕ → Waiting → Type 0
-AreWaiting all outs marks wakes rest state = AreHeld all outs marks wakes rest (rows state.needs.items) (rows state.waits.items) (places_in state.ready)
+AreWaiting all outs marks wakes rest state =
+    AreHeld all outs marks wakes rest (rows state.needs.items) (rows state.waits.items) (places_in state.ready)
 
 -- there is a row for each class and for each number, and what stands in them is within these
 pub record IsBounded (classes numbers : ℕ) (state : Waiting) : Type 0 where

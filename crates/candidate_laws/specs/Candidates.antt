@@ -33,7 +33,8 @@ cases_come task line (case ∷ cases) search = cases_come task line cases (case_
 -- what the execution of a node gives of a missing heap and a state in normal form; nothing of a contradiction
 abbrev pub cases_of_form : Task → ℕ → SymHeap → Option SymState → List Case
 cases_of_form task node missing None = []
-cases_of_form task node missing (Some state) = search_cases task.flow task.structs node (record { missing = missing; state = state }) task.table
+cases_of_form task node missing (Some state) =
+    search_cases task.flow task.structs node (record { missing = missing; state = state }) task.table
 
 -- the cases of a pair at a node: its state is brought to normal form first (numbering its logical variables may have left an equation
 -- solved for the smaller one)

@@ -25,11 +25,14 @@ use Rattle.candidate_laws.specs.Searching.{Search}
 
 -- the analysis of a procedure whose callees are these
 abbrev pub calling : Flow → List Callee → Task
-calling flow callees = record { flow = flow; structs = node_struct ∷ []; table = record { own = []; outer = callees; cut = false }; recursive = false }
+calling flow callees =
+    record { flow = flow; structs = node_struct ∷ []; table = record { own = []; outer = callees; cut = false }; recursive = false }
 
 -- the analysis of a procedure that calls itself, while it is known by these specs
 abbrev pub known_by : Flow → List Spec → Task
-known_by flow specs = record { flow = flow; structs = node_struct ∷ []; table = record { own = callee flow.name flow.params specs ∷ []; outer = []; cut = true }; recursive = true }
+known_by flow specs =
+    record { flow = flow; structs = node_struct ∷ [];
+    table = record { own = callee flow.name flow.params specs ∷ []; outer = []; cut = true }; recursive = true }
 
 -- these candidates, and no drop
 abbrev pub found : List SymHeap → Found
@@ -91,12 +94,14 @@ twice_flow = record {
   slots = Ptr node_name ∷ [];
   ret = Void;
   nodes =
-      on_line 1 (cmd.Call None (100 ∷ 114 ∷ 111 ∷ 112 ∷ []) (Slot 0 ∷ []) 1) ∷ on_line 2 (cmd.Call None (100 ∷ 114 ∷ 111 ∷ 112 ∷ []) (Slot 0 ∷ []) 2) ∷
+      on_line 1 (cmd.Call None (100 ∷ 114 ∷ 111 ∷ 112 ∷ []) (Slot 0 ∷ []) 1)
+      ∷ on_line 2 (cmd.Call None (100 ∷ 114 ∷ 111 ∷ 112 ∷ []) (Slot 0 ∷ []) 2) ∷
       on_line 3 (cmd.Return (Num (pos 0))) ∷ [];
 }
 
 abbrev pub twice_task : Task
-twice_task = calling twice_flow (callee (100 ∷ 114 ∷ 111 ∷ 112 ∷ []) ((120 ∷ []) ∷ []) (spec whole_list (post null (heap [] []) ∷ []) ∷ []) ∷ [])
+twice_task =
+    calling twice_flow (callee (100 ∷ 114 ∷ 111 ∷ 112 ∷ []) ((120 ∷ []) ∷ []) (spec whole_list (post null (heap [] []) ∷ []) ∷ []) ∷ [])
 
 -- THE LIMITS
 

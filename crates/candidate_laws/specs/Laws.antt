@@ -11,11 +11,13 @@ use Rattle.candidate_laws.specs.Searching.{MOST_CANDIDATES}
 
 -- each candidate is normal, and its sources are pairwise distinct variables: so it has a sample, and no printed precondition is empty
 abbrev pub CandidatesHaveSamples : Type 0
-CandidatesHaveSamples = (task : Task) → length task.flow.params ≤ 65536 → All (λ (pre : SymHeap). has_sample pre ≡ true) (candidates task).pres
+CandidatesHaveSamples = (task : Task) → length task.flow.params ≤ 65536
+    → All (λ (pre : SymHeap). has_sample pre ≡ true) (candidates task).pres
 
 -- each is well formed, with at most 96 parts
 abbrev pub CandidatesAreWellFormed : Type 0
-CandidatesAreWellFormed = (task : Task) → IsTask task → All (IsSymHeap analysable task.structs (length task.flow.params)) (candidates task).pres
+CandidatesAreWellFormed = (task : Task) → IsTask task
+    → All (IsSymHeap analysable task.structs (length task.flow.params)) (candidates task).pres
 
 -- there are at most eight
 abbrev pub CandidatesAreFew : Type 0

@@ -164,7 +164,8 @@ length_added = state (Var 0 ∷ any 1 ∷ any 2 ∷ any 3 ∷ []) [] (cell (Var 
 -- the state of node 1, which returns for the empty list, says no more than the precondition
 abbrev pub length_nodes : List (List SymState)
 length_nodes =
-    (length_start ∷ []) ∷ (length_start ∷ []) ∷ (state (Var 0 ∷ null ∷ null ∷ null ∷ []) (Ne (Var 0) null ∷ []) (list (Var 0) null ∷ []) ∷ []) ∷
+    (length_start ∷ []) ∷ (length_start ∷ [])
+    ∷ (state (Var 0 ∷ null ∷ null ∷ null ∷ []) (Ne (Var 0) null ∷ []) (list (Var 0) null ∷ []) ∷ []) ∷
     (length_loaded ∷ []) ∷ (length_called ∷ []) ∷ (length_added ∷ []) ∷ [] ∷ [] ∷ []
 
 abbrev pub length_cert : Cert

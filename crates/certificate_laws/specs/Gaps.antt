@@ -76,7 +76,8 @@ post_gap task spec cert = uncovered_unless (list_all (λ exit. passes (is_post_c
 
 -- the first gap of a spec: at the entry, at the states by node and place, at the posts
 abbrev pub spec_gap : Task → Spec → Cert → Option SpecGap
-spec_gap task spec cert = option_or (start_gap task spec cert) (option_or (first_found (node_gap task cert) 0 cert.nodes) (post_gap task spec cert))
+spec_gap task spec cert =
+    option_or (start_gap task spec cert) (option_or (first_found (node_gap task cert) 0 cert.nodes) (post_gap task spec cert))
 
 -- AN ANSWER
 
@@ -87,7 +88,8 @@ placed proc spec gap = record { proc = proc; spec = spec; line = gap.line; fault
 -- the first gap of a procedure, by spec
 abbrev pub summary_gap : Task → ℕ → ProcSummary → Option Gap
 summary_gap task proc summary =
-    first_found (λ place (both : Spec × Cert). option_map (placed proc place) (spec_gap task both.0 both.1)) 0 (zip summary.specs summary.certs)
+    first_found (λ place (both : Spec × Cert). option_map (placed proc place) (spec_gap task both.0 both.1)) 0
+      (zip summary.specs summary.certs)
 
 -- THE FIRST GAP of an answer, by procedure
 abbrev pub first_gap : Key → Answer → Option Gap

@@ -49,7 +49,8 @@ NoGap =
 -- each spec of an inductive answer is valid for its procedure, in every program in which the key stands: which has the key's
 -- structures, its procedures under their names, and its callees with their parameters and valid specs
 abbrev pub InductiveIsValid : Type 0
-InductiveIsValid = (program : Program) (key : Key) (answer : Answer) → StandsIn program key → Inductive key answer → AreValidIn program key answer
+InductiveIsValid = (program : Program) (key : Key) (answer : Answer) → StandsIn program key → Inductive key answer →
+    AreValidIn program key answer
 
 -- UP THE COMPONENTS
 

@@ -24,7 +24,8 @@ KeyWidens = (limits wider : Limits) (key : Key) → IsWider limits wider → IsK
 
 -- and so is an answer
 abbrev pub AnswerWidens : Type 0
-AnswerWidens = (limits wider : Limits) (key : Key) (answer : Answer) → IsWider limits wider → IsAnswer limits key answer → IsAnswer wider key answer
+AnswerWidens = (limits wider : Limits) (key : Key) (answer : Answer) → IsWider limits wider → IsAnswer limits key answer
+    → IsAnswer wider key answer
 
 -- what a store may hold can be analysed, and what can be analysed is well formed
 abbrev pub StorableIsAnalysable : Type 0

@@ -20,7 +20,8 @@ same_fact _ _ = false
 -- the two are the same atom
 abbrev pub same_atom : Atom → Atom → Bool
 same_atom (Points at kind fields) (Points place other values) = same_exp at place && bytes_eq kind other && pointwise same_exp fields values
-same_atom (Seg kind link from to) (Seg other field start end) = bytes_eq kind other && link == field && same_exp from start && same_exp to end
+same_atom (Seg kind link from to) (Seg other field start end) =
+    bytes_eq kind other && link == field && same_exp from start && same_exp to end
 same_atom Junk Junk = true
 same_atom _ _ = false
 

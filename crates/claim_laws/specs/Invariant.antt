@@ -31,7 +31,8 @@ pub record IsOwnSlot (made : ℕ) (slot : Slot) : Type 0 where
   pub composed : IsComposed slot.key
   pub number : slot.claim ≤ made
 
--- an outstanding claim was made, in this revision or an earlier one, and holds a composed key: that which its component is due, where it was made in this revision
+-- an outstanding claim was made, in this revision or an earlier one, and holds a composed key: that which its component is due, where it
+-- was made in this revision
 pub record IsGoodOut (world : World) (claim : Out) : Type 0 where
   pub number : claim.number ≤ world.made
   pub revision : claim.revision ≤ world.revision

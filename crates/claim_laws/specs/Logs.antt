@@ -25,7 +25,8 @@ IsSolved solves world _ = Unit {0}
 -- each event may happen where it stands, and each answer solves its key
 abbrev pub AreLegal : (Key → Answer → Type 0) → World → List Event → Type 0
 AreLegal solves world [] = Unit {0}
-AreLegal solves world (event ∷ others) = IsTrue (may_happen world event) × IsSolved solves world event × AreLegal solves (after world event) others
+AreLegal solves world (event ∷ others) =
+    IsTrue (may_happen world event) × IsSolved solves world event × AreLegal solves (after world event) others
 
 abbrev pub IsLegal : (Key → Answer → Type 0) → List Event → Type 0
 IsLegal solves log = AreLegal solves first_world log

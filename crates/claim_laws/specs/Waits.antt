@@ -24,16 +24,19 @@ pub record IsOut (world : World) (component : ℕ) : Type 0 where
 -- it is out, or it calls an unsettled component that is, directly or not
 pub data IsAboveOut (world : World) : ℕ → Type 0 where
   Itself : {component : ℕ} → IsOut world component → IsAboveOut world component
-  Above : {component : ℕ} (standing : Standing) (place : ℕ) (outer : Outer) → standing_at world component ≡ Some standing → standing.settled ≡ None → slice_get standing.part.outer place ≡ Some outer →
+  Above : {component : ℕ} (standing : Standing) (place : ℕ) (outer : Outer) → standing_at world component ≡ Some standing →
+    standing.settled ≡ None → slice_get standing.part.outer place ≡ Some outer →
       IsAboveOut world outer.component → IsAboveOut world component
 
 -- the aim reaches whom its components call
 abbrev pub IsAim : World → (ℕ → Bool) → Type 0
-IsAim world aim = (component : ℕ) (standing : Standing) (place : ℕ) (outer : Outer) → aim component ≡ true → standing_at world component ≡ Some standing → slice_get standing.part.outer place ≡ Some outer → aim outer.component ≡ true
+IsAim world aim = (component : ℕ) (standing : Standing) (place : ℕ) (outer : Outer) → aim component ≡ true →
+    standing_at world component ≡ Some standing → slice_get standing.part.outer place ≡ Some outer → aim outer.component ≡ true
 
 -- where no component of the aim can be claimed, each unsettled one is out or stands above one that is
 abbrev pub WaitsOnOut : Type 0
 WaitsOnOut =
     (world : World) (aim : ℕ → Bool) → IsAim world aim →
-    ((component : ℕ) (standing : Standing) (key : Key) → aim component ≡ true → standing_at world component ≡ Some standing → standing.settled ≡ None → standing.due ≡ Some key → IsOut world component) →
+    ((component : ℕ) (standing : Standing) (key : Key) → aim component ≡ true → standing_at world component ≡ Some standing →
+    standing.settled ≡ None → standing.due ≡ Some key → IsOut world component) →
     (component : ℕ) → aim component ≡ true → IsUnsettled world component → IsAboveOut world component

@@ -89,12 +89,14 @@ settled_by (Some slot) (Some key) = if key_test.0 slot.key key then Some slot el
 
 abbrev pub standing_of : List StructDef → List Slot → List Standing → Component → Standing
 standing_of structs slots before part =
-    record { part = part; due = due_over structs before part; settled = settled_by (slot_of slots (names_of part.flows)) (due_over structs before part) }
+    record { part = part; due = due_over structs before part;
+      settled = settled_by (slot_of slots (names_of part.flows)) (due_over structs before part) }
 
 -- each component over those before it
 abbrev pub standings_from : List StructDef → List Slot → List Component → List Standing → List Standing
 standings_from structs slots [] before = before
-standings_from structs slots (part ∷ others) before = standings_from structs slots others (before ++ standing_of structs slots before part ∷ [])
+standings_from structs slots (part ∷ others) before =
+    standings_from structs slots others (before ++ standing_of structs slots before part ∷ [])
 
 -- the components of the present program, callees first
 abbrev pub standings : World → List Standing
@@ -148,13 +150,15 @@ abbrev pub outcome_settled : Option Slot → Published → Published
 outcome_settled None unsettled = unsettled
 outcome_settled (Some slot) unsettled = Stale (Settled slot.claim)
 
--- in this order: the component is gone; it is settled; the claim's key is due; the claim's procedures are not the present ones; its slot is of a later claim
+-- in this order: the component is gone; it is settled; the claim's key is due; the claim's procedures are not the present ones; its slot is
+-- of a later claim
 abbrev pub outcome_at : ℕ → List Slot → Out → Option Standing → Published
 outcome_at revision slots claim None = Stale (Gone revision)
 outcome_at revision slots claim (Some standing) =
     outcome_settled standing.settled
     (if is_due standing.due claim.key then Kept
-    else if flows_test.0 claim.key.procs standing.part.flows then outcome_of_slot (slot_of slots (names_of standing.part.flows)) claim.number
+    else if flows_test.0 claim.key.procs standing.part.flows
+    then outcome_of_slot (slot_of slots (names_of standing.part.flows)) claim.number
     else Stale (Changed revision))
 
 abbrev pub outcome : World → Out → Published
@@ -185,7 +189,8 @@ may_publish world kept (Some claim) = same_bool kept (is_kept world claim)
 abbrev pub may_happen : World → Event → Bool
 may_happen world (Event.Revise revision program) = not (program_test.0 program world.program) && revision == world.revision + 1
 may_happen world (Event.Claim number worker component key) =
-    number == world.made + 1 && (is_claimable (standing_at world component) key && not (list_any (λ claim. key_test.0 claim.key key) world.out))
+    number == world.made + 1
+    && (is_claimable (standing_at world component) key && not (list_any (λ claim. key_test.0 claim.key key) world.out))
 may_happen world (Event.Publish number answer kept) = may_publish world kept (out_of world.out number)
 may_happen world (Event.GiveBack number) = is_some (out_of world.out number)
 

@@ -30,11 +30,13 @@ abbrev pub slot_value : SlotRow → Slot
 slot_value slot = record { members = slot.members; claim = slot.claim; key = slot.key.value; answer = slot.answer.value }
 
 abbrev pub out_value : OutRow → Out
-out_value claim = record { number = claim.number; worker = claim.worker; component = claim.component; revision = claim.revision; key = claim.key.value }
+out_value claim =
+    record { number = claim.number; worker = claim.worker; component = claim.component; revision = claim.revision; key = claim.key.value }
 
 abbrev pub world_value : WorldRow → World
 world_value world =
-    record { revision = world.revision; program = world.program.value; slots = map slot_value world.slots; out = map out_value world.out; made = world.made }
+    record { revision = world.revision; program = world.program.value; slots = map slot_value world.slots; out = map out_value world.out;
+      made = world.made }
 
 -- the program of a revision is well formed
 abbrev pub IsFormed : Told → Type 0
@@ -73,8 +75,10 @@ given_rows flows slots known (outer ∷ others) = both (given_row flows slots kn
 
 -- what is known of the first components is how they stand
 pub record AreKnown (world : World) (known : List Known) : Type 0 where
-  pub due : (place : ℕ) (one : Known) (standing : Standing) → slice_get known place ≡ Some one → standing_at world place ≡ Some standing → one.due ≡ standing.due
-  pub settled : (place : ℕ) (one : Known) (standing : Standing) → slice_get known place ≡ Some one → standing_at world place ≡ Some standing → at_place world.slots one.settled ≡ standing.settled
+  pub due : (place : ℕ) (one : Known) (standing : Standing) → slice_get known place ≡ Some one → standing_at world place ≡ Some standing
+    → one.due ≡ standing.due
+  pub settled : (place : ℕ) (one : Known) (standing : Standing) → slice_get known place ≡ Some one → standing_at world place ≡ Some standing
+    → at_place world.slots one.settled ≡ standing.settled
 
 -- in every world of this program and these slots
 abbrev pub AreKnownFor : Program → List Slot → List Known → Type 0
@@ -100,4 +104,5 @@ due_is due key = is_due due key
 abbrev pub outcome_by : WorldRow → OutRow → Row → Known → Published
 outcome_by world claim row known =
     outcome_at (world.revision) (map slot_value world.slots) (out_value claim)
-    (Some (record { part = component_value (flows_of world.program.value) row; due = known.due; settled = at_place (map slot_value world.slots) known.settled }))
+    (Some (record { part = component_value (flows_of world.program.value) row; due = known.due;
+    settled = at_place (map slot_value world.slots) known.settled }))

@@ -1,6 +1,7 @@
 -- Which procedures are analysed together, by plain reachability, and in which order: a class of procedures that call one another
 -- stands behind all that they call.
-use Rattle.std.specs.Prelude.{ℕ, zero, suc, Bool, false, ◌&&◌, ◌||◌, not, ◌==◌, nat_eq, List, [], ◌∷◌, ◌++◌, map, length, slice_get, slice_index_or, if◌then◌else◌}
+use Rattle.std.specs.Prelude.{ℕ, zero, suc, Bool, false, ◌&&◌, ◌||◌, not, ◌==◌, nat_eq, List, [], ◌∷◌, ◌++◌, map, length, slice_get}
+use Rattle.std.specs.Prelude.{slice_index_or, if◌then◌else◌}
 use Rattle.std.specs.List.{list_any, list_all, filter, find, filter_map, range_with_len}
 use Rattle.std.specs.Cmp.Lexicographic.{pointwise, slice_cmp}
 use Rattle.std.specs.Ordering.{nat_cmp, is_lt}
@@ -30,7 +31,8 @@ with_called again seen (Some number) = again (seen ++ number ∷ [])
 -- one more that is called, so many times
 abbrev pub reached_after : ℕ → List (List ℕ) → List ℕ → List ℕ
 reached_after zero calls seen = seen
-reached_after (suc turns) calls seen = with_called (reached_after turns calls) seen (find (is_called_new calls seen) (range_with_len 0 (length calls)))
+reached_after (suc turns) calls seen =
+    with_called (reached_after turns calls) seen (find (is_called_new calls seen) (range_with_len 0 (length calls)))
 
 -- the numbers and all that they call, directly or not
 abbrev pub reached_from : List (List ℕ) → List ℕ → List ℕ
@@ -78,7 +80,8 @@ names_at names class = filter_map (slice_get names) class
 abbrev pub is_next : List (List ℕ) → List (List ℕ) → List (List ℕ) → List ℕ → Bool
 is_next names calls listed class =
     not (list_any (λ other. same_names (names_at names other) (names_at names class)) listed) &&
-    list_all (λ number. list_all (λ callee. holds class callee || list_any (λ other. holds other callee) listed) (calls_of calls number)) class
+    list_all (λ number. list_all (λ callee. holds class callee || list_any (λ other. holds other callee) listed)
+    (calls_of calls number)) class
 
 -- the list goes on behind the class that was found, else it ends
 abbrev pub with_next : (List (List ℕ) → List (List ℕ)) → List (List ℕ) → Option (List ℕ) → List (List ℕ)
@@ -88,7 +91,8 @@ with_next again listed (Some class) = again (listed ++ class ∷ [])
 -- next is always the first class, by least name, whose callees are all listed
 abbrev pub listed_after : ℕ → List (List ℕ) → List (List ℕ) → List (List ℕ) → List (List ℕ) → List (List ℕ)
 listed_after zero names calls all listed = listed
-listed_after (suc turns) names calls all listed = with_next (listed_after turns names calls all) listed (find (is_next names calls listed) all)
+listed_after (suc turns) names calls all listed =
+    with_next (listed_after turns names calls all) listed (find (is_next names calls listed) all)
 
 -- the classes, callees first
 unfoldable pub components : List (List ℕ) → List (List ℕ) → List (List ℕ)

@@ -79,16 +79,21 @@ components_over flows calls all = map (component_of flows calls all) all
 
 -- the components of a program, callees first
 unfoldable pub program_components : Program → List Component
-program_components program = components_over (flows_of program) (calls_in (flows_of program)) (components (names_of (flows_of program)) (calls_in (flows_of program)))
+program_components program =
+    components_over (flows_of program) (calls_in (flows_of program))
+    (components (names_of (flows_of program)) (calls_in (flows_of program)))
 
 -- one of them calls one of them
 abbrev pub is_recursive : List Flow → Bool
-is_recursive flows = list_any (λ flow. list_any (λ name. list_any (λ other. pointwise nat_eq other name) (names_of flows)) (called_by flow)) flows
+is_recursive flows =
+    list_any (λ flow. list_any (λ name. list_any (λ other. pointwise nat_eq other name) (names_of flows)) (called_by flow)) flows
 
 -- the specs that an answer has for a procedure
 abbrev pub specs_in : Answer → List ℕ → List Spec
-specs_in answer name = unwrap_or (option_map (λ summary. summary.specs) (find (λ summary. pointwise nat_eq summary.name name) answer.procs)) []
+specs_in answer name =
+    unwrap_or (option_map (λ summary. summary.specs) (find (λ summary. pointwise nat_eq summary.name name) answer.procs)) []
 
 -- the key of a component over what is known of its callees
 abbrev pub key_over : List StructDef → List Flow → List Callee → Key
-key_over structs flows callees = record { recursive = is_recursive flows; procs = flows; structs = structs_used structs flows callees; callees = callees }
+key_over structs flows callees =
+    record { recursive = is_recursive flows; procs = flows; structs = structs_used structs flows callees; callees = callees }

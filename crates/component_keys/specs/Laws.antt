@@ -8,13 +8,15 @@ use Rattle.component_keys.specs.Keys.{Component, Outer, program_components, name
 -- components of the same members stand at one place
 abbrev pub MembersDiffer : Type 0
 MembersDiffer =
-    (program : Program) (i j : ℕ) (one other : Component) → slice_get (program_components program) i ≡ Some one → slice_get (program_components program) j ≡ Some other →
+    (program : Program) (i j : ℕ) (one other : Component) → slice_get (program_components program) i ≡ Some one →
+    slice_get (program_components program) j ≡ Some other →
     names_of one.flows ≡ names_of other.flows → i ≡ j
 
 -- each procedure outside that a component calls is of a component before it
 abbrev pub CalleesStandBefore : Type 0
 CalleesStandBefore =
-    (program : Program) (i k : ℕ) (component : Component) (outer : Outer) → slice_get (program_components program) i ≡ Some component → slice_get component.outer k ≡ Some outer →
+    (program : Program) (i k : ℕ) (component : Component) (outer : Outer) → slice_get (program_components program) i ≡ Some component →
+    slice_get component.outer k ≡ Some outer →
     outer.component < i
 
 -- names differ, and whoever is called is defined

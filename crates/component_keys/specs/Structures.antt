@@ -36,7 +36,8 @@ command_struct _ = None
 
 -- the structures that a procedure names: in the types of its slots and of its result, and in its commands
 abbrev pub named_by_flow : Flow → List (List ℕ)
-named_by_flow flow = filter_map type_struct flow.slots ++ option_to_list (type_struct flow.ret) ++ filter_map (λ node. command_struct node.cmd) flow.nodes
+named_by_flow flow = filter_map type_struct flow.slots ++ option_to_list (type_struct flow.ret)
+    ++ filter_map (λ node. command_struct node.cmd) flow.nodes
 
 -- the structure of a cell or of a segment's cells
 abbrev pub atom_struct : Atom → Option (List ℕ)
@@ -76,7 +77,8 @@ named_numbers structs flows callees = struct_numbers structs (flat_map named_by_
 -- the structures of these numbers and those that their fields point to, again and again, in order of their names
 abbrev pub structs_from : List StructDef → List ℕ → List StructDef
 structs_from structs numbers =
-    filter_map (slice_get structs) (filter (holds (reached_from (pointed_rows structs) numbers)) (by_name (map (λ def. def.name) structs) (length structs)))
+    filter_map (slice_get structs)
+    (filter (holds (reached_from (pointed_rows structs) numbers)) (by_name (map (λ def. def.name) structs) (length structs)))
 
 -- the structures used by procedures with these callees
 unfoldable pub structs_used : List StructDef → List Flow → List Callee → List StructDef

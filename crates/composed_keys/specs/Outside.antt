@@ -1,5 +1,6 @@
 -- Whom components call outside of themselves, by who calls each procedure.
-use Rattle.std.specs.Prelude.{◌≡◌, ℕ, ◌<◌, ◌-◌, ◌==◌, Bool, false, ◌&&◌, ◌||◌, not, List, [], ◌∷◌, ◌++◌, map, length, All, if◌then◌else◌, slice_get, slice_index_or}
+use Rattle.std.specs.Prelude.{◌≡◌, ℕ, ◌<◌, ◌-◌, ◌==◌, Bool, false, ◌&&◌, ◌||◌, not, List, [], ◌∷◌, ◌++◌, map, length, All, if◌then◌else◌}
+use Rattle.std.specs.Prelude.{slice_get, slice_index_or}
 use Rattle.std.specs.List.{list_any}
 use Rattle.std.specs.declared.option.Option.{Option}
 use Rattle.std.specs.declared.option.Option.TheVariants.{None, Some}
@@ -9,7 +10,8 @@ use Rattle.composed_keys.specs.declared.rows.Outer.{Outer as OuterRow}
 
 -- the caller stands at each of these callees besides those that stood there
 abbrev pub AreNoted : List ℕ → ℕ → List (List ℕ) → List (List ℕ) → Type 0
-AreNoted callees caller before after = (other callee : ℕ) → holds (calls_of after callee) other ≡ (holds (calls_of before callee) other || ((caller == other) && holds callees callee))
+AreNoted callees caller before after = (other callee : ℕ)
+    → holds (calls_of after callee) other ≡ (holds (calls_of before callee) other || ((caller == other) && holds callees callee))
 
 -- those who call a procedure are those of whose callees it is
 abbrev pub AreCallers : List (List ℕ) → List (List ℕ) → Type 0
@@ -42,10 +44,13 @@ calls_from places callers own place = list_any (λ caller. slice_index_or places
 -- a procedure stands behind those of the components of its callers, and elsewhere nothing is changed
 abbrev pub ArePutBy : List ℕ → List ℕ → OuterRow → List (List OuterRow) → List (List OuterRow) → Type 0
 ArePutBy places callers outer before now =
-    (place : ℕ) → slice_index_or now place [] ≡ (if calls_from places callers outer.component place then slice_index_or before place [] ++ outer ∷ [] else slice_index_or before place [])
+    (place : ℕ) → slice_index_or now place []
+    ≡ (if calls_from places callers outer.component place then slice_index_or before place [] ++ outer ∷ []
+    else slice_index_or before place [])
 
 -- each procedure's place is that of the one class that holds it
 pub record ArePlaced (all : List (List ℕ)) (count : ℕ) (places : List ℕ) : Type 0 where
   pub lengths : length places ≡ count
   pub within : All (λ place. place < length all) places
-  pub own : (number place : ℕ) → number < count → place < length all → holds (slice_index_or all place []) number ≡ (slice_index_or places number 0 == place)
+  pub own : (number place : ℕ) → number < count → place < length all
+    → holds (slice_index_or all place []) number ≡ (slice_index_or places number 0 == place)

@@ -23,7 +23,8 @@ called_in names node = number_called names node.cmd
 
 -- the value stands at each of the places, and elsewhere what stood there
 abbrev pub ArePut : List ℕ → ℕ → List ℕ → List ℕ → Type 0
-ArePut numbers value before after = (number : ℕ) → slice_index_or after number 0 ≡ (if holds numbers number then value else slice_index_or before number 0)
+ArePut numbers value before after =
+    (number : ℕ) → slice_index_or after number 0 ≡ (if holds numbers number then value else slice_index_or before number 0)
 
 -- the place of each number's class, as far as the classes from one on tell
 pub record ArePlaces (count : ℕ) (all : List (List ℕ)) (from : ℕ) (places : List ℕ) : Type 0 where

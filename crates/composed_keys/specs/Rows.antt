@@ -13,11 +13,13 @@ use Rattle.composed_keys.specs.Programs.{ArePlaces}
 
 -- the procedure outside of a row
 abbrev pub outer_value : List Flow → OuterRow → Option Outer
-outer_value flows outer = option_map (λ flow. record { name = flow.name; params = flow.params; component = outer.component }) (slice_get flows outer.number)
+outer_value flows outer =
+    option_map (λ flow. record { name = flow.name; params = flow.params; component = outer.component }) (slice_get flows outer.number)
 
 -- the component of a row
 abbrev pub component_value : List Flow → Row → Component
-component_value flows row = record { flows = filter_map (slice_get flows) row.members.items; outer = filter_map (outer_value flows) row.outer.items }
+component_value flows row =
+    record { flows = filter_map (slice_get flows) row.members.items; outer = filter_map (outer_value flows) row.outer.items }
 
 -- the numbers of a row are those of procedures, and its callees' components stand before it
 pub record IsWithin (count place : ℕ) (row : Row) : Type 0 where
@@ -42,4 +44,5 @@ pub record AreRowsOf (names calls : List (List ℕ)) (made : List Row) : Type 0 
   pub members : map (λ (row : Row). row.members.items) made ≡ components names calls
   pub places : List ℕ
   pub placing : ArePlaces (length calls) (components names calls) 0 places
-  pub outer : map (λ (row : Row). row.outer.items) made ≡ map (outer_in calls places (by_name names (length names))) (components names calls)
+  pub outer : map (λ (row : Row). row.outer.items) made
+    ≡ map (outer_in calls places (by_name names (length names))) (components names calls)

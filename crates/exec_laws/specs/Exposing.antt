@@ -27,7 +27,8 @@ use Rattle.exec_laws.specs.declared.parts.Exposed.{Exposed}
 use Rattle.exec_laws.specs.declared.parts.Exposed.TheVariants.{Shown, Lacking}
 use Rattle.exec_laws.specs.declared.parts.Mode.{Mode}
 use Rattle.exec_laws.specs.declared.parts.Mode.TheVariants.{Strict, Search}
-use Rattle.exec_laws.specs.Pairs.{Setting, atoms_of, formed, in_slot, new_existentials, new_logical, unless_left_out, where_true, with_atoms}
+use Rattle.exec_laws.specs.Pairs.{Setting, atoms_of, formed, in_slot, new_existentials, new_logical, unless_left_out, where_true}
+use Rattle.exec_laws.specs.Pairs.{with_atoms}
 
 -- a case that is no contradiction
 abbrev pub shown : Option Pair → List Exposed

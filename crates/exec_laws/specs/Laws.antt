@@ -126,29 +126,36 @@ AnswersAreWellFormed =
     (flow : Flow) (structs : List StructDef) (at : ℕ) (node : Node) (state : SymState) (table : Table)
     (nexts : List (ℕ × SymState)) (exits : List Post) (parts : ℕ) →
     AreStructs structs → IsFlow structs flow → slice_get flow.nodes at ≡ Some node → IsNoCall node.cmd → parts ≤ 4000 →
-    IsState (with_parts parts) structs (length flow.params) (length flow.slots) state → exec flow structs at state table ≡ step.Next nexts exits →
-    All (λ (next : ℕ × SymState). (next.0 < length flow.nodes) × IsState (with_parts (parts + 3)) structs (length flow.params) (length flow.slots) next.1) nexts
+    IsState (with_parts parts) structs (length flow.params) (length flow.slots) state →
+    exec flow structs at state table ≡ step.Next nexts exits →
+    All (λ (next : ℕ × SymState). (next.0 < length flow.nodes)
+      × IsState (with_parts (parts + 3)) structs (length flow.params) (length flow.slots) next.1) nexts
     × All (IsPost (with_parts (parts + 3)) structs (length flow.params)) exits
 
 -- the specs of a table's callees are well formed, with at most so many parts in each heap
 abbrev pub IsTableWithin : List StructDef → ℕ → Table → Type 0
 IsTableWithin structs most table = All (IsCallee (with_parts most) structs) (callees_of table)
 
--- what strict execution answers is well formed where the state is, for every command, with at most so many parts more as the heaps of specs have,
+-- what strict execution answers is well formed where the state is, for every command, with at most so many parts more as the heaps of specs
+-- have,
 -- or three
 abbrev pub AllAnswersAreWellFormed : Type 0
 AllAnswersAreWellFormed =
     (flow : Flow) (structs : List StructDef) (at : ℕ) (node : Node) (state : SymState) (table : Table)
     (nexts : List (ℕ × SymState)) (exits : List Post) (parts most : ℕ) →
-    AreStructs structs → IsFlow structs flow → slice_get flow.nodes at ≡ Some node → IsTableWithin structs most table → FitsTable table node.cmd → parts ≤ 4000 → 3 ≤ most → most ≤ 4000 →
-    IsState (with_parts parts) structs (length flow.params) (length flow.slots) state → exec flow structs at state table ≡ step.Next nexts exits →
-    All (λ (next : ℕ × SymState). (next.0 < length flow.nodes) × IsState (with_parts (parts + most)) structs (length flow.params) (length flow.slots) next.1) nexts
+    AreStructs structs → IsFlow structs flow → slice_get flow.nodes at ≡ Some node → IsTableWithin structs most table →
+    FitsTable table node.cmd → parts ≤ 4000 → 3 ≤ most → most ≤ 4000 →
+    IsState (with_parts parts) structs (length flow.params) (length flow.slots) state →
+    exec flow structs at state table ≡ step.Next nexts exits →
+    All (λ (next : ℕ × SymState). (next.0 < length flow.nodes)
+      × IsState (with_parts (parts + most)) structs (length flow.params) (length flow.slots) next.1) nexts
     × All (IsPost (with_parts (parts + most)) structs (length flow.params)) exits
 
 -- in both modes: the cases of a command other than a call are well formed where the pair is, with at most three parts more
 abbrev pub RowsKeepWellFormed : Type 0
 RowsKeepWellFormed =
-    (setting : Setting) (pair : Pair) (command : Cmd) (params slots nodes parts weight : ℕ) → AreStructs setting.structs → IsNoCall command →
+    (setting : Setting) (pair : Pair) (command : Cmd) (params slots nodes parts weight : ℕ) → AreStructs setting.structs →
+    IsNoCall command →
     IsCmd setting.structs slots nodes command → slots ≤ 32768 → setting.params ≤ 32768 → parts ≤ 4000 → weight ≤ 8000 →
     IsPairWithin setting.structs params slots parts weight pair →
     All (IsCaseWithin setting.structs params slots nodes (parts + 3) (weight + 3)) (cases_of setting pair command)
@@ -156,39 +163,54 @@ RowsKeepWellFormed =
 -- a spec that fits, by subtraction or by abduction, gives what is well formed
 abbrev pub SubtractedFitsAreWithin : Type 0
 SubtractedFitsAreWithin =
-    (structs : List StructDef) (args : List Exp) (pair : Pair) (spec : Spec) (fit : Fit) (before params slots parts weight most : ℕ) → AreStructs structs →
-    IsSpec (with_parts most) structs before spec → length args ≤ 32768 → All (IsExp widest params) args → slots ≤ 32768 → parts ≤ 4000 → weight ≤ 8000 → most ≤ 4000 →
-    IsPairWithin structs params slots parts weight pair → subtracted args pair spec ≡ Some fit → IsFitWithin structs params parts weight pair fit
+    (structs : List StructDef) (args : List Exp) (pair : Pair) (spec : Spec) (fit : Fit) (before params slots parts weight most : ℕ) →
+    AreStructs structs →
+    IsSpec (with_parts most) structs before spec → length args ≤ 32768 → All (IsExp widest params) args → slots ≤ 32768 → parts ≤ 4000 →
+    weight ≤ 8000 → most ≤ 4000 →
+    IsPairWithin structs params slots parts weight pair → subtracted args pair spec ≡ Some fit →
+    IsFitWithin structs params parts weight pair fit
 
 abbrev pub FoundFitsAreWithin : Type 0
 FoundFitsAreWithin =
-    (setting : Setting) (args : List Exp) (pair : Pair) (spec : Spec) (fit : Fit) (before params slots parts weight most : ℕ) → AreStructs setting.structs →
-    IsSpec (with_parts most) setting.structs before spec → length args ≤ 32768 → All (IsExp widest params) args → slots ≤ 32768 → setting.params ≤ 32768 → parts ≤ 4000 → weight ≤ 8000 → most ≤ 4000 →
+    (setting : Setting) (args : List Exp) (pair : Pair) (spec : Spec) (fit : Fit) (before params slots parts weight most : ℕ) →
+    AreStructs setting.structs →
+    IsSpec (with_parts most) setting.structs before spec → length args ≤ 32768 → All (IsExp widest params) args → slots ≤ 32768 →
+    setting.params ≤ 32768 → parts ≤ 4000 → weight ≤ 8000 → most ≤ 4000 →
     IsPairWithin setting.structs params slots parts weight pair → found setting args pair spec ≡ Some fit →
     IsFitWithin setting.structs params (parts + may_miss Search most) (weight + may_miss Search most) pair fit
 
--- in both modes: the cases of a call are well formed where the pair is, with at most so many parts more as the heaps of specs have, and what
+-- in both modes: the cases of a call are well formed where the pair is, with at most so many parts more as the heaps of specs have, and
+-- what
 -- may be missing for a precondition
 abbrev pub CallsKeepWellFormed : Type 0
 CallsKeepWellFormed =
-    (setting : Setting) (pair : Pair) (to : Option ℕ) (callee : List ℕ) (args : List Operand) (next params slots nodes parts weight most : ℕ) → AreStructs setting.structs →
-    IsTableWithin setting.structs most setting.table → FitsTable setting.table (cmd.Call to callee args next) → next < nodes → slots ≤ 32768 → setting.params ≤ 32768 → parts ≤ 4000 → weight ≤ 8000 → most ≤ 4000 →
+    (setting : Setting) (pair : Pair) (to : Option ℕ) (callee : List ℕ) (args : List Operand)
+    (next params slots nodes parts weight most : ℕ) → AreStructs setting.structs →
+    IsTableWithin setting.structs most setting.table → FitsTable setting.table (cmd.Call to callee args next) → next < nodes →
+    slots ≤ 32768 → setting.params ≤ 32768 → parts ≤ 4000 → weight ≤ 8000 → most ≤ 4000 →
     IsPairWithin setting.structs params slots parts weight pair →
-    All (IsCaseWithin setting.structs params slots nodes (parts + most + may_miss setting.mode most) (weight + most + may_miss setting.mode most)) (call setting to callee args next pair)
+    All (IsCaseWithin setting.structs params slots nodes (parts + most + may_miss setting.mode most)
+    (weight + most + may_miss setting.mode most)) (call setting to callee args next pair)
 
 -- and so the cases of every command, with at most so many parts more or three
 abbrev pub AllRowsKeepWellFormed : Type 0
 AllRowsKeepWellFormed =
     (setting : Setting) (pair : Pair) (command : Cmd) (params slots nodes parts weight most : ℕ) → AreStructs setting.structs →
-    IsTableWithin setting.structs most setting.table → FitsTable setting.table command → IsCmd setting.structs slots nodes command → slots ≤ 32768 → setting.params ≤ 32768 → parts ≤ 4000 → weight ≤ 8000 → 3 ≤ most → most ≤ 4000 →
+    IsTableWithin setting.structs most setting.table → FitsTable setting.table command → IsCmd setting.structs slots nodes command →
+    slots ≤ 32768 → setting.params ≤ 32768 → parts ≤ 4000 → weight ≤ 8000 → 3 ≤ most → most ≤ 4000 →
     IsPairWithin setting.structs params slots parts weight pair →
-    All (IsCaseWithin setting.structs params slots nodes (parts + most + may_miss setting.mode most) (weight + most + may_miss setting.mode most)) (cases_of setting pair command)
+    All (IsCaseWithin setting.structs params slots nodes (parts + most + may_miss setting.mode most)
+    (weight + most + may_miss setting.mode most)) (cases_of setting pair command)
 
--- in the search: the cases that a node is answered, in normal and canonical form, are well formed where the pair is, with no more parts than
+-- in the search: the cases that a node is answered, in normal and canonical form, are well formed where the pair is, with no more parts
+-- than
 -- its command's cases
 abbrev pub SearchCasesAreWellFormed : Type 0
 SearchCasesAreWellFormed =
-    (flow : Flow) (structs : List StructDef) (at : ℕ) (node : Node) (pair : Pair) (table : Table) (parts weight most : ℕ) → AreStructs structs → IsFlow structs flow →
-    slice_get flow.nodes at ≡ Some node → IsTableWithin structs most table → FitsTable table node.cmd → parts ≤ 4000 → weight ≤ 8000 → 3 ≤ most → most ≤ 4000 →
+    (flow : Flow) (structs : List StructDef) (at : ℕ) (node : Node) (pair : Pair) (table : Table) (parts weight most : ℕ) →
+    AreStructs structs → IsFlow structs flow →
+    slice_get flow.nodes at ≡ Some node → IsTableWithin structs most table → FitsTable table node.cmd → parts ≤ 4000 → weight ≤ 8000 →
+    3 ≤ most → most ≤ 4000 →
     IsPairWithin structs (length flow.params) (length flow.slots) parts weight pair →
-    All (IsCaseWithin structs (length flow.params) (length flow.slots) (length flow.nodes) (parts + most + may_miss Search most) (weight + most + may_miss Search most)) (search_cases flow structs at pair table)
+    All (IsCaseWithin structs (length flow.params) (length flow.slots) (length flow.nodes) (parts + most + may_miss Search most)
+    (weight + most + may_miss Search most)) (search_cases flow structs at pair table)

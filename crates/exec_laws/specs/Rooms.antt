@@ -28,13 +28,15 @@ IsCaseWithin structs params slots nodes parts weight (On node pair) = (node < no
 IsCaseWithin structs params slots nodes parts weight (Leaves pair) = IsPairWithin structs params 1 parts weight pair
 IsCaseWithin structs params slots nodes parts weight (Drops cause) = Unit {0}
 
--- how many parts may be missing for a precondition of at most so many: in the search as many, with one for each field of its cells, of which
+-- how many parts may be missing for a precondition of at most so many: in the search as many, with one for each field of its cells, of
+-- which
 -- a cell has at most 32,768; in strict execution none
 abbrev pub may_miss : Mode → ℕ → ℕ
 may_miss Strict most = 0
 may_miss Search most = 32769 * most
 
--- what a spec that fits gives is well formed: what is left has at most so many parts, and the missing heap's parts and the atoms that are left
+-- what a spec that fits gives is well formed: what is left has at most so many parts, and the missing heap's parts and the atoms that are
+-- left
 -- together are at most so many; the variables in use, and those that the match bound, are so few that there is room for a post's
 pub record IsFitWithin (structs : List StructDef) (params parts weight : ℕ) (pair : Pair) (fit : Fit) : Type 0 where
   pub missing : HasParts widest structs params fit.missing

@@ -13,7 +13,8 @@ use Rattle.shape_data.specs.declared.program.Operand.{Operand}
 use Rattle.shape_data.specs.declared.program.Operand.TheVariants.{Slot, Num}
 use Rattle.shape_data.specs.declared.program.TestOp.{TestOp}
 use Rattle.shape_data.specs.declared.program.TestOp.TheVariants as test
-use Rattle.flow_json.specs.Forms.{as_list, count_data, flag_data, go_on, int_data, list_data, option_data, read_count, read_int, read_list, read_name, read_option, tuple}
+use Rattle.flow_json.specs.Forms.{as_list, count_data, flag_data, go_on, int_data, list_data, option_data, read_count, read_int, read_list}
+use Rattle.flow_json.specs.Forms.{read_name, read_option, tuple}
 use Rattle.flow_json.specs.Types.{read_ty, ty_data, TyIsText}
 
 -- an operand: `["s",slot]` or `["n",number]`
@@ -71,14 +72,20 @@ read_test d = go_on (as_str d) test_of
 -- a command: its name, and its fields in their order
 abbrev pub cmd_data : Cmd → Data
 cmd_data (cmd.Copy to from next) = tuple (string (codes "copy") ∷ count_data to ∷ operand_data from ∷ count_data next ∷ [])
-cmd_data (cmd.Arith to op left right next) = tuple (string (codes "arith") ∷ count_data to ∷ arith_data op ∷ operand_data left ∷ operand_data right ∷ count_data next ∷ [])
+cmd_data (cmd.Arith to op left right next) =
+    tuple (string (codes "arith") ∷ count_data to ∷ arith_data op ∷ operand_data left ∷ operand_data right ∷ count_data next ∷ [])
 cmd_data (cmd.Any to ty next) = tuple (string (codes "any") ∷ count_data to ∷ ty_data ty ∷ count_data next ∷ [])
-cmd_data (cmd.Load to base kind field next) = tuple (string (codes "load") ∷ count_data to ∷ count_data base ∷ string kind ∷ count_data field ∷ count_data next ∷ [])
-cmd_data (cmd.Store base kind field from next) = tuple (string (codes "store") ∷ count_data base ∷ string kind ∷ count_data field ∷ operand_data from ∷ count_data next ∷ [])
+cmd_data (cmd.Load to base kind field next) =
+    tuple (string (codes "load") ∷ count_data to ∷ count_data base ∷ string kind ∷ count_data field ∷ count_data next ∷ [])
+cmd_data (cmd.Store base kind field from next) =
+    tuple (string (codes "store") ∷ count_data base ∷ string kind ∷ count_data field ∷ operand_data from ∷ count_data next ∷ [])
 cmd_data (cmd.New to kind next) = tuple (string (codes "new") ∷ count_data to ∷ string kind ∷ count_data next ∷ [])
 cmd_data (cmd.Free base kind next) = tuple (string (codes "free") ∷ count_data base ∷ string kind ∷ count_data next ∷ [])
-cmd_data (cmd.Call to callee args next) = tuple (string (codes "call") ∷ option_data count_data to ∷ string callee ∷ list_data operand_data args ∷ count_data next ∷ [])
-cmd_data (cmd.Branch op pointers left right on_true on_false) = tuple (string (codes "branch") ∷ test_data op ∷ flag_data pointers ∷ operand_data left ∷ operand_data right ∷ count_data on_true ∷ count_data on_false ∷ [])
+cmd_data (cmd.Call to callee args next) =
+    tuple (string (codes "call") ∷ option_data count_data to ∷ string callee ∷ list_data operand_data args ∷ count_data next ∷ [])
+cmd_data (cmd.Branch op pointers left right on_true on_false) =
+    tuple (string (codes "branch") ∷ test_data op ∷ flag_data pointers ∷ operand_data left ∷ operand_data right ∷ count_data on_true
+    ∷ count_data on_false ∷ [])
 cmd_data (cmd.Return value) = tuple (string (codes "return") ∷ operand_data value ∷ [])
 
 -- the fields of each command
@@ -89,7 +96,10 @@ copy_parts _ = None
 
 abbrev pub arith_parts : List Data → Option Cmd
 arith_parts (to ∷ op ∷ left ∷ right ∷ next ∷ []) =
-    go_on (read_count to) (λ to. go_on (read_arith op) (λ op. go_on (read_operand left) (λ left. go_on (read_operand right) (λ right. go_on (read_count next) (λ next. Some (cmd.Arith to op left right next))))))
+    go_on (read_count to)
+    (λ to. go_on (read_arith op)
+    (λ op. go_on (read_operand left)
+    (λ left. go_on (read_operand right) (λ right. go_on (read_count next) (λ next. Some (cmd.Arith to op left right next))))))
 arith_parts _ = None
 
 abbrev pub any_parts : List Data → Option Cmd
@@ -99,12 +109,18 @@ any_parts _ = None
 
 abbrev pub load_parts : List Data → Option Cmd
 load_parts (to ∷ base ∷ kind ∷ field ∷ next ∷ []) =
-    go_on (read_count to) (λ to. go_on (read_count base) (λ base. go_on (read_name kind) (λ kind. go_on (read_count field) (λ field. go_on (read_count next) (λ next. Some (cmd.Load to base kind field next))))))
+    go_on (read_count to)
+    (λ to. go_on (read_count base)
+    (λ base. go_on (read_name kind)
+    (λ kind. go_on (read_count field) (λ field. go_on (read_count next) (λ next. Some (cmd.Load to base kind field next))))))
 load_parts _ = None
 
 abbrev pub store_parts : List Data → Option Cmd
 store_parts (base ∷ kind ∷ field ∷ from ∷ next ∷ []) =
-    go_on (read_count base) (λ base. go_on (read_name kind) (λ kind. go_on (read_count field) (λ field. go_on (read_operand from) (λ from. go_on (read_count next) (λ next. Some (cmd.Store base kind field from next))))))
+    go_on (read_count base)
+    (λ base. go_on (read_name kind)
+    (λ kind. go_on (read_count field)
+    (λ field. go_on (read_operand from) (λ from. go_on (read_count next) (λ next. Some (cmd.Store base kind field from next))))))
 store_parts _ = None
 
 abbrev pub new_parts : List Data → Option Cmd
@@ -119,12 +135,19 @@ free_parts _ = None
 
 abbrev pub call_parts : List Data → Option Cmd
 call_parts (to ∷ callee ∷ args ∷ next ∷ []) =
-    go_on (read_option read_count to) (λ to. go_on (read_name callee) (λ callee. go_on (read_list read_operand args) (λ args. go_on (read_count next) (λ next. Some (cmd.Call to callee args next)))))
+    go_on (read_option read_count to)
+    (λ to. go_on (read_name callee)
+    (λ callee. go_on (read_list read_operand args) (λ args. go_on (read_count next) (λ next. Some (cmd.Call to callee args next)))))
 call_parts _ = None
 
 abbrev pub branch_parts : List Data → Option Cmd
 branch_parts (op ∷ pointers ∷ left ∷ right ∷ on_true ∷ on_false ∷ []) =
-    go_on (read_test op) (λ op. go_on (as_bool pointers) (λ pointers. go_on (read_operand left) (λ left. go_on (read_operand right) (λ right. go_on (read_count on_true) (λ on_true. go_on (read_count on_false) (λ on_false. Some (cmd.Branch op pointers left right on_true on_false)))))))
+    go_on (read_test op)
+    (λ op. go_on (as_bool pointers)
+    (λ pointers. go_on (read_operand left)
+    (λ left. go_on (read_operand right)
+    (λ right. go_on (read_count on_true)
+    (λ on_true. go_on (read_count on_false) (λ on_false. Some (cmd.Branch op pointers left right on_true on_false)))))))
 branch_parts _ = None
 
 abbrev pub return_parts : List Data → Option Cmd

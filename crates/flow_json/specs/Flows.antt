@@ -8,7 +8,8 @@ use Rattle.shape_data.specs.declared.program.Flow.{Flow}
 use Rattle.shape_data.specs.declared.program.HeadMark.{HeadMark}
 use Rattle.shape_data.specs.declared.program.Node.{Node}
 use Rattle.flow_json.specs.Commands.{cmd_data, read_cmd, CmdIsText}
-use Rattle.flow_json.specs.Forms.{as_list, count_data, go_on, list_data, option_data, read_count, read_list, read_name, read_object, read_option, tuple}
+use Rattle.flow_json.specs.Forms.{as_list, count_data, go_on, list_data, option_data, read_count, read_list, read_name, read_object}
+use Rattle.flow_json.specs.Forms.{read_option, tuple}
 use Rattle.flow_json.specs.Types.{read_ty, ty_data, TyIsText}
 
 -- the mark of a loop head: `[ints,dead]`
@@ -29,7 +30,9 @@ node_data node = tuple (count_data node.line ∷ option_data mark_data node.head
 
 abbrev pub node_parts : List Data → Option Node
 node_parts (line ∷ head ∷ cmd ∷ []) =
-    go_on (read_count line) (λ line. go_on (read_option read_mark head) (λ head. go_on (read_cmd cmd) (λ cmd. Some (record { line = line; cmd = cmd; head = head }))))
+    go_on (read_count line)
+      (λ line. go_on (read_option read_mark head)
+      (λ head. go_on (read_cmd cmd) (λ cmd. Some (record { line = line; cmd = cmd; head = head }))))
 node_parts _ = None
 
 abbrev pub read_node : Data → Option Node

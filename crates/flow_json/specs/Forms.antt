@@ -1,5 +1,6 @@
 -- How JSON forms are put together: what a thing is written as, and how it is read.
-use Rattle.std.specs.Prelude.{ℕ, ℤ, pos, negsuc, Bool, true, false, if◌then◌else◌, ◌&&◌, int_le, int_lt, nat_le, nat_lt, List, [], ◌∷◌, map, length, is_some, option_and_then, option_map}
+use Rattle.std.specs.Prelude.{ℕ, ℤ, pos, negsuc, Bool, true, false, if◌then◌else◌, ◌&&◌, int_le, int_lt, nat_le, nat_lt, List, [], ◌∷◌, map}
+use Rattle.std.specs.Prelude.{length, is_some, option_and_then, option_map}
 use Rattle.std.specs.Str.{bytes_eq}
 use Rattle.std.specs.declared.option.Option.{Option}
 use Rattle.std.specs.declared.option.Option.TheVariants.{None, Some}

@@ -59,7 +59,8 @@ CmdFits (cmd.Store base kind field from next) = IsCount base × IsName kind × I
 CmdFits (cmd.New to kind next) = IsCount to × IsName kind × IsCount next
 CmdFits (cmd.Free base kind next) = IsCount base × IsName kind × IsCount next
 CmdFits (cmd.Call to callee args next) = IfSome to IsCount × IsName callee × All OperandFits args × IsCount next
-CmdFits (cmd.Branch op pointers left right on_true on_false) = Unit {0} × Unit {0} × OperandFits left × OperandFits right × IsCount on_true × IsCount on_false
+CmdFits (cmd.Branch op pointers left right on_true on_false) =
+    Unit {0} × Unit {0} × OperandFits left × OperandFits right × IsCount on_true × IsCount on_false
 CmdFits (cmd.Return value) = OperandFits value
 
 abbrev pub MarkFits : HeadMark → Type 0

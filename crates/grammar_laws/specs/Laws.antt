@@ -5,17 +5,20 @@ use Rattle.grammar_laws.specs.Reading.{Done, Stop, reads, Opens, Follows}
 
 abbrev pub WhatIsReadIsDerived : Type 0
 WhatIsReadIsDerived =
-    (form : Form) → IsGood form → (from rest : List ℕ) → reads form from ≡ Done rest → (words : List ℕ) × (from ≡ words ++ rest) × Derives form words rest
+    (form : Form) → IsGood form → (from rest : List ℕ) → reads form from ≡ Done rest
+    → (words : List ℕ) × (from ≡ words ++ rest) × Derives form words rest
 
 abbrev pub WhatIsDerivedIsRead : Type 0
 WhatIsDerivedIsRead =
-    (form : Form) → IsGood form → (words rest : List ℕ) → Derives form words rest → begins_in (continues form) rest ≡ false → reads form (words ++ rest) ≡ Done rest
+    (form : Form) → IsGood form → (words rest : List ℕ) → Derives form words rest → begins_in (continues form) rest ≡ false
+    → reads form (words ++ rest) ≡ Done rest
 
 -- the words begin something that the form derives, and with the first word behind them they begin nothing of it
 pub record StopsExactly (form : Form) (words at : List ℕ) : Type 0 where
   pub more : List ℕ
   pub begins : (rest : List ℕ) → begins_in (lacks form) rest ≡ false → Derives form (words ++ more) rest
-  pub stops : (word : ℕ) (left others derived rest : List ℕ) → at ≡ word ∷ left → Derives form derived rest → begins_in (continues form) rest ≡ false
+  pub stops : (word : ℕ) (left others derived rest : List ℕ) → at ≡ word ∷ left → Derives form derived rest
+    → begins_in (continues form) rest ≡ false
       → derived ++ rest ≡ words ++ word ∷ others → ⊥
 
 abbrev pub StopsWhereItMust : Type 0

@@ -1,4 +1,5 @@
--- What reporters are fed in a session, behind each report on a program, when its reply is written: an entry for each procedure; and what the store is given, before the reply to
+-- What reporters are fed in a session, behind each report on a program, when its reply is written: an entry for each procedure; and what
+-- the store is given, before the reply to
 -- each command to save is written.
 use Rattle.std.specs.Prelude.{◌≡◌, ◌≤◌, ◌<◌, ◌-◌, ℕ, false, List, [], ◌∷◌, ◌++◌, ◌⊎◌, length, take}
 use Rattle.std.specs.Option.{option_map}
@@ -25,7 +26,8 @@ use Rattle.heapan_top.specs.Stores.{Opens, SavesNext, Store, given_last, last_of
 -- the entries are offered one after the other to those that are left
 pub data AreFedEach : List Entry → List Known → List Known → Type 0 where
   none : (all : List Known) → AreFedEach [] all all
-  more : (entry : Entry) (entries : List Entry) (olds mids news : List Known) → AreFed entry olds mids → AreFedEach entries mids news → AreFedEach (entry ∷ entries) olds news
+  more : (entry : Entry) (entries : List Entry) (olds mids news : List Known) → AreFed entry olds mids → AreFedEach entries mids news →
+    AreFedEach (entry ∷ entries) olds news
 
 -- one that stays has taken the entries behind its old ones
 pub record HasTaken (fed : List Entry) (old new : Known) : Type 0 where
@@ -37,7 +39,8 @@ pub record HasTaken (fed : List Entry) (old new : Known) : Type 0 where
 -- those that stay are some of those before, in their order, and none that is gone was steady
 pub data StayBehind (fed : List Entry) : List Known → List Known → Type 0 where
   nobody : StayBehind fed [] []
-  stays : (old new : Known) (olds news : List Known) → HasTaken fed old new → StayBehind fed olds news → StayBehind fed (old ∷ olds) (new ∷ news)
+  stays : (old new : Known) (olds news : List Known) → HasTaken fed old new → StayBehind fed olds news →
+    StayBehind fed (old ∷ olds) (new ∷ news)
   goes : (old : Known) (olds news : List Known) → old.steady ≡ false → StayBehind fed olds news → StayBehind fed (old ∷ olds) news
 
 -- reporters were fed these entries: each that stays has taken all of them; where there are none, they are as they came
@@ -48,12 +51,15 @@ pub record WereFed (as_they_came : Type 0) (fed : List Entry) (olds news : List 
 
 -- SESSIONS
 
--- on this course over the stream commands are answered, so that these replies are written, these entries fed, and the store was last given these bytes, up to another course over
+-- on this course over the stream commands are answered, so that these replies are written, these entries fed, and the store was last given
+-- these bytes, up to another course over
 -- what is left
 pub data FeedsTo : Course → List ℕ → List ℕ → List Entry → Option (List ℕ) → Course → List ℕ → Type 0 where
   here : (course : Course) (stream : List ℕ) → FeedsTo course stream [] [] None course stream
-  behind : (course : Course) (stream rest : List ℕ) (asked : Command) (text others : List ℕ) (after : Present) (fed more : List Entry) (own saved : Option (List ℕ)) (later : Course) (left : List ℕ) →
-      course.taken < MOST_COMMANDS → IsFirst stream asked rest → Answers course.present asked text after → Feeds course.present asked fed → Saves course.present asked own →
+  behind : (course : Course) (stream rest : List ℕ) (asked : Command) (text others : List ℕ) (after : Present) (fed more : List Entry)
+    (own saved : Option (List ℕ)) (later : Course) (left : List ℕ) →
+      course.taken < MOST_COMMANDS → IsFirst stream asked rest → Answers course.present asked text after → Feeds course.present asked fed →
+      Saves course.present asked own →
       FeedsTo (one_behind course (length stream - length rest) after) rest others more saved later left →
       FeedsTo course stream (text ++ others) (fed ++ more) (last_of own saved) later left
 
@@ -76,18 +82,23 @@ IsWhole status.NoMemory = ⊥
 -- these bytes are a front of one reply, and not all of it, or a front of the line that refuses what stands first
 pub data IsFrontOfNext (course : Course) (stream : List ℕ) : List ℕ → Type 0 where
   nothing : IsFrontOfNext course stream []
-  reply : (rest : List ℕ) (asked : Command) (text : List ℕ) (after : Present) (count : ℕ) → course.taken < MOST_COMMANDS → IsFirst stream asked rest → Answers course.present asked text after →
+  reply : (rest : List ℕ) (asked : Command) (text : List ℕ) (after : Present) (count : ℕ) → course.taken < MOST_COMMANDS →
+    IsFirst stream asked rest → Answers course.present asked text after →
       count < length text → IsFrontOfNext course stream (take count text)
   refusal : (bytes : List ℕ) → IsOver course stream → IsFrontOfNext course stream bytes
 
--- what the store has when a session ends: the bytes that it was last given, or, where a fault ended it, those that the command then asked for gives it
+-- what the store has when a session ends: the bytes that it was last given, or, where a fault ended it, those that the command then asked
+-- for gives it
 abbrev pub IsKept : Course → List ℕ → Option (List ℕ) → Option (Option (List ℕ)) → Option (Option (List ℕ)) → Status → Type 0
 IsKept later left saved before after ended =
-    (after ≡ given_last saved before) ⊎ ((IsWhole ended → ⊥) × (bytes : List ℕ) × SavesNext later left bytes × (after ≡ now_has bytes before))
+    (after ≡ given_last saved before)
+    ⊎ ((IsWhole ended → ⊥) × (bytes : List ℕ) × SavesNext later left bytes × (after ≡ now_has bytes before))
 
--- what was fed and stored in answer to the stream: the entries behind each reply that was written whole, and the bytes of the last of them that was to save;
+-- what was fed and stored in answer to the stream: the entries behind each reply that was written whole, and the bytes of the last of them
+-- that was to save;
 -- behind all replies, where the call has answered all commands
-pub record IsFed (course : Course) (stream : List ℕ) (old new : Option (List ℕ)) (before after : Option (Option (List ℕ))) (as_they_came : Type 0) (olds news : List Known) (ended : Status) : Type 0 where
+pub record IsFed (course : Course) (stream : List ℕ) (old new : Option (List ℕ)) (before after : Option (Option (List ℕ)))
+    (as_they_came : Type 0) (olds news : List Known) (ended : Status) : Type 0 where
   pub text : List ℕ
   pub more : List ℕ
   pub fed : List Entry
@@ -104,7 +115,8 @@ pub record IsFed (course : Course) (stream : List ℕ) (old new : Option (List �
 -- WITH A STORE
 
 -- the session ended before any command: in what is written before any reply
-pub record EndsBefore (store : Store) (old new : Option (List ℕ)) (before after : Option (Option (List ℕ))) (as_they_came : Type 0) (olds news : List Known) (ended : Status) : Type 0 where
+pub record EndsBefore (store : Store) (old new : Option (List ℕ)) (before after : Option (Option (List ℕ))) (as_they_came : Type 0)
+    (olds news : List Known) (ended : Status) : Type 0 where
   pub setting : Setting
   pub front : List ℕ
   pub opens : Opens store setting front
@@ -114,7 +126,8 @@ pub record EndsBefore (store : Store) (old new : Option (List ℕ)) (before afte
   pub cut : IsWhole ended → ⊥
 
 -- the session came behind that
-pub record IsFedBehind (store : Store) (stream : List ℕ) (old new : Option (List ℕ)) (before after : Option (Option (List ℕ))) (as_they_came : Type 0) (olds news : List Known) (ended : Status) : Type 0 where
+pub record IsFedBehind (store : Store) (stream : List ℕ) (old new : Option (List ℕ)) (before after : Option (Option (List ℕ)))
+    (as_they_came : Type 0) (olds news : List Known) (ended : Status) : Type 0 where
   pub setting : Setting
   pub front : List ℕ
   pub mid : Option (List ℕ)
@@ -123,6 +136,8 @@ pub record IsFedBehind (store : Store) (stream : List ℕ) (old new : Option (Li
   pub fed : IsFed (beginning setting) stream mid new before after as_they_came olds news ended
 
 -- the same of a whole session
-abbrev pub FeedsSession : Store → List ℕ → Option (List ℕ) → Option (List ℕ) → Option (Option (List ℕ)) → Option (Option (List ℕ)) → Type 0 → List Known → List Known → Status → Type 0
+abbrev pub FeedsSession : Store → List ℕ → Option (List ℕ) → Option (List ℕ) → Option (Option (List ℕ)) → Option (Option (List ℕ)) →
+    Type 0 → List Known → List Known → Status → Type 0
 FeedsSession store stream old new before after as_they_came olds news ended =
-    IsFedBehind store stream old new before after as_they_came olds news ended ⊎ EndsBefore store old new before after as_they_came olds news ended
+    IsFedBehind store stream old new before after as_they_came olds news ended
+    ⊎ EndsBefore store old new before after as_they_came olds news ended

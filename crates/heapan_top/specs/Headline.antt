@@ -83,4 +83,5 @@ ReadsFront old new = (bytes : List ℕ) × (old ≡ before_left bytes new)
 abbrev pub Completes : List (List ℕ) → Store → List ℕ → Status → Type 0
 Completes words store stream ended =
     ((AreRightWords words → ⊥) → (ended ≡ status.Usage) ⊎ (ended ≡ status.NoMemory))
-    × (AreRightWords words → (text : List ℕ) (planned : Status) → RepliesWith store stream text planned → (ended ≡ planned) ⊎ (ended ≡ status.NoMemory))
+    × (AreRightWords words → (text : List ℕ) (planned : Status) → RepliesWith store stream text planned
+    → (ended ≡ planned) ⊎ (ended ≡ status.NoMemory))

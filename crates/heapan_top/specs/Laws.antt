@@ -15,7 +15,8 @@ use Rattle.heapan_top.specs.Stores.{Opens, Store}
 -- on each course a stream has at most one text of replies, and one end
 abbrev pub OneReply : Type 0
 OneReply =
-    (course : Course) (stream text text' : List ℕ) (one other : Status) → Replies course stream text one → Replies course stream text' other →
+    (course : Course) (stream text text' : List ℕ) (one other : Status) → Replies course stream text one →
+    Replies course stream text' other →
     (text ≡ text') × (one ≡ other)
 
 -- on each course a stream has replies, and an end
@@ -24,7 +25,8 @@ SomeReply = (course : Course) (stream : List ℕ) → (text : List ℕ) × (ende
 
 -- with each store a session begins in one way
 abbrev pub OneOpening : Type 0
-OneOpening = (store : Store) (one other : Setting) (front front' : List ℕ) → Opens store one front → Opens store other front' → (one ≡ other) × (front ≡ front')
+OneOpening = (store : Store) (one other : Setting) (front front' : List ℕ) → Opens store one front → Opens store other front' →
+    (one ≡ other) × (front ≡ front')
 
 -- and in some way
 abbrev pub SomeOpening : Type 0
@@ -34,7 +36,8 @@ SomeOpening = (store : Store) → (setting : Setting) × (front : List ℕ) × O
 -- made, are one for each procedure, each well formed, with a spec or a reason, and with valid specs alone, whatever bytes the store has
 abbrev pub PrintsValid : Type 0
 PrintsValid =
-    (store : Store) (setting : Setting) (front stream : List ℕ) (course : Course) (program : Program) → Opens store setting front → Passes (beginning setting) stream course →
+    (store : Store) (setting : Setting) (front stream : List ℕ) (course : Course) (program : Program) → Opens store setting front →
+    Passes (beginning setting) stream course →
     Reads course.present.files (Ok program) → IsProgram program × AreReported program (program_summaries setting.loaded program)
 
 -- where each answer that was loaded is what solving its key gives, the replies are those of an analysis from nothing
@@ -47,16 +50,19 @@ HonestReplies =
 abbrev pub FedIsFront : Type 0
 FedIsFront =
     (course later over : Course) (stream text text' left rest : List ℕ) (fed all : List Entry) (saved saved' : Option (List ℕ)) →
-    FeedsTo course stream text fed saved later left → FeedsTo course stream text' all saved' over rest → IsOver over rest → (more : List Entry) × (all ≡ fed ++ more)
+    FeedsTo course stream text fed saved later left → FeedsTo course stream text' all saved' over rest → IsOver over rest →
+      (more : List Entry) × (all ≡ fed ++ more)
 
 -- and there is one: which, is decided
 abbrev pub SomeFed : Type 0
 SomeFed =
     (course : Course) (stream : List ℕ) →
-    (text : List ℕ) × (fed : List Entry) × (saved : Option (List ℕ)) × (later : Course) × (left : List ℕ) × FeedsTo course stream text fed saved later left × IsOver later left
+    (text : List ℕ) × (fed : List Entry) × (saved : Option (List ℕ)) × (later : Course) × (left : List ℕ)
+    × FeedsTo course stream text fed saved later left × IsOver later left
 
 -- all that is fed and stored behind all commands of the stream is one list, and the bytes that were stored last
 abbrev pub OneFeeding : Type 0
 OneFeeding =
     (course later over : Course) (stream text text' left rest : List ℕ) (fed all : List Entry) (saved saved' : Option (List ℕ)) →
-    FeedsTo course stream text fed saved later left → IsOver later left → FeedsTo course stream text' all saved' over rest → IsOver over rest → (fed ≡ all) × (saved ≡ saved')
+    FeedsTo course stream text fed saved later left → IsOver later left → FeedsTo course stream text' all saved' over rest →
+    IsOver over rest → (fed ≡ all) × (saved ≡ saved')

@@ -49,7 +49,8 @@ Ends old new text planned ended = ((ended ≡ planned) × Appends old new text) 
 
 -- nothing was written, or a front of an answer to the command, and not all of it
 abbrev pub IsCutAnswer : Present → Command → Option (List ℕ) → Option (List ℕ) → Type 0
-IsCutAnswer present asked old new = (new ≡ old) ⊎ ((text : List ℕ) × (after : Present) × AnswersCommand present asked text after × AppendsFront old new text)
+IsCutAnswer present asked old new =
+    (new ≡ old) ⊎ ((text : List ℕ) × (after : Present) × AnswersCommand present asked text after × AppendsFront old new text)
 
 -- a command was answered, or its answer was cut short
 abbrev pub IsReply : Present → Command → Option (List ℕ) → Present → Option (List ℕ) → Option Status → Type 0
@@ -84,21 +85,26 @@ IsOneMore old new = (old < 65536) × (new ≡ old + 1)
 
 -- the answer to a command was written, and so many publishes were seen by then; or a front of it
 abbrev pub IsReplyWork : Present → Command → Option (List ℕ) → Present → Option (List ℕ) → ℕ → Option Status → Type 0
-IsReplyWork present asked old after new seen None = (text : List ℕ) × AnswersCommand present asked text after × Appends old new text × IsWorked present asked seen
+IsReplyWork present asked old after new seen None =
+    (text : List ℕ) × AnswersCommand present asked text after × Appends old new text × IsWorked present asked seen
 IsReplyWork present asked old after new seen (Some ended) =
-    (new ≡ old) ⊎ ((text : List ℕ) × (later : Present) × AnswersCommand present asked text later × AppendsSome old new text × IsWorked present asked seen)
+    (new ≡ old) ⊎ ((text : List ℕ) × (later : Present) × AnswersCommand present asked text later × AppendsSome old new text
+    × IsWorked present asked seen)
 
 -- from one course over a stream a session came, with these bytes written and so many publishes seen, to another course over what is left
-pub record GoesOn (course : Course) (stream : List ℕ) (old : Option (List ℕ)) (after : Course) (left new : Option (List ℕ)) (seen : ℕ) : Type 0 where
+pub record GoesOn (course : Course) (stream : List ℕ) (old : Option (List ℕ)) (after : Course) (left new : Option (List ℕ))
+    (seen : ℕ) : Type 0 where
   pub text : List ℕ
   pub rest : List ℕ
   pub is_left : left ≡ Some rest
   pub appends : Appends old new text
-  pub carries : (written : List ℕ) (solves : ℕ) → seen ≤ solves → AreCounted after rest written solves → AreCounted course stream (text ++ written) solves
+  pub carries : (written : List ℕ) (solves : ℕ) → seen ≤ solves → AreCounted after rest written solves
+    → AreCounted course stream (text ++ written) solves
 
 -- this was written last
 abbrev pub EndsCounted : Course → List ℕ → Option (List ℕ) → Option (List ℕ) → ℕ → Type 0
-EndsCounted course stream old new seen = (written : List ℕ) × Appends old new written × ((solves : ℕ) → seen ≤ solves → AreCounted course stream written solves)
+EndsCounted course stream old new seen =
+    (written : List ℕ) × Appends old new written × ((solves : ℕ) → seen ≤ solves → AreCounted course stream written solves)
 
 abbrev pub IsWork : Course → List ℕ → Option (List ℕ) → Course → Option (List ℕ) → Option (List ℕ) → ℕ → Option Status → Type 0
 IsWork course stream old after left new seen None = GoesOn course stream old after left new seen
@@ -134,16 +140,21 @@ IsReplyStored present asked before after = (saved : Option (List ℕ)) × Saves 
 -- what a reply saves was stored, or, where the reply was cut short, was or was not
 abbrev pub IsReplySaved : Present → Command → Option (Option (List ℕ)) → Option (Option (List ℕ)) → Option Status → Type 0
 IsReplySaved present asked before after None = IsReplyStored present asked before after
-IsReplySaved present asked before after (Some ended) = (after ≡ before) ⊎ ((bytes : List ℕ) × Saves present asked (Some bytes) × (after ≡ now_has bytes before))
+IsReplySaved present asked before after (Some ended) =
+    (after ≡ before) ⊎ ((bytes : List ℕ) × Saves present asked (Some bytes) × (after ≡ now_has bytes before))
 
--- behind the reply to a command its entries were fed, and what it saves was stored before; behind a reply that was cut short none were fed, and what it saves was stored or not
-abbrev pub IsReplyFed : Present → Command → Option (Option (List ℕ)) → Option (Option (List ℕ)) → Type 0 → List Known → List Known → Option Status → Type 0
+-- behind the reply to a command its entries were fed, and what it saves was stored before; behind a reply that was cut short none were fed,
+-- and what it saves was stored or not
+abbrev pub IsReplyFed : Present → Command → Option (Option (List ℕ)) → Option (Option (List ℕ)) → Type 0 → List Known → List Known
+    → Option Status → Type 0
 IsReplyFed present asked before after as_they_came olds news None =
     ((fed : List Entry) × Feeds present asked fed × WereFed as_they_came fed olds news) × IsReplySaved present asked before after None
-IsReplyFed present asked before after as_they_came olds news (Some ended) = WereFed as_they_came [] olds news × IsReplySaved present asked before after (Some ended)
+IsReplyFed present asked before after as_they_came olds news (Some ended) =
+    WereFed as_they_came [] olds news × IsReplySaved present asked before after (Some ended)
 
 -- from one course over a stream a session came, with this text written and these entries fed, to another course over what is left
-pub record FeedsOn (course : Course) (stream : List ℕ) (old : Option (List ℕ)) (later : Course) (left new : Option (List ℕ)) (before after : Option (Option (List ℕ)))
+pub record FeedsOn (course : Course) (stream : List ℕ) (old : Option (List ℕ)) (later : Course) (left new : Option (List ℕ))
+    (before after : Option (Option (List ℕ)))
     (as_they_came : Type 0) (olds news : List Known) : Type 0 where
   pub text : List ℕ
   pub fed : List Entry
@@ -155,12 +166,16 @@ pub record FeedsOn (course : Course) (stream : List ℕ) (old : Option (List ℕ
   pub were : WereFed as_they_came fed olds news
   pub kept : after ≡ given_last saved before
 
-abbrev pub IsTurnFed : Course → List ℕ → Option (List ℕ) → Course → Option (List ℕ) → Option (List ℕ) → Option (Option (List ℕ)) → Option (Option (List ℕ)) → Type 0 → List Known → List Known → Option Status → Type 0
-IsTurnFed course stream old later left new before after as_they_came olds news None = FeedsOn course stream old later left new before after as_they_came olds news
-IsTurnFed course stream old later left new before after as_they_came olds news (Some ended) = IsFed course stream old new before after as_they_came olds news ended
+abbrev pub IsTurnFed : Course → List ℕ → Option (List ℕ) → Course → Option (List ℕ) → Option (List ℕ) → Option (Option (List ℕ))
+    → Option (Option (List ℕ)) → Type 0 → List Known → List Known → Option Status → Type 0
+IsTurnFed course stream old later left new before after as_they_came olds news None =
+    FeedsOn course stream old later left new before after as_they_came olds news
+IsTurnFed course stream old later left new before after as_they_came olds news (Some ended) =
+    IsFed course stream old new before after as_they_came olds news ended
 
 -- reporters were fed from the beginning
-abbrev pub IsFedOn : Setting → Option (List ℕ) → Option (List ℕ) → Course → Option (List ℕ) → Option (List ℕ) → Option (Option (List ℕ)) → Option (Option (List ℕ)) → Type 0 → List Known → List Known → Type 0
+abbrev pub IsFedOn : Setting → Option (List ℕ) → Option (List ℕ) → Course → Option (List ℕ) → Option (List ℕ) → Option (Option (List ℕ))
+    → Option (Option (List ℕ)) → Type 0 → List Known → List Known → Type 0
 IsFedOn setting told old course left new before after as_they_came olds news =
     IfSome told (λ stream. FeedsOn (beginning setting) stream old course left new before after as_they_came olds news)
 
@@ -171,11 +186,14 @@ IsStoreEnd ended = (ended ≡ status.StoreFault) ⊎ (ended ≡ status.NoMemory)
 -- LEADING
 
 -- what a leader does at a desk: the stream that its source has is answered, and it has seen so many publishes
-pub record IsLed (setting : Setting) (path : Option (List ℕ)) (told left old new : Option (List ℕ)) (kept kept' : List ℕ → Option (Option (List ℕ)))
-    (read_faults read_faults' write_faults write_faults' store_faults store_faults' : ℕ) (as_they_came : Type 0) (olds news : List Known) (ended : Status) (seen : ℕ) : Type 0 where
+pub record IsLed (setting : Setting) (path : Option (List ℕ)) (told left old new : Option (List ℕ))
+    (kept kept' : List ℕ → Option (Option (List ℕ)))
+    (read_faults read_faults' write_faults write_faults' store_faults store_faults' : ℕ) (as_they_came : Type 0) (olds news : List Known)
+    (ended : Status) (seen : ℕ) : Type 0 where
   pub answers : IfSome told (λ stream. Answers (beginning setting) stream old new ended)
   pub work : IfSome told (λ stream. AppendsCounted setting stream old new seen)
-  pub fed : IfSome told (λ stream. IsFed (beginning setting) stream old new (path_told kept path) (path_told kept' path) as_they_came olds news ended)
+  pub fed : IfSome told
+    (λ stream. IsFed (beginning setting) stream old new (path_told kept path) (path_told kept' path) as_they_came olds news ended)
   pub steady : steady_count news ≡ steady_count olds
   pub reads : ReadsFront told left
   pub others : KeepsOthers path kept kept'

@@ -22,17 +22,21 @@ pub record IsCalleeFor (outer : Outer) (callee : Callee) : Type 0 where
 abbrev pub ComposedKeysAreFormed : Type 0
 ComposedKeysAreFormed =
     (limits : Limits) (program : Program) (place : ℕ) (component : Component) (callees : List Callee) → IsProgram program →
-    slice_get (program_components program) place ≡ Some component → AllZip IsCalleeFor component.outer callees → All (IsCallee limits program.structs) callees →
+    slice_get (program_components program) place ≡ Some component → AllZip IsCalleeFor component.outer callees →
+    All (IsCallee limits program.structs) callees →
     IsKey limits (key_over program.structs component.flows callees)
 
 -- the structures used are some of the listed ones, with the same definitions
 abbrev pub UsedAreContained : Type 0
 UsedAreContained =
-    (structs : List StructDef) (flows : List Flow) (callees : List Callee) → AreStructs structs → ContainsStructures structs (structs_used structs flows callees)
+    (structs : List StructDef) (flows : List Flow) (callees : List Callee) → AreStructs structs →
+    ContainsStructures structs (structs_used structs flows callees)
 
--- a procedure of a key as a callee, with the specs that an answer has for it, is well formed over each list that contains the key's structures
+-- a procedure of a key as a callee, with the specs that an answer has for it, is well formed over each list that contains the key's
+-- structures
 abbrev pub AnswersMakeCallees : Type 0
 AnswersMakeCallees =
-    (limits : Limits) (structs : List StructDef) (key : Key) (answer : Answer) (flow : Flow) → IsKey limits key → IsAnswer limits key answer →
+    (limits : Limits) (structs : List StructDef) (key : Key) (answer : Answer) (flow : Flow) → IsKey limits key →
+    IsAnswer limits key answer →
     ContainsStructures structs key.structs → Contains key.procs flow →
     IsCallee limits structs (record { name = flow.name; params = flow.params; specs = specs_in answer flow.name })

@@ -26,14 +26,17 @@ IsFormedEvent _ = Unit {0}
 -- each key that a component is due is within the limits
 abbrev pub DueKeysAreStorable : Type 0
 DueKeysAreStorable =
-    (world : World) (component : ℕ) (standing : Standing) (key : Key) → IsStorableWorld world → standing_at world component ≡ Some standing → standing.due ≡ Some key →
+    (world : World) (component : ℕ) (standing : Standing) (key : Key) → IsStorableWorld world →
+    standing_at world component ≡ Some standing → standing.due ≡ Some key →
     IsStorableKey key
 
 -- each event keeps this, where programs are well formed and published answers are within the limits
 abbrev pub EventsKeepStorable : Type 0
-EventsKeepStorable = (world : World) (event : Event) → IsStorableWorld world → IsFormedEvent event → IsSolved IsStorableAnswer world event → IsStorableWorld (after world event)
+EventsKeepStorable = (world : World) (event : Event) → IsStorableWorld world → IsFormedEvent event → IsSolved IsStorableAnswer world event →
+    IsStorableWorld (after world event)
 
 -- so it holds after every legal log of well-formed programs, where an answer that is right for a key is within the limits
 abbrev pub LegalWorldsAreStorable : (Key → Answer → Type 0) → Type 0
 LegalWorldsAreStorable solves =
-    ((key : Key) (answer : Answer) → solves key answer → IsStorableAnswer key answer) → (log : List Event) → IsLegal solves log → All IsFormedEvent log → IsStorableWorld (replay log)
+    ((key : Key) (answer : Answer) → solves key answer → IsStorableAnswer key answer) → (log : List Event) → IsLegal solves log →
+    All IsFormedEvent log → IsStorableWorld (replay log)

@@ -47,7 +47,8 @@ PostHasStorableLogical task post = EachInPost (IsExp storable_logical (length ta
 abbrev pub ExecutionKeepsLogical : Type 0
 ExecutionKeepsLogical =
     (task : Task) (at : ℕ) (state : SymState) (nexts : List (ℕ × SymState)) (exits : List Post) →
-    IsTask task → HasTaskSizes task → IsGivenState task state → HasStorableLogical task state → execution task at state ≡ step.Next nexts exits →
+    IsTask task → HasTaskSizes task → IsGivenState task state → HasStorableLogical task state →
+    execution task at state ≡ step.Next nexts exits →
     All (λ (next : ℕ × SymState). HasStorableLogical task next.1) nexts × All (PostHasStorableLogical task) exits
 
 -- and so does the abstraction of what comes to a node, and to an exit

@@ -4,7 +4,8 @@ use Rattle.std.specs.List.{AllZip}
 use Rattle.std.specs.Cmp.Lexicographic.{pointwise}
 use Rattle.c_grammar.specs.Trees.{File}
 use Rattle.c_front.specs.Units.{IsUnitOf}
-use Rattle.project_form.specs.Files.{SourceFile, source, with_text, changed_first, without_first, inserted_before, is_named, has_file, stands_before}
+use Rattle.project_form.specs.Files.{SourceFile, source, with_text, changed_first, without_first, inserted_before, is_named, has_file}
+use Rattle.project_form.specs.Files.{stands_before}
 
 -- a file, and whether its parse is kept
 pub record KeptFile : Type 0 where

@@ -26,5 +26,6 @@ AnswersHaveSizes = (files : List SourceFile) (program : Program) → Reads files
 -- no file is few enough, and putting and dropping keep within the limits
 pub record KeepLimits : Type 0 where
   pub none : AreFiles []
-  pub put : (name bytes : List ℕ) (files : List SourceFile) → AreFiles files → put_refusal name bytes files ≡ None → AreFiles (with_file name bytes files)
+  pub put : (name bytes : List ℕ) (files : List SourceFile) → AreFiles files → put_refusal name bytes files ≡ None
+    → AreFiles (with_file name bytes files)
   pub dropped : (name : List ℕ) (files : List SourceFile) → AreFiles files → AreFiles (without_file name files)

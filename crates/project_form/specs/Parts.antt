@@ -20,7 +20,8 @@ use Rattle.project_form.specs.declared.file.TextFault.TheVariants as text
 use Rattle.project_form.specs.declared.reading.Firsts.{Firsts}
 use Rattle.project_form.specs.Files.{SourceFile}
 use Rattle.project_form.specs.Kept.{KeptFile, AreAllKept, AreKeptWhereRead, sources_of}
-use Rattle.project_form.specs.Reads.{Reading, NoTokens, NoFile, Tree, IsRead, Reads, first_refused, refused_at, refused_in, token_refusal, syntax_refusal, whole_refusal}
+use Rattle.project_form.specs.Reads.{Reading, NoTokens, NoFile, Tree, IsRead, Reads, first_refused, refused_at, refused_in, token_refusal}
+use Rattle.project_form.specs.Reads.{syntax_refusal, whole_refusal}
 
 -- FAULTS: want of memory says nothing
 

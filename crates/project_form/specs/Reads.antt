@@ -55,7 +55,8 @@ refused_in name refusal = record { file = name; line = refusal.line; code = refu
 
 -- the first of the files that is refused for this
 abbrev pub first_refused : (Reading → Option Refusal) → List SourceFile → List Reading → Option Refused
-first_refused stage (file ∷ files) (reading ∷ readings) = option_or (option_map (refused_in file.name) (stage reading)) (first_refused stage files readings)
+first_refused stage (file ∷ files) (reading ∷ readings) =
+    option_or (option_map (refused_in file.name) (stage reading)) (first_refused stage files readings)
 first_refused stage _ _ = None
 
 -- the name of the file with this number

@@ -25,8 +25,10 @@ pub record AreReportable (structs : List StructDef) (procs : List Proc) (summari
 
 -- a summary that is well formed within any limits, and that has a spec or a reason, can be printed
 abbrev pub FormedIsPrintable : Type 0
-FormedIsPrintable = (limits : Limits) (structs : List StructDef) (flow : Flow) (summary : ProcSummary) → IsSummary limits structs flow summary → HasReason summary → IsPrintable structs summary
+FormedIsPrintable = (limits : Limits) (structs : List StructDef) (flow : Flow) (summary : ProcSummary)
+    → IsSummary limits structs flow summary → HasReason summary → IsPrintable structs summary
 
 -- so can a summary that a store may hold, and that has a spec or a reason
 abbrev pub StorableIsPrintable : Type 0
-StorableIsPrintable = (structs : List StructDef) (flow : Flow) (summary : ProcSummary) → IsSummary storable structs flow summary → HasReason summary → IsPrintable structs summary
+StorableIsPrintable = (structs : List StructDef) (flow : Flow) (summary : ProcSummary) → IsSummary storable structs flow summary
+    → HasReason summary → IsPrintable structs summary

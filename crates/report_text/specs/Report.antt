@@ -48,7 +48,8 @@ post_line structs params ty post = line_of (codes " post " ++ post_text structs 
 
 -- ` pre HEAP`, and a line for each post
 abbrev pub spec_lines : List StructDef → List (List ℕ) → Ty → Spec → List ℕ
-spec_lines structs params ty spec = line_of (codes " pre " ++ heap_text structs params spec.pre) ++ flat_map (post_line structs params ty) spec.posts
+spec_lines structs params ty spec =
+    line_of (codes " pre " ++ heap_text structs params spec.pre) ++ flat_map (post_line structs params ty) spec.posts
 
 -- REASONS
 

@@ -7,7 +7,8 @@ use Rattle.reporters.specs.declared.reporter.Entry.{Entry}
 use Rattle.reporters.specs.declared.reporter.Go.{Go}
 use Rattle.reporters.specs.declared.reporter.Go.TheVariants.{More, Stop}
 
--- the entries taken, where it tells them; how many calls failed; whether it takes each entry and never stops; the number of entries at which it stops, if there is one
+-- the entries taken, where it tells them; how many calls failed; whether it takes each entry and never stops; the number of entries at
+-- which it stops, if there is one
 pub record Known : Type 0 where
   pub taken : Option (List Entry)
   pub faults : ℕ

@@ -3,7 +3,8 @@ use Rattle.std.specs.Prelude.{ℕ, List}
 use Rattle.std.specs.declared.option.Option.{Option}
 use Rattle.reporters.specs.declared.reporter.Entry.{Entry}
 
--- the entries taken, the number of entries at which it stops, the numbers of the calls that fail, how many calls there were, and how many of them failed
+-- the entries taken, the number of entries at which it stops, the numbers of the calls that fail, how many calls there were, and how many
+-- of them failed
 pub record ReporterScript : Type 0 where
   pub entries : List Entry
   pub stop_at : Option ℕ

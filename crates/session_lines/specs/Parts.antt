@@ -76,8 +76,10 @@ IsBehind line old new behind.Failed = Unit {0}
 -- the command that a line is, with the line's so many bytes, was taken; or the line is none, or its bytes are too few, and none is counted
 abbrev pub TakesLine : Option Line → ℕ → Reading → Reading → Option (List ℕ) → Option (List ℕ) → Taken → Type 0
 TakesLine None size old new before after answer = (answer ≡ taken.Malformed (old.taken + 1) old.offset) × IsNoneMore old new
-TakesLine (Some line) size old new before after (taken.Command command) = IsBehind line before after (behind.Command command) × IsOneMore old new (size + body_size line)
-TakesLine (Some line) size old new before after (taken.Malformed number offset) = IsBehind line before after behind.Short × (number ≡ old.taken + 1) × (offset ≡ old.offset) × IsNoneMore old new
+TakesLine (Some line) size old new before after (taken.Command command) =
+    IsBehind line before after (behind.Command command) × IsOneMore old new (size + body_size line)
+TakesLine (Some line) size old new before after (taken.Malformed number offset) =
+    IsBehind line before after behind.Short × (number ≡ old.taken + 1) × (offset ≡ old.offset) × IsNoneMore old new
 TakesLine (Some line) size old new before after taken.ReadFault = IsNoneMore old new
 TakesLine (Some line) size old new before after taken.End = ⊥
 TakesLine (Some line) size old new before after taken.Full = ⊥

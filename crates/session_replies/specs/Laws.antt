@@ -16,27 +16,32 @@ use Rattle.session_replies.specs.Saves.{Saves}
 -- a command has at most one answer, and at most one present behind it
 abbrev pub OneAnswer : Type 0
 OneAnswer =
-    (present one other : Present) (asked : Command) (text text' : List ℕ) → Answers present asked text one → Answers present asked text' other →
+    (present one other : Present) (asked : Command) (text text' : List ℕ) → Answers present asked text one →
+    Answers present asked text' other →
     (text ≡ text') × (one ≡ other)
 
 -- a command other than `quit` has an answer: which, is decided
 abbrev pub SomeAnswer : Type 0
-SomeAnswer = (present : Present) (asked : Command) → IsAnswered asked → (text : List ℕ) × (after : Present) × Answers present asked text after
+SomeAnswer = (present : Present) (asked : Command) → IsAnswered asked →
+    (text : List ℕ) × (after : Present) × Answers present asked text after
 
 -- what is present keeps the limits of a project
 abbrev pub AnswersKeepLimits : Type 0
 AnswersKeepLimits =
-    (present after : Present) (asked : Command) (text : List ℕ) → AreFiles present.files → Answers present asked text after → AreFiles after.files
+    (present after : Present) (asked : Command) (text : List ℕ) → AreFiles present.files → Answers present asked text after →
+    AreFiles after.files
 
 -- and what the session began with stays
 abbrev pub AnswersKeepSetting : Type 0
-AnswersKeepSetting = (present after : Present) (asked : Command) (text : List ℕ) → Answers present asked text after → after.setting ≡ present.setting
+AnswersKeepSetting = (present after : Present) (asked : Command) (text : List ℕ) → Answers present asked text after →
+    after.setting ≡ present.setting
 
 -- files that are a program are a well-formed one, of which each summary that is reported is well formed, has a spec or a reason, and has
 -- valid specs alone, whatever was loaded, if only each loaded answer is right for its key
 abbrev pub ReportedIsValid : Type 0
 ReportedIsValid =
-    (loaded : List Solution) (files : List SourceFile) (program : Program) → All IsRight loaded → AreFiles files → Reads files (Ok program) →
+    (loaded : List Solution) (files : List SourceFile) (program : Program) → All IsRight loaded → AreFiles files →
+    Reads files (Ok program) →
     IsProgram program × AreReported program (program_summaries loaded program)
 
 -- behind a command one list of entries is fed at most
@@ -49,7 +54,8 @@ SomeFeed = (present : Present) (asked : Command) → (entries : List Entry) × F
 
 -- behind a command a store has new bytes, or none; in one way
 abbrev pub OneSaving : Type 0
-OneSaving = (present : Present) (asked : Command) (one other : Option (List ℕ)) → Saves present asked one → Saves present asked other → one ≡ other
+OneSaving = (present : Present) (asked : Command) (one other : Option (List ℕ)) → Saves present asked one → Saves present asked other →
+    one ≡ other
 
 -- and in some
 abbrev pub SomeSaving : Type 0

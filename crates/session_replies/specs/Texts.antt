@@ -1,5 +1,6 @@
 -- The lines of replies: that all is well, what is refused, and what is reported of a program.
-use Rattle.std.specs.Prelude.{ℕ, nat_eq, nat_le, Bool, true, false, Option, Some, None, List, [], ◌++◌, codes, length, slice_get, if◌then◌else◌}
+use Rattle.std.specs.Prelude.{ℕ, nat_eq, nat_le, Bool, true, false, Option, Some, None, List, [], ◌++◌, codes, length, slice_get}
+use Rattle.std.specs.Prelude.{if◌then◌else◌}
 use Rattle.std.specs.List.{position}
 use Rattle.std.specs.Cmp.Lexicographic.{pointwise}
 use Rattle.std.specs.Fmt.{decimal}
@@ -49,7 +50,8 @@ block_of structs _ _ = []
 
 -- the block of the procedure of a number; without a number the error that there is none
 abbrev pub block_at : List Solution → Program → Option ℕ → List ℕ
-block_at loaded program (Some number) = block_of program.structs (slice_get program.procs number) (slice_get (program_summaries loaded program) number)
+block_at loaded program (Some number) =
+    block_of program.structs (slice_get program.procs number) (slice_get (program_summaries loaded program) number)
 block_at loaded program None = error_line 146
 
 -- the block of the procedure of a name, or the error that the program defines none

@@ -20,11 +20,13 @@ count_reached program aim = count_by (aimed program aim) (range_with_len 0 (leng
 
 -- the reply to the command tells of a program, of the components that this aim reaches
 abbrev pub Tells : Present → Command → Program → Aim → Type 0
-Tells present (command.Show name) program aim = (aim ≡ One name) × Reads present.files (Ok program) × (is_some (position (is_named name) program.procs) ≡ true)
+Tells present (command.Show name) program aim =
+    (aim ≡ One name) × Reads present.files (Ok program) × (is_some (position (is_named name) program.procs) ≡ true)
 Tells present command.Report program aim = (aim ≡ All) × Reads present.files (Ok program)
 Tells present command.Save program aim = (aim ≡ All) × (present.setting.saves ≡ true) × Reads present.files (Ok program)
 Tells present (command.Gen n) program aim =
-    (aim ≡ All) × (put_refusal GENERATED (generated n) present.files ≡ None) × Reads (with_file GENERATED (generated n) present.files) (Ok program)
+    (aim ≡ All) × (put_refusal GENERATED (generated n) present.files ≡ None)
+    × Reads (with_file GENERATED (generated n) present.files) (Ok program)
 Tells present _ program aim = ⊥
 
 -- where the reply to the command tells of components, at least so many answers were published

@@ -27,7 +27,8 @@ SettledIsAll = (world : World) → IsSettled world (aimed world.program aims.All
 -- what is known of the components that an aim reaches, callees first
 abbrev pub aimed_known : (Key → Answer) → Program → Aim → List Solution
 aimed_known answer_of program aim =
-    filter_map (slice_get (known_by answer_of program)) (filter (aimed program aim) (range_with_len 0 (length (program_components program))))
+    filter_map (slice_get (known_by answer_of program))
+    (filter (aimed program aim) (range_with_len 0 (length (program_components program))))
 
 -- their answers
 abbrev pub aimed_answers : (Key → Answer) → Program → Aim → List Answer
@@ -37,11 +38,14 @@ aimed_answers answer_of program aim = answers_in (aimed_known answer_of program 
 abbrev pub AreGiven : (Key → Answer) → List Kept → Type 0
 AreGiven answer_of kept = All (λ (one : Kept). one.answer.value ≡ answer_of one.key.value) kept
 
--- where the components that an aim reaches are settled, what is collected of them is what is known, if it has the answers that keys are given
+-- where the components that an aim reaches are settled, what is collected of them is what is known, if it has the answers that keys are
+-- given
 abbrev pub CollectedAreKnown : (Key → Answer → Type 0) → Type 0
 CollectedAreKnown solves =
-    (answer_of : Key → Answer) (log : List Event) → IsLegal solves log → (aim : Aim) → IsSettled (replay log) (aimed (replay log).program aim) →
-    (kept : List Kept) → map solution_of kept ≡ map slot_solution (slots_by (replay log) (aimed (replay log).program aim)) → AreGiven answer_of kept →
+    (answer_of : Key → Answer) (log : List Event) → IsLegal solves log → (aim : Aim) →
+    IsSettled (replay log) (aimed (replay log).program aim) →
+    (kept : List Kept) → map solution_of kept ≡ map slot_solution (slots_by (replay log) (aimed (replay log).program aim)) →
+    AreGiven answer_of kept →
     map solution_of kept ≡ aimed_known answer_of (replay log).program aim
 
 -- there is one entry for each component that the aim reaches, whatever it holds

@@ -1,7 +1,8 @@
 -- The concrete machine: one step, and a run over a list of choices. A configuration is a stack of frames, of
 -- which the last one runs, and a heap. A choice answers what the program leaves open: the address and content
 -- of a new cell, a null pointer in its place, or the value of something that was never set.
-use Rattle.std.specs.Prelude.{ℕ, ◌+◌, ◌-◌, ℤ, pos, negsuc, ◌+ℤ◌, ◌-ℤ◌, ◌*ℤ◌, int_lt, int_le, Bool, true, false, not, ◌&&◌, if◌then◌else◌, List, [], ◌∷◌, ◌++◌, length, map, replicate, slice_get, slice_set, slice_index_or, is_none}
+use Rattle.std.specs.Prelude.{ℕ, ◌+◌, ◌-◌, ℤ, pos, negsuc, ◌+ℤ◌, ◌-ℤ◌, ◌*ℤ◌, int_lt, int_le, Bool, true, false, not, ◌&&◌, if◌then◌else◌}
+use Rattle.std.specs.Prelude.{List, [], ◌∷◌, ◌++◌, length, map, replicate, slice_get, slice_set, slice_index_or, is_none}
 use Rattle.std.specs.Ordering.{int_eq}
 use Rattle.std.specs.Int.{int_wrap, w32}
 use Rattle.std.specs.Str.{bytes_eq}
@@ -108,11 +109,13 @@ in_cell kind line use_cell (Some cell) = if bytes_eq cell.kind kind then use_cel
 
 -- what comes of an access to a structure at an address: null, then unowned, then of another kind (C11 6.5.2.3)
 abbrev pub at_cell : List Cell → ℤ → List ℕ → ℕ → (Cell → Stepped) → Stepped
-at_cell heap at kind line use_cell = if int_eq at (pos 0) then stepped.Fault line fault.Null else in_cell kind line use_cell (cell_at heap at)
+at_cell heap at kind line use_cell =
+    if int_eq at (pos 0) then stepped.Fault line fault.Null else in_cell kind line use_cell (cell_at heap at)
 
 -- a slot takes a number of its type that is chosen: what was never set, or what a procedure answers that falls off its end
 abbrev pub any_step : List Frame → Frame → List Cell → ℕ → Ty → ℕ → Choice → Stepped
-any_step below frame heap to ty next (choice.Value value) = if is_of_type ty value then go_with below frame heap to value next else stepped.BadChoice
+any_step below frame heap to ty next (choice.Value value) =
+    if is_of_type ty value then go_with below frame heap to value next else stepped.BadChoice
 any_step below frame heap to ty next _ = stepped.BadChoice
 
 -- the numbers are one of each field's type
@@ -122,7 +125,8 @@ fit_struct values (Some def) = are_of_fields def.fields values
 
 -- the address that is chosen for a new cell is positive and not live, and its numbers fit the structure
 abbrev pub can_be_new : Program → List Cell → List ℕ → ℤ → List ℤ → Bool
-can_be_new program heap kind at fields = int_lt (pos 0) at && is_none (cell_at heap at) && fit_struct fields (struct_named program.structs kind)
+can_be_new program heap kind at fields =
+    int_lt (pos 0) at && is_none (cell_at heap at) && fit_struct fields (struct_named program.structs kind)
 
 -- a new cell: none, or one at a chosen address with chosen content (C11 7.22.3.4)
 abbrev pub new_step : Program → List Frame → Frame → List Cell → ℕ → List ℕ → ℕ → Choice → Stepped
@@ -140,11 +144,13 @@ freed below frame heap at line next (Some cell) = go_to below frame (without at 
 
 -- nothing comes of the null pointer; the cell of any other address goes (C11 7.22.3.3)
 abbrev pub free_step : List Frame → Frame → List Cell → ℤ → ℕ → ℕ → Stepped
-free_step below frame heap at line next = if int_eq at (pos 0) then go_to below frame heap next else freed below frame heap at line next (cell_at heap at)
+free_step below frame heap at line next =
+    if int_eq at (pos 0) then go_to below frame heap next else freed below frame heap at line next (cell_at heap at)
 
 -- a new frame has its arguments, and 0 in all other slots
 abbrev pub new_frame : ℕ → Flow → List ℤ → Option ℕ → Frame
-new_frame number flow args to = record { proc = number; node = 0; locals = args ++ replicate (length flow.slots - length args) (pos 0); to = to }
+new_frame number flow args to =
+    record { proc = number; node = 0; locals = args ++ replicate (length flow.slots - length args) (pos 0); to = to }
 
 -- the call of the procedure that was found: the caller waits at its next node, and a new frame stands at node 0
 abbrev pub called : List Frame → Frame → List Cell → ℕ → Option ℕ → List ℤ → ℕ → Option (ℕ × Proc) → Stepped
@@ -160,7 +166,8 @@ received (Some to) value frame = record frame { locals = slice_set frame.locals 
 -- a value is returned to the frame that waits last; where none waits, the run returns
 abbrev pub returned : List Frame → Frame → List Cell → ℤ → Option Frame → Stepped
 returned below frame heap value None = stepped.Returned value heap
-returned below frame heap value (Some caller) = stepped.On (record { stack = below_top below ++ received frame.to value caller ∷ []; heap = heap })
+returned below frame heap value (Some caller) =
+    stepped.On (record { stack = below_top below ++ received frame.to value caller ∷ []; heap = heap })
 
 -- one step of a frame at a command of a line
 abbrev pub step_cmd : Program → List Frame → Frame → List Cell → Choice → ℕ → Cmd → Stepped
@@ -169,17 +176,21 @@ step_cmd program below frame heap choice line (cmd.Arith to op left right next) 
     go_with below frame heap to (arith_value op (operand_value frame.locals left) (operand_value frame.locals right)) next
 step_cmd program below frame heap choice line (cmd.Any to ty next) = any_step below frame heap to ty next choice
 step_cmd program below frame heap choice line (cmd.Load to base kind field next) =
-    at_cell heap (slice_index_or frame.locals base (pos 0)) kind line (λ cell. go_with below frame heap to (slice_index_or cell.fields field (pos 0)) next)
+    at_cell heap (slice_index_or frame.locals base (pos 0)) kind line
+    (λ cell. go_with below frame heap to (slice_index_or cell.fields field (pos 0)) next)
 step_cmd program below frame heap choice line (cmd.Store base kind field from next) =
     let at = slice_index_or frame.locals base (pos 0) in
     at_cell heap at kind line (λ cell. go_to below frame (with_field heap at field (operand_value frame.locals from)) next)
 step_cmd program below frame heap choice line (cmd.New to kind next) = new_step program below frame heap to kind next choice
-step_cmd program below frame heap choice line (cmd.Free base kind next) = free_step below frame heap (slice_index_or frame.locals base (pos 0)) line next
+step_cmd program below frame heap choice line (cmd.Free base kind next) =
+    free_step below frame heap (slice_index_or frame.locals base (pos 0)) line next
 step_cmd program below frame heap choice line (cmd.Call to callee args next) =
     called below frame heap line to (map (operand_value frame.locals) args) next (proc_named_from 0 program.procs callee)
 step_cmd program below frame heap choice line (cmd.Branch op pointers left right on_true on_false) =
-    go_to below frame heap (if test_passes op (operand_value frame.locals left) (operand_value frame.locals right) then on_true else on_false)
-step_cmd program below frame heap choice line (cmd.Return value) = returned below frame heap (operand_value frame.locals value) (top_of below)
+    go_to below frame heap
+    (if test_passes op (operand_value frame.locals left) (operand_value frame.locals right) then on_true else on_false)
+step_cmd program below frame heap choice line (cmd.Return value) =
+    returned below frame heap (operand_value frame.locals value) (top_of below)
 
 -- one step of a frame at a node
 abbrev pub step_at : Program → List Frame → Frame → List Cell → Choice → Proc → Option Node → Stepped
@@ -210,7 +221,8 @@ run_after index go_on stepped.BadChoice = outcome.BadChoice index
 -- the steps of a list of choices, the first of which has a number
 abbrev pub run_from : Program → Config → List Choice → ℕ → Outcome
 run_from program config [] index = outcome.Running config
-run_from program config (choice ∷ choices) index = run_after index (λ next. run_from program next choices (index + 1)) (step program config choice)
+run_from program config (choice ∷ choices) index =
+    run_after index (λ next. run_from program next choices (index + 1)) (step program config choice)
 
 -- a run: one step for each choice, until the list ends or a step gives no configuration
 abbrev pub run : Program → Config → List Choice → Outcome

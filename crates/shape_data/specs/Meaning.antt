@@ -54,7 +54,8 @@ HoldsAtom structs s Junk heap = Unit {0}
 abbrev pub HoldsAtoms : List StructDef → (ℕ → ℤ) → List Atom → List Cell → Type 0
 HoldsAtoms structs s [] heap = heap ≡ []
 HoldsAtoms structs s (atom ∷ atoms) heap =
-    (own : List Cell) × (others : List Cell) × IsSum structs heap own others × HoldsAtom structs s atom own × HoldsAtoms structs s atoms others
+    (own : List Cell) × (others : List Cell) × IsSum structs heap own others × HoldsAtom structs s atom own
+    × HoldsAtoms structs s atoms others
 
 -- a symbolic heap holds of a heap under an assignment to all variables
 pub record Holds (structs : List StructDef) (s : ℕ → ℤ) (heap : List Cell) (symbolic : SymHeap) : Type 0 where

@@ -6,4 +6,5 @@ use Rattle.shape_data.specs.Heap.{struct_named}
 
 -- what is found by a name in the smaller list is found by that name, the same, in the larger
 abbrev pub ContainsStructures : List StructDef → List StructDef → Type 0
-ContainsStructures larger smaller = (name : List ℕ) (def : StructDef) → struct_named smaller name ≡ Some def → struct_named larger name ≡ Some def
+ContainsStructures larger smaller =
+    (name : List ℕ) (def : StructDef) → struct_named smaller name ≡ Some def → struct_named larger name ≡ Some def

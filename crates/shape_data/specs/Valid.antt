@@ -23,7 +23,8 @@ values_from s k (param ∷ params) = s k ∷ values_from s (k + 1) params
 -- result, beside the very same frame
 abbrev pub Satisfies : List StructDef → (ℕ → ℤ) → List Cell → List Post → Outcome → Type 0
 Satisfies structs s frame posts (outcome.Running config) = Unit {0}
-Satisfies structs s frame posts (outcome.Returned value heap) = (footprint : List Cell) × IsSum structs heap footprint frame × MeetsOne structs s value footprint posts
+Satisfies structs s frame posts (outcome.Returned value heap) =
+    (footprint : List Cell) × IsSum structs heap footprint frame × MeetsOne structs s value footprint posts
 Satisfies structs s frame posts (outcome.Fault line cause) = ⊥
 Satisfies structs s frame posts (outcome.BadChoice index) = Unit {0}
 
@@ -31,7 +32,8 @@ Satisfies structs s frame posts (outcome.BadChoice index) = Unit {0}
 -- satisfies the posts
 abbrev pub ValidFor : Program → ℕ → Proc → Spec → Type 0
 ValidFor program number proc spec =
-    (s : ℕ → ℤ) (footprint frame whole : List Cell) → Meets program.structs s footprint spec.pre → IsSum program.structs whole footprint frame →
+    (s : ℕ → ℤ) (footprint frame whole : List Cell) → Meets program.structs s footprint spec.pre →
+    IsSum program.structs whole footprint frame →
     (choices : List Choice) →
     Satisfies program.structs s frame spec.posts (run program (start proc.flow number (values_from s 0 proc.flow.params) whole) choices)
 

@@ -1,5 +1,6 @@
 -- Well-formedness: which programs, configurations, heaps, specs, keys and answers the analyser works on.
-use Rattle.std.specs.Prelude.{◌≡◌, ◌≢◌, ℕ, ◌+◌, ◌<◌, ◌≤◌, nat_lt, Bool, ◌&&◌, ◌||◌, not, List, [], ◌∷◌, length, All, IsTrue, IsSome, slice_get, slice_index_or}
+use Rattle.std.specs.Prelude.{◌≡◌, ◌≢◌, ℕ, ◌+◌, ◌<◌, ◌≤◌, nat_lt, Bool, ◌&&◌, ◌||◌, not, List, [], ◌∷◌, length, All, IsTrue, IsSome}
+use Rattle.std.specs.Prelude.{slice_get, slice_index_or}
 use Rattle.std.specs.List.{AllAdjacentBelow}
 use Rattle.std.specs.Option.{IsSomeAnd, IfSome}
 use Rattle.std.specs.Ordering.{nat_cmp}
@@ -91,7 +92,8 @@ IsCmd structs slots nodes (cmd.Copy to from next) = (to < slots) × IsOperand sl
 IsCmd structs slots nodes (cmd.Arith to op left right next) = (to < slots) × IsOperand slots left × IsOperand slots right × (next < nodes)
 IsCmd structs slots nodes (cmd.Any to ty next) = (to < slots) × (next < nodes) × IsTy ty
 IsCmd structs slots nodes (cmd.Load to base kind field next) = (to < slots) × (base < slots) × IsField structs kind field × (next < nodes)
-IsCmd structs slots nodes (cmd.Store base kind field from next) = (base < slots) × IsField structs kind field × IsOperand slots from × (next < nodes)
+IsCmd structs slots nodes (cmd.Store base kind field from next) =
+    (base < slots) × IsField structs kind field × IsOperand slots from × (next < nodes)
 IsCmd structs slots nodes (cmd.New to kind next) = (to < slots) × IsKind structs kind × (next < nodes)
 IsCmd structs slots nodes (cmd.Free base kind next) = (base < slots) × IsKind structs kind × (next < nodes)
 IsCmd structs slots nodes (cmd.Call to callee args next) =
@@ -126,7 +128,8 @@ pub record IsFlow (structs : List StructDef) (flow : Flow) : Type 0 where
 
 -- what is listed under the name that a command calls has as many parameters as the call has arguments
 abbrev pub FitsCall : {A : Type 0} → (A → List ℕ) → (A → List (List ℕ)) → List A → Cmd → Type 0
-FitsCall name_of params_of listed (cmd.Call to callee args next) = All (λ one. name_of one ≡ callee → length (params_of one) ≡ length args) listed
+FitsCall name_of params_of listed (cmd.Call to callee args next) =
+    All (λ one. name_of one ≡ callee → length (params_of one) ≡ length args) listed
 FitsCall name_of params_of listed _ = Unit {0}
 
 -- each call of what is listed has one argument for each parameter
@@ -144,13 +147,16 @@ pub record IsProgram (program : Program) : Type 0 where
   pub flows : All (λ (proc : Proc). IsFlow program.structs proc.flow) program.procs
   pub lines : All HasLines program.procs
   pub different : HaveDifferentNames (λ (proc : Proc). proc.flow.name) program.procs
-  pub calls : All (λ (proc : Proc). FitCalls (λ (one : Proc). one.flow.name) (λ (one : Proc). one.flow.params) program.procs proc.flow) program.procs
+  pub calls : All
+    (λ (proc : Proc). FitCalls (λ (one : Proc). one.flow.name) (λ (one : Proc). one.flow.params) program.procs proc.flow) program.procs
 
 -- CONFIGURATIONS
 
 -- a frame's procedure and node are there, and it has one local for each slot
 abbrev pub IsFrame : Program → Frame → Type 0
-IsFrame program frame = IsSomeAnd (slice_get program.procs frame.proc) (λ proc. (frame.node < length proc.flow.nodes) × (length frame.locals ≡ length proc.flow.slots))
+IsFrame program frame =
+    IsSomeAnd (slice_get program.procs frame.proc)
+    (λ proc. (frame.node < length proc.flow.nodes) × (length frame.locals ≡ length proc.flow.slots))
 
 -- the slot that a frame's value goes to is one of the frame below it, if there is one
 abbrev pub ReturnsInto : Option Frame → Frame → Type 0
@@ -207,7 +213,8 @@ IsFact limits params (Ne left right) = IsExp limits params left × IsExp limits 
 -- a cell has one expression for each field of its structure, and a segment's link is a field of its structure
 abbrev pub IsAtom : Limits → List StructDef → ℕ → Atom → Type 0
 IsAtom limits structs params (Points at kind fields) =
-    IsExp limits params at × IsSomeAnd (struct_named structs kind) (λ def. length fields ≡ length def.fields) × All (IsExp limits params) fields
+    IsExp limits params at × IsSomeAnd (struct_named structs kind) (λ def. length fields ≡ length def.fields)
+    × All (IsExp limits params) fields
 IsAtom limits structs params (Seg kind link from to) = IsField structs kind link × IsExp limits params from × IsExp limits params to
 IsAtom limits structs params Junk = Unit {0}
 

@@ -17,50 +17,60 @@ use Rattle.shape_data.specs.declared.symbolic.SymState.{SymState}
 use Rattle.shape_data.specs.Heap.{IsHeap, IsSum}
 use Rattle.shape_data.specs.Meaning.{Holds, Meets, MeetsState, MeetsPost}
 use Rattle.shape_data.specs.Structures.{ContainsStructures}
-use Rattle.shape_data.specs.WellFormed.{AreCallees, AreKeyProcs, AreStates, IsAtom, IsCallee, IsCert, IsCmd, IsField, IsFlow, IsKind, IsPost, IsSpec, IsState, IsSummary, IsSymHeap, Limits}
+use Rattle.shape_data.specs.WellFormed.{AreCallees, AreKeyProcs, AreStates, IsAtom, IsCallee, IsCert, IsCmd, IsField, IsFlow, IsKind}
+use Rattle.shape_data.specs.WellFormed.{IsPost, IsSpec, IsState, IsSummary, IsSymHeap, Limits}
 
 -- each list contains itself, and what a list contains is contained in each that contains the list
 abbrev pub ContainsItself : Type 0
 ContainsItself = (structs : List StructDef) → ContainsStructures structs structs
 
 abbrev pub ContainsThrough : Type 0
-ContainsThrough = (large middle small : List StructDef) → ContainsStructures large middle → ContainsStructures middle small → ContainsStructures large small
+ContainsThrough = (large middle small : List StructDef) → ContainsStructures large middle → ContainsStructures middle small →
+    ContainsStructures large small
 
 -- HEAPS
 
 -- a heap over the smaller list is one over the larger
 abbrev pub HeapCarries : Type 0
-HeapCarries = (larger smaller : List StructDef) → ContainsStructures larger smaller → (heap : List Cell) → IsHeap smaller heap → IsHeap larger heap
+HeapCarries = (larger smaller : List StructDef) → ContainsStructures larger smaller → (heap : List Cell) → IsHeap smaller heap →
+    IsHeap larger heap
 
 -- and so is a sum of heaps
 abbrev pub SumCarries : Type 0
 SumCarries =
-    (larger smaller : List StructDef) → ContainsStructures larger smaller → (whole left right : List Cell) → IsSum smaller whole left right → IsSum larger whole left right
+    (larger smaller : List StructDef) → ContainsStructures larger smaller → (whole left right : List Cell) →
+    IsSum smaller whole left right → IsSum larger whole left right
 
 -- a sum over one list whose whole is a heap over another is a sum over that one: its parts have no other cells
 abbrev pub SumOverOwnShapes : Type 0
 SumOverOwnShapes =
-    (structs others : List StructDef) (whole left right : List Cell) → IsHeap others whole → IsSum structs whole left right → IsSum others whole left right
+    (structs others : List StructDef) (whole left right : List Cell) → IsHeap others whole → IsSum structs whole left right →
+    IsSum others whole left right
 
 -- WELL-FORMEDNESS
 
 -- kinds and fields, and so the commands that name them
 abbrev pub KindCarries : Type 0
-KindCarries = (larger smaller : List StructDef) → ContainsStructures larger smaller → (kind : List ℕ) → IsKind smaller kind → IsKind larger kind
+KindCarries = (larger smaller : List StructDef) → ContainsStructures larger smaller → (kind : List ℕ) → IsKind smaller kind →
+    IsKind larger kind
 
 abbrev pub FieldCarries : Type 0
-FieldCarries = (larger smaller : List StructDef) → ContainsStructures larger smaller → (kind : List ℕ) (field : ℕ) → IsField smaller kind field → IsField larger kind field
+FieldCarries = (larger smaller : List StructDef) → ContainsStructures larger smaller → (kind : List ℕ) (field : ℕ) →
+    IsField smaller kind field → IsField larger kind field
 
 abbrev pub CmdCarries : Type 0
-CmdCarries = (larger smaller : List StructDef) → ContainsStructures larger smaller → (slots nodes : ℕ) (cmd : Cmd) → IsCmd smaller slots nodes cmd → IsCmd larger slots nodes cmd
+CmdCarries = (larger smaller : List StructDef) → ContainsStructures larger smaller → (slots nodes : ℕ) (cmd : Cmd) →
+    IsCmd smaller slots nodes cmd → IsCmd larger slots nodes cmd
 
 -- flows
 abbrev pub FlowCarries : Type 0
-FlowCarries = (larger smaller : List StructDef) → ContainsStructures larger smaller → (flow : Flow) → IsFlow smaller flow → IsFlow larger flow
+FlowCarries = (larger smaller : List StructDef) → ContainsStructures larger smaller → (flow : Flow) → IsFlow smaller flow →
+    IsFlow larger flow
 
 -- the procedures of a key
 abbrev pub ProcsCarry : Type 0
-ProcsCarry = (larger smaller : List StructDef) → ContainsStructures larger smaller → (flows : List Flow) → AreKeyProcs smaller flows → AreKeyProcs larger flows
+ProcsCarry = (larger smaller : List StructDef) → ContainsStructures larger smaller → (flows : List Flow) → AreKeyProcs smaller flows →
+    AreKeyProcs larger flows
 
 -- atoms
 abbrev pub AtomCarries : Type 0
@@ -142,7 +152,8 @@ MeetsAlike =
 
 abbrev pub MeetsStateAlike : Type 0
 MeetsStateAlike =
-    (structs others : List StructDef) (s : ℕ → ℤ) (locals : List ℤ) (heap : List Cell) (state : SymState) → IsHeap structs heap → IsHeap others heap →
+    (structs others : List StructDef) (s : ℕ → ℤ) (locals : List ℤ) (heap : List Cell) (state : SymState) → IsHeap structs heap →
+    IsHeap others heap →
     MeetsState structs s locals heap state ↔ MeetsState others s locals heap state
 
 abbrev pub MeetsPostAlike : Type 0
@@ -160,5 +171,6 @@ IsOfKinds structs Junk = ⊥
 -- over the smaller: its cells have the shapes of the smaller list
 abbrev pub HoldsOverOwnKinds : Type 0
 HoldsOverOwnKinds =
-    (larger smaller : List StructDef) → ContainsStructures larger smaller → (s : ℕ → ℤ) (heap : List Cell) (shape : SymHeap) → All (IsOfKinds smaller) shape.spatial →
+    (larger smaller : List StructDef) → ContainsStructures larger smaller → (s : ℕ → ℤ) (heap : List Cell) (shape : SymHeap) →
+    All (IsOfKinds smaller) shape.spatial →
     Holds larger s heap shape → Holds smaller s heap shape

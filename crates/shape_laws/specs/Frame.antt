@@ -70,4 +70,5 @@ ValidAlone program number proc spec =
 
 -- the frame rule: a spec that is right with no frame is right beside every frame
 abbrev pub FrameRule : Type 0
-FrameRule = (program : Program) (number : ℕ) (proc : Proc) (spec : Spec) → ValidAlone program number proc spec → ValidFor program number proc spec
+FrameRule = (program : Program) (number : ℕ) (proc : Proc) (spec : Spec) → ValidAlone program number proc spec →
+    ValidFor program number proc spec

@@ -54,7 +54,8 @@ IsNeverValid flow pre = (posts : List Post) → Valid (file_of flow) 0 (record {
 
 -- a cell that links to itself meets the segment from its address to its address
 abbrev pub CycleMeets : Type 0
-CycleMeets = (s : ℕ → ℤ) (number : ℤ) → s 0 ≡ pos 1 → Meets (node_struct ∷ []) s (node_cell (pos 1) number (pos 1) ∷ []) (list_between (Var 0) (Var 0))
+CycleMeets = (s : ℕ → ℤ) (number : ℤ) → s 0 ≡ pos 1 →
+    Meets (node_struct ∷ []) s (node_cell (pos 1) number (pos 1) ∷ []) (list_between (Var 0) (Var 0))
 
 -- the empty heap does not meet a segment between different constants
 abbrev pub NoEmptySegment : Type 0

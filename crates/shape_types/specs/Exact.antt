@@ -62,7 +62,8 @@ option_same same (Some x) None = (λ e. cc, λ e. cc)
 option_same same (Some x) (Some y) = let here = same x y in (λ e. ap (λ v. Some v) (here.0 e), λ e. here.1 cc)
 
 -- Q is what `Option`'s clone says: of two values it says R, and it holds of no value beside `None`
-pub option_copied : {A : Type 0} {R : A → A → Type 0} (Q : Option A → Option A → Type 0) → ((x y : A) → Q (Some x) (Some y) → R x y) → ((y : A) → ¬ Q None (Some y)) → ((x : A) → ¬ Q (Some x) None) → IsExactCopy R → IsExactCopy Q
+pub option_copied : {A : Type 0} {R : A → A → Type 0} (Q : Option A → Option A → Type 0) → ((x y : A) → Q (Some x) (Some y) → R x y)
+    → ((y : A) → ¬ Q None (Some y)) → ((x : A) → ¬ Q (Some x) None) → IsExactCopy R → IsExactCopy Q
 option_copied Q both right left copied None None h = refl
 option_copied Q both right left copied None (Some y) h = absurd (right y h)
 option_copied Q both right left copied (Some x) None h = absurd (left x h)
@@ -70,7 +71,8 @@ option_copied Q both right left copied (Some x) (Some y) h = ap (λ v. Some v) (
 
 -- ---- fields
 
-pub and_same : {A B : Type 0} {E : A → A → Bool} {F : B → B → Bool} → IsExactTest E → IsExactTest F → IsExactTest {A = A × B} (λ x y. E x.0 y.0 && F x.1 y.1)
+pub and_same : {A B : Type 0} {E : A → A → Bool} {F : B → B → Bool} → IsExactTest E → IsExactTest F
+    → IsExactTest {A = A × B} (λ x y. E x.0 y.0 && F x.1 y.1)
 and_same first others x y =
     Decides-like _ (λ p. λ i. (p.0 i, p.1 i)) (λ e. (ap (λ v. v.0) e, ap (λ v. v.1) e)) (Decides-and _ _ (first x.0 y.0) (others x.1 y.1))
 
@@ -80,7 +82,8 @@ last_same last x y = Decides-like _ (λ p. λ i. (p i, tt)) (λ e. ap (λ v. v.0
 pub no_field_same : IsExactTest {A = Unit {0}} (λ x y. true)
 no_field_same x y = (λ _. refl, λ _. refl)
 
-pub and_copied : {A B : Type 0} {R : A → A → Type 0} {S : B → B → Type 0} → IsExactCopy R → IsExactCopy S → IsExactCopy {A = A × B} (λ x y. R x.0 y.0 × S x.1 y.1)
+pub and_copied : {A B : Type 0} {R : A → A → Type 0} {S : B → B → Type 0} → IsExactCopy R → IsExactCopy S
+    → IsExactCopy {A = A × B} (λ x y. R x.0 y.0 × S x.1 y.1)
 and_copied first others x y h = let p = first x.0 y.0 h.0 in let q = others x.1 y.1 h.1 in λ i. (p i, q i)
 
 pub last_copied : {A : Type 0} {R : A → A → Type 0} → IsExactCopy R → IsExactCopy {A = A × Unit {0}} (λ x y. R x.0 y.0)
@@ -89,11 +92,14 @@ last_copied last x y h = let p = last x.0 y.0 h in λ i. (p i, tt)
 -- ---- structs
 
 -- a struct whose fields are compared exactly
-pub struct_same : (N : Struct) → Propositions N → {E : Values N.parts → Values N.parts → Bool} → IsExactTest E → IsExactTest {A = N.D} (λ x y. E (N.as_values x) (N.as_values y))
-struct_same N no_more fields x y = Decides-like _ (values_one N no_more x y) (λ e. ap N.as_values e) (fields (N.as_values x) (N.as_values y))
+pub struct_same : (N : Struct) → Propositions N → {E : Values N.parts → Values N.parts → Bool} → IsExactTest E
+    → IsExactTest {A = N.D} (λ x y. E (N.as_values x) (N.as_values y))
+struct_same N no_more fields x y =
+    Decides-like _ (values_one N no_more x y) (λ e. ap N.as_values e) (fields (N.as_values x) (N.as_values y))
 
 -- a struct whose fields are copied exactly
-pub struct_copied : (N : Struct) → Propositions N → {R : Values N.parts → Values N.parts → Type 0} → IsExactCopy R → IsExactCopy {A = N.D} (λ x y. R (N.as_values x) (N.as_values y))
+pub struct_copied : (N : Struct) → Propositions N → {R : Values N.parts → Values N.parts → Type 0} → IsExactCopy R
+    → IsExactCopy {A = N.D} (λ x y. R (N.as_values x) (N.as_values y))
 struct_copied N no_more fields x y h = values_one N no_more y x (fields (N.as_values x) (N.as_values y) h)
 
 -- ---- enums
@@ -111,7 +117,8 @@ pub record ExactTests (Fss : List (List Field)) : Type 0 where
 abbrev pub no_variant : ExactTests []
 no_variant = record { each = tt; all = tt }
 
-abbrev pub variant : {Fs : List Field} {Fss : List (List Field)} {E : Values Fs → Values Fs → Bool} → IsExactTest E → ExactTests Fss → ExactTests (Fs ∷ Fss)
+abbrev pub variant : {Fs : List Field} {Fss : List (List Field)} {E : Values Fs → Values Fs → Bool} → IsExactTest E → ExactTests Fss
+    → ExactTests (Fs ∷ Fss)
 variant {E = E} first others = record { each = (E, others.each); all = (first, others.all) }
 
 choice_same : (Fss : List (List Field)) (each : Each Bool Fss) → AllExact Fss each → IsExactTest (by false false Fss each)
@@ -122,6 +129,8 @@ choice_same (Fs ∷ Fss) each all (inr c) (inl y) = (λ e. cc, λ e. cc)
 choice_same (Fs ∷ Fss) each all (inr c) (inr d) = let later = choice_same Fss each.1 all.1 c d in (λ e. ap inr (later.0 e), λ e. later.1 cc)
 
 -- an enum each of whose variants is compared exactly
-pub enum_same : (N : Enum) (tests : ExactTests N.parts) → IsExactTest {A = N.D} (λ x y. by false false N.parts tests.each (N.as_values x) (N.as_values y))
+pub enum_same : (N : Enum) (tests : ExactTests N.parts)
+    → IsExactTest {A = N.D} (λ x y. by false false N.parts tests.each (N.as_values x) (N.as_values y))
 enum_same N tests x y =
-    Decides-like _ (λ e. sym (N.eta x) ∙ ap N.make e ∙ N.eta y) (λ e. ap N.as_values e) (choice_same N.parts tests.each tests.all (N.as_values x) (N.as_values y))
+    Decides-like _ (λ e. sym (N.eta x) ∙ ap N.make e ∙ N.eta y) (λ e. ap N.as_values e)
+    (choice_same N.parts tests.each tests.all (N.as_values x) (N.as_values y))

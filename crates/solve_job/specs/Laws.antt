@@ -6,4 +6,5 @@ use Rattle.solve_job.specs.Solves.{Solves}
 
 -- an entry whose answer is right for its key, and agrees with the loaded entries, has the answer that is looked up
 abbrev pub AgreedAreLookedUp : Type 0
-AgreedAreLookedUp = (loaded : List Solution) (one : Solution) → Solves one.key one.answer → Agrees loaded one → one.answer ≡ lookup loaded one.key
+AgreedAreLookedUp = (loaded : List Solution) (one : Solution) → Solves one.key one.answer → Agrees loaded one
+    → one.answer ≡ lookup loaded one.key

@@ -51,14 +51,17 @@ SpecsFitKeys = (key : Key) → SpecsFitKey key
 
 -- with such specs for its own procedures, the analysis of each procedure of a well-formed key is well formed
 abbrev pub TasksAreWellFormed : Type 0
-TasksAreWellFormed = (key : Key) (specs : List (List Spec)) (cut : Bool) → IsKey analysable key → FitKey key specs → AreTasks key (table_with key specs cut)
+TasksAreWellFormed = (key : Key) (specs : List (List Spec)) (cut : Bool) → IsKey analysable key → FitKey key specs
+    → AreTasks key (table_with key specs cut)
 
 -- and so is what stands of each
 abbrev pub StandingIsWellFormed : Type 0
 StandingIsWellFormed =
-    (key : Key) (specs : List (List Spec)) (cut : Bool) → IsKey analysable key → FitKey key specs → AreFormed key (attempts_under key (table_with key specs cut))
+    (key : Key) (specs : List (List Spec)) (cut : Bool) → IsKey analysable key → FitKey key specs
+    → AreFormed key (attempts_under key (table_with key specs cut))
 
 -- what stands when it is annotated strictly, or when some of it is dropped, is well formed
 abbrev pub StandingStaysWellFormed : Type 0
 StandingStaysWellFormed =
-    (key : Key) (attempts : List Attempt) → IsKey analysable key → AreFormed key attempts → AreFormed key (strictly key attempts) × AreFormed key (pass key attempts)
+    (key : Key) (attempts : List Attempt) → IsKey analysable key → AreFormed key attempts
+    → AreFormed key (strictly key attempts) × AreFormed key (pass key attempts)

@@ -67,7 +67,8 @@ DoesBeside program At Ends number at locals frame whole command =
 
 -- the same where frames wait, the last of which is the caller of the procedure: each step is one that lands beside the frame, on top of
 -- them; and each run of a callee is one that returns beside the frame, on top of them and of the procedure's own frame
-abbrev pub DoesOnTop : Program → NodeAssertion → ResultAssertion → ℕ → ℕ → List ℤ → List Cell → List Cell → List Frame → Frame → Option ℕ → Cmd → Type 0
+abbrev pub DoesOnTop : Program → NodeAssertion → ResultAssertion → ℕ → ℕ → List ℤ → List Cell → List Cell → List Frame → Frame → Option ℕ →
+    Cmd → Type 0
 DoesOnTop program At Ends number at locals frame whole below caller back (cmd.Call to name args next) =
     (other : ℕ) × (proc : Proc) × Finds program name other proc ×
     ((choices : List Choice) (index : ℕ) → (result : Outcome) × ReturnsBeside program.structs (At next) locals to frame result ×
@@ -100,4 +101,5 @@ DoesOnAnyStack =
     (state : SymState) (nexts : List (ℕ × SymState)) (exits : List Post) → RowIsSound program callees state node.cmd nexts exits →
     (s : ℕ → ℤ) (locals : List ℤ) (own : List Cell) → MeetsState program.structs s locals own state →
     (frame whole : List Cell) → IsSum program.structs whole own frame → (below : List Frame) (caller : Frame) (back : Option ℕ) →
-    DoesOnTop program (NextIsMet program.structs s nexts) (PostIsMet program.structs s exits) number at locals frame whole below caller back node.cmd
+    DoesOnTop program (NextIsMet program.structs s nexts)
+    (PostIsMet program.structs s exits) number at locals frame whole below caller back node.cmd

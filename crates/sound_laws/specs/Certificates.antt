@@ -1,6 +1,7 @@
 -- When a certificate is inductive, said by what meets its states alone: nothing is said of how states are executed, abstracted or
 -- compared. And what inductive certificates show of the specs for which they are claimed.
-use Rattle.std.specs.Prelude.{◌≡◌, ◌⊎◌, ℕ, ◌+◌, ◌-◌, ◌<◌, pos, List, [], ◌∷◌, ◌++◌, length, replicate, slice_get, slice_index_or, All, Contains}
+use Rattle.std.specs.Prelude.{◌≡◌, ◌⊎◌, ℕ, ◌+◌, ◌-◌, ◌<◌, pos, List, [], ◌∷◌, ◌++◌, length, replicate, slice_get, slice_index_or, All}
+use Rattle.std.specs.Prelude.{Contains}
 use Rattle.std.specs.declared.option.Option.TheVariants.{Some}
 use Rattle.shape_data.specs.declared.answer.Callee.{Callee}
 use Rattle.shape_data.specs.declared.program.Cmd.{Cmd}

@@ -106,6 +106,7 @@ CasesDo =
 -- a row stays sound with other successors and exits that are met wherever its own are
 abbrev pub RowMayWeaken : Type 0
 RowMayWeaken =
-    (program : Program) (callees : List Callee) (state : SymState) (command : Cmd) (nexts others : List (ℕ × SymState)) (exits posts : List Post) →
+    (program : Program) (callees : List Callee) (state : SymState) (command : Cmd) (nexts others : List (ℕ × SymState))
+    (exits posts : List Post) →
     RowIsSound program callees state command nexts exits → NextsLead program.structs nexts others → PostsLead program.structs exits posts →
     RowIsSound program callees state command others posts

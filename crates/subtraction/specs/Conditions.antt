@@ -23,8 +23,10 @@ pub record IsPostWithinSizes (post : Post) : Type 0 where
 -- each well-formed state of a procedure is within the sizes
 abbrev pub WellFormedStateIsWithinSizes : Type 0
 WellFormedStateIsWithinSizes =
-    (structs : List StructDef) (params slots : ℕ) (state : SymState) → AreStructs structs → slots ≤ 32768 → IsState widest structs params slots state → IsStateWithinSizes state
+    (structs : List StructDef) (params slots : ℕ) (state : SymState) → AreStructs structs → slots ≤ 32768
+    → IsState widest structs params slots state → IsStateWithinSizes state
 
 -- each well-formed post is within the sizes
 abbrev pub WellFormedPostIsWithinSizes : Type 0
-WellFormedPostIsWithinSizes = (structs : List StructDef) (params : ℕ) (post : Post) → AreStructs structs → IsPost widest structs params post → IsPostWithinSizes post
+WellFormedPostIsWithinSizes = (structs : List StructDef) (params : ℕ) (post : Post) → AreStructs structs → IsPost widest structs params post
+    → IsPostWithinSizes post

@@ -21,7 +21,8 @@ use Rattle.summary_book.specs.declared.rows.SlotRow.{SlotRow}
 use Rattle.summary_book.specs.Rows.{AreParts, AreSlots, AreMarks, AreOut}
 
 -- the rows are those of the world
-pub record AreRows (world : World) (log : List Told) (parts : Parts) (slots : List (Option SlotRow)) (marks : List Bool) (out : List OutRow) (revision made : ℕ) : Type 0 where
+pub record AreRows (world : World) (log : List Told) (parts : Parts) (slots : List (Option SlotRow)) (marks : List Bool) (out : List OutRow)
+    (revision made : ℕ) : Type 0 where
   pub program_is : parts.program.value ≡ world.program
   pub parts_are : AreParts parts
   pub slots_are : AreSlots log world.slots world.program slots
@@ -31,7 +32,8 @@ pub record AreRows (world : World) (log : List Told) (parts : Parts) (slots : Li
   pub made_is : made ≡ world.made
 
 -- the log is legal and its programs are well formed, the rows are the world's, and there is room for the end of each outstanding claim
-pub record IsBook (solves : Key → Answer → Type 0) (log : Vec Told) (parts : Parts) (slots : Vec (Option SlotRow)) (marks : Vec Bool) (out : Vec OutRow) (revision made : ℕ) : Type 0 where
+pub record IsBook (solves : Key → Answer → Type 0) (log : Vec Told) (parts : Parts) (slots : Vec (Option SlotRow)) (marks : Vec Bool)
+    (out : Vec OutRow) (revision made : ℕ) : Type 0 where
   pub legal : IsLegal solves (events_of log.items)
   pub formed : All IsFormedEvent (events_of log.items)
   pub rows_are : AreRows (replay (events_of log.items)) log.items parts slots.items marks.items out.items revision made

@@ -5,4 +5,5 @@ use Rattle.summary_book.specs.declared.rows.OutRow.{OutRow}
 
 -- where one has the number, one with the number stands at the place
 abbrev pub IsPlaceOf : ℕ → List OutRow → ℕ → Type 0
-IsPlaceOf number rows place = (k : ℕ) (row : OutRow) → slice_get rows k ≡ Some row → row.number ≡ number → (found : OutRow) × (slice_get rows place ≡ Some found) × (found.number ≡ number)
+IsPlaceOf number rows place = (k : ℕ) (row : OutRow) → slice_get rows k ≡ Some row → row.number ≡ number
+    → (found : OutRow) × (slice_get rows place ≡ Some found) × (found.number ≡ number)

@@ -27,7 +27,8 @@ with_slot_at slots None row = slots
 with_slot_at slots (Some here) row = slice_set slots here (Some row)
 
 abbrev pub with_slot : List (Option SlotRow) → OutRow → ℕ → List (Option SlotRow)
-with_slot slots row place = with_slot_at slots row.here (record { claim = row.number; claimed = row.claimed; published = place; fits = row.fits })
+with_slot slots row place =
+    with_slot_at slots row.here (record { claim = row.number; claimed = row.claimed; published = place; fits = row.fits })
 
 -- what becomes of an answer to the claim of a number, by the row of its component's slot
 abbrev pub outcome_by_row : Option SlotRow → ℕ → Published

@@ -30,7 +30,8 @@ pub record IsOutBy (world : World) (component number : ℕ) : Type 0 where
   pub out : IsOut world component
   pub number_is : out.claim.number ≡ number
 
--- some component that the aim reaches is unsettled, each such is out or stands above one that is, and the claim is the least by which one is out
+-- some component that the aim reaches is unsettled, each such is out or stands above one that is, and the claim is the least by which one
+-- is out
 pub record IsWaiting (world : World) (aim : ℕ → Bool) (number : ℕ) : Type 0 where
   pub component : ℕ
   pub reached : aim component ≡ true
@@ -43,7 +44,8 @@ abbrev pub IsSettled : World → (ℕ → Bool) → Type 0
 IsSettled world aim = (component : ℕ) → aim component ≡ true → IsUnsettled world component → ⊥
 
 abbrev pub IsNext : World → (ℕ → Bool) → Next → Type 0
-IsNext world aim (Yours claim) = (claim.number ≡ world.made + 1) × (claim.revision ≡ world.revision) × IsFirstFree world aim claim.component claim.key
+IsNext world aim (Yours claim) =
+    (claim.number ≡ world.made + 1) × (claim.revision ≡ world.revision) × IsFirstFree world aim claim.component claim.key
 IsNext world aim (Waits claim) = IsWaiting world aim claim
 IsNext world aim All = IsSettled world aim
 

@@ -64,7 +64,8 @@ pub record IsSlotAt (log : List Told) (slots : List Slot) (program : Program) (p
   pub answer : Answer
   pub key_is : key_at log row.claimed ≡ Some key
   pub answer_is : answer_at log row.published ≡ Some answer
-  pub slot : slot_of slots (names_of part.flows) ≡ Some (record { members = names_of part.flows; claim = row.claim; key = key; answer = answer })
+  pub slot : slot_of slots (names_of part.flows)
+    ≡ Some (record { members = names_of part.flows; claim = row.claim; key = key; answer = answer })
   pub fits : row.fits ≡ is_fit program (Some part) key
 
 -- the slot of a component, by its row
@@ -74,7 +75,8 @@ IsSlot log slots program part (Some row) = IsSlotAt log slots program part row
 
 pub record AreSlots (log : List Told) (slots : List Slot) (program : Program) (rows : List (Option SlotRow)) : Type 0 where
   pub lengths : length rows ≡ length (program_components program)
-  pub each : (place : ℕ) (part : Component) → slice_get (program_components program) place ≡ Some part → IsSlot log slots program part (slice_index_or rows place None)
+  pub each : (place : ℕ) (part : Component) → slice_get (program_components program) place ≡ Some part
+    → IsSlot log slots program part (slice_index_or rows place None)
 
 -- ---- marks
 
@@ -108,7 +110,8 @@ row_answer log (Some row) = answer_at log row.published
 
 -- a procedure outside, with what its component's slot has
 abbrev pub known_row : Program → List Told → List (Option SlotRow) → OuterRow → Option Callee
-known_row program log slots outer = known_by (slice_get (flows_of program) outer.number) (row_answer log (slice_index_or slots outer.component None))
+known_row program log slots outer =
+    known_by (slice_get (flows_of program) outer.number) (row_answer log (slice_index_or slots outer.component None))
 
 -- the parts are those of the present program, and the slots are the world's
 pub record IsSight (log : List Told) (parts : Parts) (slots : List (Option SlotRow)) : Type 0 where

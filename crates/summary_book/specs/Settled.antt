@@ -29,7 +29,8 @@ pub record IsMarkedAnew (marks later : List Bool) (component : ℕ) : Type 0 whe
 -- of the components that it calls, those that are settled are marked
 abbrev pub IsExactAt : World → List Bool → ℕ → Type 0
 IsExactAt world marks place =
-    (part : Component) (k : ℕ) (outer : Outer) → slice_get (program_components world.program) place ≡ Some part → slice_get part.outer k ≡ Some outer →
+    (part : Component) (k : ℕ) (outer : Outer) → slice_get (program_components world.program) place ≡ Some part →
+    slice_get part.outer k ≡ Some outer →
     is_some (settled_at world outer.component) ≡ true → marked marks outer.component ≡ true
 
 -- the marks of the components before a place tell exactly which are settled

@@ -50,7 +50,8 @@ CanonPairKeepsMeaning = (missing : SymHeap) (state : SymState) (params : ℕ) �
 
 -- as many turns of placing as there are atoms are enough: more change nothing
 abbrev pub MoreTurnsChangeNothing : Type 0
-MoreTurnsChangeNothing = (more : ℕ) (queue : List Exp) (left : List Atom) → place (length left + more) queue left ≡ place (length left) queue left
+MoreTurnsChangeNothing = (more : ℕ) (queue : List Exp) (left : List Atom) →
+    place (length left + more) queue left ≡ place (length left) queue left
 
 -- no fact comes before one that stands in front of it
 abbrev pub are_in_order : List Fact → Bool

@@ -1,5 +1,6 @@
 -- The order of the atoms: as a search from the parameters and the locals comes to them, breadth first.
-use Rattle.std.specs.Prelude.{ℕ, zero, suc, ◌+◌, pos, Bool, true, false, not, List, [], ◌∷◌, ◌++◌, length, filter, drop, position, slice_index_or}
+use Rattle.std.specs.Prelude.{ℕ, zero, suc, ◌+◌, pos, Bool, true, false, not, List, [], ◌∷◌, ◌++◌, length, filter, drop, position}
+use Rattle.std.specs.Prelude.{slice_index_or}
 use Rattle.std.specs.List.{list_any}
 use Rattle.std.specs.declared.option.Option.{Option}
 use Rattle.std.specs.declared.option.Option.TheVariants.{None, Some}
@@ -56,7 +57,8 @@ places_some left e = list_any (is_placed left e) left
 -- what an expression places, in list order; where these lead joins the queue behind what is still in it
 abbrev pub place_by : (List Exp → List Atom → List Atom) → List Exp → List Atom → Exp → List Atom
 place_by again queue left e =
-    filter (is_placed left e) left ++ again (queue ++ all_lead_to (filter (is_placed left e) left)) (filter (λ atom. not (is_placed left e atom)) left)
+    filter (is_placed left e) left
+    ++ again (queue ++ all_lead_to (filter (is_placed left e) left)) (filter (λ atom. not (is_placed left e atom)) left)
 
 -- the first atom that is left; its source, fields or end make up the queue
 abbrev pub place_first : (List Exp → List Atom → List Atom) → List Atom → List Atom
@@ -81,4 +83,5 @@ params_from first (suc count) = Var first ∷ params_from (first + 1) count
 
 -- the atoms in their order, from the parameters and then the locals on, with Junk last
 abbrev pub placed : ℕ → List Exp → List Atom → List Atom
-placed params locals atoms = place (length (filter is_other atoms)) (params_from 0 params ++ locals) (filter is_other atoms) ++ filter is_junk atoms
+placed params locals atoms = place (length (filter is_other atoms)) (params_from 0 params ++ locals) (filter is_other atoms)
+    ++ filter is_junk atoms

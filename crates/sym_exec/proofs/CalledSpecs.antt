@@ -39,10 +39,10 @@ use Rattle.sym_exec.specs.declared.calls.Fit.{Fit}
 use Rattle.exec_laws.specs.Values.{operand}
 use Rattle.sym_matching.specs.Covers.{above}
 use Rattle.sym_exec.specs.Callers.{IsCaller, IsGiven, IsRoomy, fit_in}
-use Rattle.sym_exec.specs.InSetting.{IsGood}
-use Rattle.sym_exec.specs.Sizes.{IsLowPair}
+use Rattle.exec_cells.specs.InSetting.{IsGood}
+use Rattle.exec_cells.specs.Sizes.{IsLowPair}
 use Rattle.sym_exec.proofs.GivenPairs.{given_is_few, given_is_low, given_is_within, operands_are_exps}
-use Rattle.sym_exec.proofs.LowVariables.{low_variables}
+use Rattle.exec_cells.proofs.LowVariables.{low_variables}
 
 -- ---- sizes
 

@@ -24,8 +24,8 @@ use Rattle.exec_laws.specs.Pairs.{Setting, pair_variables}
 use Rattle.exec_laws.specs.Rooms.{IsPairWithin}
 use Rattle.exec_laws.specs.Values.{operand}
 use Rattle.sym_exec.specs.Callers.{IsGiven}
-use Rattle.sym_exec.specs.InSetting.{IsGood}
-use Rattle.sym_exec.specs.Sizes.{IsLow, IsLowPair}
+use Rattle.exec_cells.specs.InSetting.{IsGood}
+use Rattle.exec_cells.specs.Sizes.{IsLow, IsLowPair}
 
 low-exp : (params : ℕ) (e : Exp) → IsExp widest params e → IsLow e
 low-exp params (Var x) is = is

@@ -1,7 +1,4 @@
 pub mod CalledSpecs
 pub mod Collected
-pub mod ExposeTurns
+pub mod FoundCallees
 pub mod GivenPairs
-pub mod Listed
-pub mod LowForms
-pub mod LowVariables

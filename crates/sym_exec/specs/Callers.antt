@@ -9,7 +9,7 @@ use Rattle.exec_laws.specs.Calling as calling
 use Rattle.exec_laws.specs.Pairs.{Setting, new_logical, pair_variables}
 use Rattle.sym_exec.specs.declared.calls.Caller.{Caller}
 use Rattle.sym_exec.specs.declared.calls.Fit.{Fit}
-use Rattle.sym_exec.specs.InSetting.{IsGood}
+use Rattle.exec_cells.specs.InSetting.{IsGood}
 
 -- a pair that is executed: a well-formed state, and a well-formed missing heap
 pub record IsGiven (setting : Setting) (pair : Pair) : Type 0 where

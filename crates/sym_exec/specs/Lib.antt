@@ -1,5 +1,1 @@
-pub mod Accesses
 pub mod Callers
-pub mod InSetting
-pub mod Sizes
-pub mod Turns

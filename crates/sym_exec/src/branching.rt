@@ -11,12 +11,12 @@ ghost use Rattle.exec_laws.specs.Branching.{
   passes as passes_of,
   where_test_is as where_test_is_of,
 };
-ghost use Rattle.sym_exec.specs.InSetting.{setting_in};
+ghost use Rattle.exec_cells.specs.InSetting.{setting_in};
 
-use crate::cells::goes_on;
-use crate::pairs::{where_true, where_true_in_state};
-use crate::setting::Setting;
-use crate::values::{on_alone, operand};
+use exec_cells::cells::goes_on;
+use exec_cells::pairs::{where_true, where_true_in_state};
+use exec_cells::setting::Setting;
+use exec_cells::values::{on_alone, operand};
 use exec_laws::Case;
 use shape_data::copy_of;
 use shape_data::program::{Operand, TestOp};

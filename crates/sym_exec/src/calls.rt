@@ -28,12 +28,12 @@ ghost use Rattle.exec_laws.specs.Calling.{
 ghost use Rattle.exec_laws.specs.Laws.{FitsTable, IsTable};
 ghost use Rattle.exec_laws.specs.Values.{operand as operand_of};
 ghost use Rattle.sym_exec.specs.Callers.{IsCaller, IsGiven, IsRoomy, fit_in};
-ghost use Rattle.sym_exec.specs.InSetting.{IsGood, setting_in};
+ghost use Rattle.exec_cells.specs.InSetting.{IsGood, setting_in};
 
-use crate::pairs::{above_logical, pair_variables};
-use crate::setting::Setting;
-use crate::values::{one_case, operand};
 use abduction::biabduce_avoiding;
+use exec_cells::pairs::{above_logical, pair_variables};
+use exec_cells::setting::Setting;
+use exec_cells::values::{one_case, operand};
 use exec_laws::laws::fits_are_within;
 use exec_laws::{Case, Mode, Table};
 use matching_steps::missing::contradicts;

@@ -22,15 +22,15 @@ ghost use Rattle.exec_laws.specs.Execution.{
 ghost use Rattle.exec_laws.specs.declared.parts.Step.TheVariants as step;
 ghost use Rattle.exec_laws.specs.Laws.{FitsTable, IsTable, callees_of};
 ghost use Rattle.sym_exec.specs.Callers.{IsGiven};
-ghost use Rattle.sym_exec.specs.InSetting.{IsGood, setting_in};
-ghost use Rattle.sym_exec.specs.Sizes.{IsLowPair};
+ghost use Rattle.exec_cells.specs.InSetting.{IsGood, setting_in};
+ghost use Rattle.exec_cells.specs.Sizes.{IsLowPair};
 
 use crate::branching::{Sides, branch};
 use crate::calls::call;
-use crate::cells::{free, load, new, store};
-use crate::pairs::{canonical, formed};
-use crate::setting::Setting;
-use crate::values::{any, arith, copy, leave};
+use exec_cells::cells::{free, load, new, store};
+use exec_cells::pairs::{canonical, formed};
+use exec_cells::setting::Setting;
+use exec_cells::values::{any, arith, copy, leave};
 use exec_laws::{Case, Mode, Step, Table};
 use matching_steps::steps::exp_at;
 use shape_data::answer::Fault;

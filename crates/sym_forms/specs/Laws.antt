@@ -22,7 +22,8 @@ CanonPostIsNormal = (post : Post) (params : ℕ) → is_normal (as_state post) �
 -- the parts of a pair's normal form are normal
 abbrev pub PairFormIsNormal : Type 0
 PairFormIsNormal =
-    (params : ℕ) (pair form : Pair) → pair_form params pair ≡ Some form → (is_normal (without_locals form.missing) ≡ true) × (is_normal form.state ≡ true)
+    (params : ℕ) (pair form : Pair) → pair_form params pair ≡ Some form →
+    (is_normal (without_locals form.missing) ≡ true) × (is_normal form.state ≡ true)
 
 -- numbering a pair's logical variables leaves the missing heap of its normal form normal. (Not so the state: an equation
 -- between two of these variables may then be solved for the smaller one. It is brought to its normal form again before it

@@ -8,12 +8,14 @@ use Rattle.shape_data.specs.Heap.{cell_at, put, without, with_field, HasShape, I
 -- a new cell beside a heap makes the heap with the cell put in
 abbrev pub PutIsSum : Type 0
 PutIsSum =
-    (structs : List StructDef) (cell : Cell) (heap : List Cell) → pos 0 <ℤ cell.at → HasShape structs cell → cell_at heap cell.at ≡ None → IsHeap structs heap →
+    (structs : List StructDef) (cell : Cell) (heap : List Cell) → pos 0 <ℤ cell.at → HasShape structs cell → cell_at heap cell.at ≡ None →
+    IsHeap structs heap →
     IsSum structs (put cell heap) (cell ∷ []) heap
 
 -- a heap of a cell and others, without the cell, is the others
 abbrev pub WithoutIsRest : Type 0
-WithoutIsRest = (structs : List StructDef) (cell : Cell) (whole rest : List Cell) → IsSum structs whole (cell ∷ []) rest → without cell.at whole ≡ rest
+WithoutIsRest = (structs : List StructDef) (cell : Cell) (whole rest : List Cell) → IsSum structs whole (cell ∷ []) rest →
+    without cell.at whole ≡ rest
 
 -- a number written into a field of a cell is written into the heap of the cell and others
 abbrev pub WrittenIsSum : Type 0

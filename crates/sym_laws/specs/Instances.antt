@@ -34,7 +34,8 @@ InstanceMeets =
 
 abbrev pub InstanceStateMeets : Type 0
 InstanceStateMeets =
-    (image : ℕ → Exp) → KeepsLogical image → (structs : List StructDef) (s : ℕ → ℤ) (locals : List ℤ) (heap : List Cell) (state : SymState) →
+    (image : ℕ → Exp) → KeepsLogical image →
+    (structs : List StructDef) (s : ℕ → ℤ) (locals : List ℤ) (heap : List Cell) (state : SymState) →
     MeetsState structs s locals heap (on_state (with_images image) state) → MeetsState structs s locals heap state
 
 abbrev pub InstancePostMeets : Type 0
@@ -48,9 +49,11 @@ InstancePostMeets =
 abbrev pub ForgottenStateMeets : Type 0
 ForgottenStateMeets =
     (x : ℕ) (e : Exp) → 65536 ≤ x → (first forgetting : SymState) → on_state (with_images (in_place_of x e)) forgetting ≡ first →
-    (structs : List StructDef) (s : ℕ → ℤ) (locals : List ℤ) (heap : List Cell) → MeetsState structs s locals heap first → MeetsState structs s locals heap forgetting
+    (structs : List StructDef) (s : ℕ → ℤ) (locals : List ℤ) (heap : List Cell) → MeetsState structs s locals heap first →
+    MeetsState structs s locals heap forgetting
 
 abbrev pub ForgottenPostMeets : Type 0
 ForgottenPostMeets =
     (x : ℕ) (e : Exp) → 65536 ≤ x → (first forgetting : Post) → on_post (with_images (in_place_of x e)) forgetting ≡ first →
-    (structs : List StructDef) (s : ℕ → ℤ) (ret : ℤ) (heap : List Cell) → MeetsPost structs s ret heap first → MeetsPost structs s ret heap forgetting
+    (structs : List StructDef) (s : ℕ → ℤ) (ret : ℤ) (heap : List Cell) → MeetsPost structs s ret heap first →
+    MeetsPost structs s ret heap forgetting

@@ -21,13 +21,15 @@ is_other atom = not (is_junk atom)
 -- beside Junk any more memory may stand
 abbrev pub JunkAbsorbs : Type 0
 JunkAbsorbs =
-    (structs : List StructDef) (t : ℕ → ℤ) (atoms : List Atom) (whole own rest : List Cell) → IsSum structs whole own rest → HoldsAtoms structs t (Junk ∷ atoms) rest →
+    (structs : List StructDef) (t : ℕ → ℤ) (atoms : List Atom) (whole own rest : List Cell) → IsSum structs whole own rest →
+    HoldsAtoms structs t (Junk ∷ atoms) rest →
     HoldsAtoms structs t (Junk ∷ atoms) whole
 
 -- beside Junk the atoms that fail a test may be forgotten
 abbrev pub JunkForgets : Type 0
 JunkForgets =
-    (structs : List StructDef) (t : ℕ → ℤ) (test : Atom → Bool) (atoms : List Atom) (heap : List Cell) → HoldsAtoms structs t (Junk ∷ atoms) heap →
+    (structs : List StructDef) (t : ℕ → ℤ) (test : Atom → Bool) (atoms : List Atom) (heap : List Cell) →
+    HoldsAtoms structs t (Junk ∷ atoms) heap →
     HoldsAtoms structs t (Junk ∷ filter test atoms) heap
 
 -- one Junk says as much as several

@@ -48,7 +48,8 @@ renamed number (Const n) = Const n
 -- mapped heap holds under t of what the heap holds under u
 abbrev pub MappedHolds : Type 0
 MappedHolds =
-    (structs : List StructDef) (t u : ℕ → ℤ) (f : Exp → Exp) → ((e : Exp) → value t (f e) ≡ value u e) → (heap : List Cell) (shape : SymHeap) →
+    (structs : List StructDef) (t u : ℕ → ℤ) (f : Exp → Exp) → ((e : Exp) → value t (f e) ≡ value u e) →
+    (heap : List Cell) (shape : SymHeap) →
     Holds structs t heap (on_heap f shape) ↔ Holds structs u heap shape
 
 -- the renaming can be undone, and leaves the logical variables, which are those below 65,536
@@ -59,7 +60,8 @@ pub record IsRenaming (number back : ℕ → ℕ) : Type 0 where
 -- other numbers for the existential variables of a state keep what meets it
 abbrev pub RenamedStateMeets : Type 0
 RenamedStateMeets =
-    (number back : ℕ → ℕ) → IsRenaming number back → (structs : List StructDef) (s : ℕ → ℤ) (locals : List ℤ) (heap : List Cell) (state : SymState) →
+    (number back : ℕ → ℕ) → IsRenaming number back →
+    (structs : List StructDef) (s : ℕ → ℤ) (locals : List ℤ) (heap : List Cell) (state : SymState) →
     MeetsState structs s locals heap state ↔ MeetsState structs s locals heap (on_state (renamed number) state)
 
 -- other numbers for the existential variables of a post keep what meets it

@@ -12,7 +12,8 @@ use Rattle.shape_data.specs.Meaning.{value, HoldsAtoms}
 use Rattle.sym_laws.specs.Fresh.{are_different, AgreeButFor, AreNewIn}
 
 -- new variables for the fields of a cell: one each, all different, and none that occurs; `next` is that of the link
-pub record AreFieldNames (structs : List StructDef) (kind : List ℕ) (link : ℕ) (atoms : List Atom) (names : List ℕ) (next : ℕ) : Type 0 where
+pub record AreFieldNames (structs : List StructDef) (kind : List ℕ) (link : ℕ) (atoms : List Atom) (names : List ℕ)
+    (next : ℕ) : Type 0 where
   pub def : StructDef
   pub listed : struct_named structs kind ≡ Some def
   pub one_each : length names ≡ length def.fields
@@ -24,25 +25,31 @@ pub record AreFieldNames (structs : List StructDef) (kind : List ℕ) (link : �
 -- it is a cell and a segment from the cell's link. (Where it is a cell, its ends may be equal: a cycle.)
 abbrev pub SegmentUnfolds : Type 0
 SegmentUnfolds =
-    (structs : List StructDef) (t : ℕ → ℤ) (kind : List ℕ) (link : ℕ) (from to : Exp) (others : List Atom) (names : List ℕ) (next : ℕ) (heap : List Cell) →
-    AreFieldNames structs kind link (Seg kind link from to ∷ others) names next → HoldsAtoms structs t (Seg kind link from to ∷ others) heap →
+    (structs : List StructDef) (t : ℕ → ℤ) (kind : List ℕ) (link : ℕ) (from to : Exp) (others : List Atom) (names : List ℕ) (next : ℕ)
+    (heap : List Cell) →
+    AreFieldNames structs kind link (Seg kind link from to ∷ others) names next →
+    HoldsAtoms structs t (Seg kind link from to ∷ others) heap →
     ((value t from ≡ value t to) × HoldsAtoms structs t others heap)
-    ⊎ ((u : ℕ → ℤ) × AgreeButFor names t u × HoldsAtoms structs u (Points from kind (map Var names) ∷ Seg kind link (Var next) to ∷ others) heap)
+    ⊎ ((u : ℕ → ℤ) × AgreeButFor names t u
+    × HoldsAtoms structs u (Points from kind (map Var names) ∷ Seg kind link (Var next) to ∷ others) heap)
 
 -- a segment whose ends are equal may be empty
 abbrev pub SegmentMayBeEmpty : Type 0
 SegmentMayBeEmpty =
-    (structs : List StructDef) (t : ℕ → ℤ) (kind : List ℕ) (link : ℕ) (from to : Exp) (others : List Atom) (heap : List Cell) → value t from ≡ value t to →
+    (structs : List StructDef) (t : ℕ → ℤ) (kind : List ℕ) (link : ℕ) (from to : Exp) (others : List Atom) (heap : List Cell) →
+    value t from ≡ value t to →
     HoldsAtoms structs t others heap → HoldsAtoms structs t (Seg kind link from to ∷ others) heap
 
 -- a cell is a segment to what its link holds
 abbrev pub CellIsSegment : Type 0
 CellIsSegment =
-    (structs : List StructDef) (t : ℕ → ℤ) (at : Exp) (kind : List ℕ) (fields : List Exp) (link : ℕ) (to : Exp) (others : List Atom) (heap : List Cell) → slice_get fields link ≡ Some to →
+    (structs : List StructDef) (t : ℕ → ℤ) (at : Exp) (kind : List ℕ) (fields : List Exp) (link : ℕ) (to : Exp) (others : List Atom)
+    (heap : List Cell) → slice_get fields link ≡ Some to →
     HoldsAtoms structs t (Points at kind fields ∷ others) heap → HoldsAtoms structs t (Seg kind link at to ∷ others) heap
 
 -- two segments, the second from where the first leads to, are one
 abbrev pub SegmentsJoin : Type 0
 SegmentsJoin =
     (structs : List StructDef) (t : ℕ → ℤ) (kind : List ℕ) (link : ℕ) (from middle to : Exp) (others : List Atom) (heap : List Cell) →
-    HoldsAtoms structs t (Seg kind link from middle ∷ Seg kind link middle to ∷ others) heap → HoldsAtoms structs t (Seg kind link from to ∷ others) heap
+    HoldsAtoms structs t (Seg kind link from middle ∷ Seg kind link middle to ∷ others) heap →
+    HoldsAtoms structs t (Seg kind link from to ∷ others) heap

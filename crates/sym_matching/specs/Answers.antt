@@ -33,7 +33,8 @@ abbrev pub names_of_all : List Atom → ℕ
 names_of_all [] = 0
 names_of_all (atom ∷ atoms) = names_of atom + names_of_all atoms
 
--- the new variables of a match may occur: the existential ones that the wanted fields may take, and the logical ones, up to so many from next
+-- the new variables of a match may occur: the existential ones that the wanted fields may take, and the logical ones, up to so many from
+-- next
 -- on as wanted atoms may take
 pub record MayName (limits : Limits) (params : ℕ) (b : SymHeap) (used : List ℕ) (next : ℕ) : Type 0 where
   pub fresh : All (MayOccur limits params) (fresh_variables (fields_of_all b.spatial) used)
@@ -49,21 +50,27 @@ pub record IsAnswered (limits : Limits) (structs : List StructDef) (params : ℕ
 -- in both modes, for any limits
 abbrev pub MatchIsWellFormed : Type 0
 MatchIsWellFormed =
-    (limits : Limits) (structs : List StructDef) (params : ℕ) (mode : Mode) (a b : SymHeap) (bound : List (ℕ × Exp)) (flexible avoid : List ℕ) (next : ℕ) (n : Matching) →
-    HasParts limits structs params a → HasParts limits structs params b → All (IsBound limits params) bound → All (MayOccur limits params) flexible →
+    (limits : Limits) (structs : List StructDef) (params : ℕ) (mode : Mode) (a b : SymHeap) (bound : List (ℕ × Exp))
+    (flexible avoid : List ℕ) (next : ℕ) (n : Matching) →
+    HasParts limits structs params a → HasParts limits structs params b → All (IsBound limits params) bound →
+    All (MayOccur limits params) flexible →
     MayName limits params b (argument_variables a b bound flexible ++ avoid) next → matching mode a b bound flexible avoid next ≡ On n →
     IsAnswered limits structs params (length a.spatial) n
 
 -- where no more than 2^30 variables are to be avoided, doubles counted, the frame and the binding of a subtraction are well formed
 abbrev pub SubtractIsWellFormed : Type 0
 SubtractIsWellFormed =
-    (structs : List StructDef) (params : ℕ) (a b : SymHeap) (bound : List (ℕ × Exp)) (flexible avoid : List ℕ) (frame : SymHeap) (binding : List (ℕ × Exp)) → AreStructs structs →
-    IsSymHeap widest structs params a → IsSymHeap widest structs params b → All (IsBound widest params) bound → All (MayOccur widest params) flexible →
-    length (argument_variables a b bound flexible ++ avoid) ≤ 1073741824 → subtract_avoiding a b bound flexible avoid ≡ sub.Match frame binding →
+    (structs : List StructDef) (params : ℕ) (a b : SymHeap) (bound : List (ℕ × Exp)) (flexible avoid : List ℕ) (frame : SymHeap)
+    (binding : List (ℕ × Exp)) → AreStructs structs →
+    IsSymHeap widest structs params a → IsSymHeap widest structs params b → All (IsBound widest params) bound →
+    All (MayOccur widest params) flexible →
+    length (argument_variables a b bound flexible ++ avoid) ≤ 1073741824 →
+    subtract_avoiding a b bound flexible avoid ≡ sub.Match frame binding →
     IsSymHeap widest structs params frame × All (IsBound widest params) binding
 
 -- and those of an abduction, with the missing part; the frame has no more atoms than a
-pub record IsFound (limits : Limits) (structs : List StructDef) (params atoms : ℕ) (missing frame : SymHeap) (binding : List (ℕ × Exp)) : Type 0 where
+pub record IsFound (limits : Limits) (structs : List StructDef) (params atoms : ℕ) (missing frame : SymHeap)
+    (binding : List (ℕ × Exp)) : Type 0 where
   pub missing_parts : HasParts limits structs params missing
   pub frame_parts : HasParts limits structs params frame
   pub fewer : length frame.spatial ≤ atoms
@@ -71,13 +78,18 @@ pub record IsFound (limits : Limits) (structs : List StructDef) (params atoms : 
 
 abbrev pub BiabduceIsWellFormed : Type 0
 BiabduceIsWellFormed =
-    (structs : List StructDef) (params : ℕ) (a b : SymHeap) (bound : List (ℕ × Exp)) (flexible : List ℕ) (next : ℕ) (avoid : List ℕ) (missing frame : SymHeap) (binding : List (ℕ × Exp)) → AreStructs structs →
-    IsSymHeap widest structs params a → IsSymHeap widest structs params b → All (IsBound widest params) bound → All (MayOccur widest params) flexible →
-    length (argument_variables a b bound flexible ++ avoid) ≤ 1073741824 → next + names_of_all b.spatial ≤ 2147483648 → biabduce_avoiding a b bound flexible next avoid ≡ abd.Found missing frame binding →
+    (structs : List StructDef) (params : ℕ) (a b : SymHeap) (bound : List (ℕ × Exp)) (flexible : List ℕ) (next : ℕ) (avoid : List ℕ)
+    (missing frame : SymHeap) (binding : List (ℕ × Exp)) → AreStructs structs →
+    IsSymHeap widest structs params a → IsSymHeap widest structs params b → All (IsBound widest params) bound →
+    All (MayOccur widest params) flexible →
+    length (argument_variables a b bound flexible ++ avoid) ≤ 1073741824 → next + names_of_all b.spatial ≤ 2147483648 →
+    biabduce_avoiding a b bound flexible next avoid ≡ abd.Found missing frame binding →
     IsFound widest structs params (length a.spatial) missing frame binding
 
--- how large what a match makes is, of any arguments: no more atoms are left than there were; each new binding is of a flexible variable that was
--- unbound, so there are no more of them than flexible variables; no more atoms are missing than are wanted; and no more parts than are wanted,
+-- how large what a match makes is, of any arguments: no more atoms are left than there were; each new binding is of a flexible variable
+-- that was
+-- unbound, so there are no more of them than flexible variables; no more atoms are missing than are wanted; and no more parts than are
+-- wanted,
 -- with one for each wanted field
 pub record HasSizes (a b : SymHeap) (bound : List (ℕ × Exp)) (flexible : List ℕ) (n : Matching) : Type 0 where
   pub left : length n.left ≤ length a.spatial
@@ -88,22 +100,26 @@ pub record HasSizes (a b : SymHeap) (bound : List (ℕ × Exp)) (flexible : List
 -- in both modes
 abbrev pub MatchHasSizes : Type 0
 MatchHasSizes =
-    (mode : Mode) (a b : SymHeap) (bound : List (ℕ × Exp)) (flexible avoid : List ℕ) (next : ℕ) (n : Matching) → matching mode a b bound flexible avoid next ≡ On n →
+    (mode : Mode) (a b : SymHeap) (bound : List (ℕ × Exp)) (flexible avoid : List ℕ) (next : ℕ) (n : Matching) →
+    matching mode a b bound flexible avoid next ≡ On n →
     HasSizes a b bound flexible n
 
 -- a subtraction leaves the facts of a, and no more atoms than a has
-pub record HasSubtractedSizes (a : SymHeap) (bound : List (ℕ × Exp)) (flexible : List ℕ) (frame : SymHeap) (binding : List (ℕ × Exp)) : Type 0 where
+pub record HasSubtractedSizes (a : SymHeap) (bound : List (ℕ × Exp)) (flexible : List ℕ) (frame : SymHeap)
+    (binding : List (ℕ × Exp)) : Type 0 where
   pub facts : frame.pure ≡ a.pure
   pub atoms : length frame.spatial ≤ length a.spatial
   pub bindings : length binding ≤ length bound + length flexible
 
 abbrev pub SubtractHasSizes : Type 0
 SubtractHasSizes =
-    (a b : SymHeap) (bound : List (ℕ × Exp)) (flexible avoid : List ℕ) (frame : SymHeap) (binding : List (ℕ × Exp)) → subtract_avoiding a b bound flexible avoid ≡ sub.Match frame binding →
+    (a b : SymHeap) (bound : List (ℕ × Exp)) (flexible avoid : List ℕ) (frame : SymHeap) (binding : List (ℕ × Exp)) →
+    subtract_avoiding a b bound flexible avoid ≡ sub.Match frame binding →
     HasSubtractedSizes a bound flexible frame binding
 
 -- an abduction leaves the facts of a with those that are missing, and no more atoms than a has
-pub record HasFoundSizes (a b : SymHeap) (bound : List (ℕ × Exp)) (flexible : List ℕ) (missing frame : SymHeap) (binding : List (ℕ × Exp)) : Type 0 where
+pub record HasFoundSizes (a b : SymHeap) (bound : List (ℕ × Exp)) (flexible : List ℕ) (missing frame : SymHeap)
+    (binding : List (ℕ × Exp)) : Type 0 where
   pub facts : frame.pure ≡ a.pure ++ missing.pure
   pub atoms : length frame.spatial ≤ length a.spatial
   pub bindings : length binding ≤ length bound + length flexible
@@ -112,5 +128,7 @@ pub record HasFoundSizes (a b : SymHeap) (bound : List (ℕ × Exp)) (flexible :
 
 abbrev pub BiabduceHasSizes : Type 0
 BiabduceHasSizes =
-    (a b : SymHeap) (bound : List (ℕ × Exp)) (flexible : List ℕ) (next : ℕ) (avoid : List ℕ) (missing frame : SymHeap) (binding : List (ℕ × Exp)) →
-    biabduce_avoiding a b bound flexible next avoid ≡ abd.Found missing frame binding → HasFoundSizes a b bound flexible missing frame binding
+    (a b : SymHeap) (bound : List (ℕ × Exp)) (flexible : List ℕ) (next : ℕ) (avoid : List ℕ) (missing frame : SymHeap)
+    (binding : List (ℕ × Exp)) →
+    biabduce_avoiding a b bound flexible next avoid ≡ abd.Found missing frame binding →
+    HasFoundSizes a b bound flexible missing frame binding

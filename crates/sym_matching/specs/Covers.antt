@@ -41,7 +41,8 @@ equal_slots (want ∷ wants) (have ∷ haves) = record { number = 0; want = want
 abbrev pub match_state : SymState → SymState → Turned
 match_state a b =
     and_then (want_heap (rules_of Subtract a.heap (existentials b)) b.heap)
-    (want_all_owed (rules_of Subtract a.heap (existentials b)) (equal_slots b.locals a.locals) (start_of a.heap [] (with_state (with_state [] a) b) 0))
+    (want_all_owed (rules_of Subtract a.heap (existentials b)) (equal_slots b.locals a.locals)
+    (start_of a.heap [] (with_state (with_state [] a) b) 0))
 
 -- there is no atom
 abbrev pub is_empty : List Atom → Bool

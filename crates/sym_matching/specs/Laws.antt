@@ -42,12 +42,14 @@ FitsAtom structs Junk = Unit {0}
 
 -- each atom of a well-formed heap fits
 abbrev pub WellFormedFits : Type 0
-WellFormedFits = (limits : Limits) (structs : List StructDef) (params : ℕ) (heap : SymHeap) → IsSymHeap limits structs params heap → All (FitsAtom structs) heap.spatial
+WellFormedFits = (limits : Limits) (structs : List StructDef) (params : ℕ) (heap : SymHeap) → IsSymHeap limits structs params heap →
+    All (FitsAtom structs) heap.spatial
 
 -- and fits over each list of structures that contains those it fits over
 abbrev pub FittingCarries : Type 0
 FittingCarries =
-    (larger smaller : List StructDef) → ContainsStructures larger smaller → (atoms : List Atom) → All (FitsAtom smaller) atoms → All (FitsAtom larger) atoms
+    (larger smaller : List StructDef) → ContainsStructures larger smaller → (atoms : List Atom) → All (FitsAtom smaller) atoms →
+    All (FitsAtom larger) atoms
 
 -- a variable that keeps its value through a match: a logical one, or one that new variables avoid
 abbrev pub is_kept : List ℕ → ℕ → Bool
@@ -59,12 +61,14 @@ AgreesOn used s t = (x : ℕ) → is_kept used x ≡ true → t x ≡ s x
 
 -- what is determined under a binding stays so under a later one, and reads the same
 abbrev pub Keeps : List ℕ → List (ℕ × Exp) → List (ℕ × Exp) → Type 0
-Keeps flexible now later = (e : Exp) → is_unbound flexible now e ≡ false → (is_unbound flexible later e ≡ false) × (bound_exp later e ≡ bound_exp now e)
+Keeps flexible now later = (e : Exp) → is_unbound flexible now e ≡ false →
+    (is_unbound flexible later e ≡ false) × (bound_exp later e ≡ bound_exp now e)
 
 -- what a match says of a heap that holds under an assignment s: under another one, which agrees with s on what was in use
 -- and on logical variables, the heap is the sum of one that holds the wanted heap, whose variables have the values of what
 -- they are bound to, and one that holds the frame
-pub record Matched (structs : List StructDef) (rules : Rules) (b : SymHeap) (bound : List (ℕ × Exp)) (used : List ℕ) (n : Matching) (s : ℕ → ℤ) (heap : List Cell) : Type 0 where
+pub record Matched (structs : List StructDef) (rules : Rules) (b : SymHeap) (bound : List (ℕ × Exp)) (used : List ℕ) (n : Matching)
+    (s : ℕ → ℤ) (heap : List Cell) : Type 0 where
   pub t : ℕ → ℤ
   pub own : List Cell
   pub rest : List Cell
@@ -77,19 +81,22 @@ pub record Matched (structs : List StructDef) (rules : Rules) (b : SymHeap) (bou
 -- the law of the match, in both modes: what holds a, with the missing part beside it, is matched
 abbrev pub MatchSplits : Type 0
 MatchSplits =
-    (structs : List StructDef) (mode : Mode) (a b : SymHeap) (bound : List (ℕ × Exp)) (flexible avoid : List ℕ) (next : ℕ) (n : Matching) → All (FitsAtom structs) b.spatial →
+    (structs : List StructDef) (mode : Mode) (a b : SymHeap) (bound : List (ℕ × Exp)) (flexible avoid : List ℕ) (next : ℕ) (n : Matching) →
+    All (FitsAtom structs) b.spatial →
     matching mode a b bound flexible avoid next ≡ On n → (s : ℕ → ℤ) (heap : List Cell) → Holds structs s heap (beside a n.missing) →
     Matched structs (rules_of mode a flexible) b bound (argument_variables a b bound flexible ++ avoid) n s heap
 
 -- in subtraction nothing is missing
 abbrev pub SubtractMissesNothing : Type 0
 SubtractMissesNothing =
-    (a b : SymHeap) (bound : List (ℕ × Exp)) (flexible avoid : List ℕ) (next : ℕ) (n : Matching) → matching Subtract a b bound flexible avoid next ≡ On n → n.missing ≡ emp
+    (a b : SymHeap) (bound : List (ℕ × Exp)) (flexible avoid : List ℕ) (next : ℕ) (n : Matching) →
+    matching Subtract a b bound flexible avoid next ≡ On n → n.missing ≡ emp
 
 -- the missing part speaks of logical variables and constants alone
 abbrev pub MissingIsLogical : Type 0
 MissingIsLogical =
-    (mode : Mode) (a b : SymHeap) (bound : List (ℕ × Exp)) (flexible avoid : List ℕ) (next : ℕ) (n : Matching) → matching mode a b bound flexible avoid next ≡ On n → EachInHeap (λ e. is_logical e ≡ true) n.missing
+    (mode : Mode) (a b : SymHeap) (bound : List (ℕ × Exp)) (flexible avoid : List ℕ) (next : ℕ) (n : Matching) →
+    matching mode a b bound flexible avoid next ≡ On n → EachInHeap (λ e. is_logical e ≡ true) n.missing
 
 -- a variable that was bound stands for what it was bound to
 abbrev pub StaysBound : List (ℕ × Exp) → List (ℕ × Exp) → Type 0
@@ -102,17 +109,20 @@ pub record KeepsBound (bound : List (ℕ × Exp)) (flexible : List ℕ) (binding
 
 abbrev pub SubtractKeepsBound : Type 0
 SubtractKeepsBound =
-    (structs : List StructDef) (a b : SymHeap) (bound : List (ℕ × Exp)) (flexible avoid : List ℕ) (frame : SymHeap) (binding : List (ℕ × Exp)) → All (FitsAtom structs) b.spatial →
+    (structs : List StructDef) (a b : SymHeap) (bound : List (ℕ × Exp)) (flexible avoid : List ℕ) (frame : SymHeap)
+    (binding : List (ℕ × Exp)) → All (FitsAtom structs) b.spatial →
     subtract_avoiding a b bound flexible avoid ≡ sub.Match frame binding → KeepsBound bound flexible binding
 
 abbrev pub BiabduceKeepsBound : Type 0
 BiabduceKeepsBound =
-    (structs : List StructDef) (a b : SymHeap) (bound : List (ℕ × Exp)) (flexible : List ℕ) (next : ℕ) (avoid : List ℕ) (missing frame : SymHeap) (binding : List (ℕ × Exp)) → All (FitsAtom structs) b.spatial →
+    (structs : List StructDef) (a b : SymHeap) (bound : List (ℕ × Exp)) (flexible : List ℕ) (next : ℕ) (avoid : List ℕ)
+    (missing frame : SymHeap) (binding : List (ℕ × Exp)) → All (FitsAtom structs) b.spatial →
     biabduce_avoiding a b bound flexible next avoid ≡ abd.Found missing frame binding → KeepsBound bound flexible binding
 
 -- some assignment that agrees with s on a's variables, on further ones and on all logical ones makes the heap a sum of one
 -- that holds the bound b, and one that holds the frame
-pub record GivesBeside (structs : List StructDef) (s : ℕ → ℤ) (heap : List Cell) (a b : SymHeap) (bound : List (ℕ × Exp)) (flexible avoid : List ℕ) (binding : List (ℕ × Exp)) (frame : SymHeap) : Type 0 where
+pub record GivesBeside (structs : List StructDef) (s : ℕ → ℤ) (heap : List Cell) (a b : SymHeap) (bound : List (ℕ × Exp))
+    (flexible avoid : List ℕ) (binding : List (ℕ × Exp)) (frame : SymHeap) : Type 0 where
   pub t : ℕ → ℤ
   pub own : List Cell
   pub rest : List Cell
@@ -128,15 +138,19 @@ pub record GivesBeside (structs : List StructDef) (s : ℕ → ℤ) (heap : List
 -- subtraction: what holds a holds the bound b beside the frame
 abbrev pub SubtractGivesBeside : Type 0
 SubtractGivesBeside =
-    (structs : List StructDef) (a b : SymHeap) (bound : List (ℕ × Exp)) (flexible avoid : List ℕ) (frame : SymHeap) (binding : List (ℕ × Exp)) → All (FitsAtom structs) b.spatial →
-    subtract_avoiding a b bound flexible avoid ≡ sub.Match frame binding → (s : ℕ → ℤ) (heap : List Cell) → Holds structs s heap a → GivesBeside structs s heap a b bound flexible avoid binding frame
+    (structs : List StructDef) (a b : SymHeap) (bound : List (ℕ × Exp)) (flexible avoid : List ℕ) (frame : SymHeap)
+    (binding : List (ℕ × Exp)) → All (FitsAtom structs) b.spatial →
+    subtract_avoiding a b bound flexible avoid ≡ sub.Match frame binding → (s : ℕ → ℤ) (heap : List Cell) → Holds structs s heap a →
+      GivesBeside structs s heap a b bound flexible avoid binding frame
 
 -- abduction: what holds a beside the missing part holds the bound b beside the frame. The assignment agrees on the variables of
 -- both
 abbrev pub BiabduceGivesBeside : Type 0
 BiabduceGivesBeside =
-    (structs : List StructDef) (a b : SymHeap) (bound : List (ℕ × Exp)) (flexible : List ℕ) (next : ℕ) (avoid : List ℕ) (missing frame : SymHeap) (binding : List (ℕ × Exp)) → All (FitsAtom structs) b.spatial →
-    biabduce_avoiding a b bound flexible next avoid ≡ abd.Found missing frame binding → (s : ℕ → ℤ) (heap : List Cell) → Holds structs s heap (beside a missing) →
+    (structs : List StructDef) (a b : SymHeap) (bound : List (ℕ × Exp)) (flexible : List ℕ) (next : ℕ) (avoid : List ℕ)
+    (missing frame : SymHeap) (binding : List (ℕ × Exp)) → All (FitsAtom structs) b.spatial →
+    biabduce_avoiding a b bound flexible next avoid ≡ abd.Found missing frame binding → (s : ℕ → ℤ) (heap : List Cell) →
+      Holds structs s heap (beside a missing) →
     GivesBeside structs s heap (beside a missing) b bound flexible avoid binding frame
 
 -- what meets a state meets each state that covers it

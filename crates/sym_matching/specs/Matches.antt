@@ -34,7 +34,8 @@ want_spatial rules b m = want_atoms (length (wanted_from 0 b.spatial)) rules (wa
 
 -- the wanted parts of a heap: its atoms, then the facts that fields left over, then its facts. Atoms are numbered first
 abbrev pub want_heap : Rules → SymHeap → Matching → Turned
-want_heap rules b m = and_then (want_facts rules (length b.spatial) b.pure) (and_then (λ n. want_all_owed rules n.owed n) (want_spatial rules b m))
+want_heap rules b m =
+    and_then (want_facts rules (length b.spatial) b.pure) (and_then (λ n. want_all_owed rules n.owed n) (want_spatial rules b m))
 
 -- Junk is wanted, which takes all that is left
 abbrev pub has_junk : SymHeap → Bool
@@ -54,7 +55,8 @@ argument_variables a b bound flexible = with_binding (with_heap (with_heap [] a)
 
 -- the match of b in a; new existential variables avoid the arguments' variables and further ones
 abbrev pub matching : Mode → SymHeap → SymHeap → List (ℕ × Exp) → List ℕ → List ℕ → ℕ → Turned
-matching mode a b bound flexible avoid next = want_heap (rules_of mode a flexible) b (start_of a bound (argument_variables a b bound flexible ++ avoid) next)
+matching mode a b bound flexible avoid next =
+    want_heap (rules_of mode a flexible) b (start_of a bound (argument_variables a b bound flexible ++ avoid) next)
 
 -- what a match answers in subtraction
 abbrev pub answer_sub : Rules → SymHeap → Turned → Sub

@@ -40,7 +40,8 @@ at_its_place [] numbers x = x
 at_its_place (variable ∷ variables) [] x = x
 at_its_place (variable ∷ variables) (number ∷ numbers) x = if x == variable then number else at_its_place variables numbers x
 
--- a new number for each of the variables: an existential one, the least that is not in use, in the order in which they stand first; any other
+-- a new number for each of the variables: an existential one, the least that is not in use, in the order in which they stand first; any
+-- other
 -- variable keeps its number
 abbrev pub number_apart : List ℕ → List ℕ → ℕ → ℕ
 number_apart used variables x = at_its_place (distinct variables) (fresh_variables (length (distinct variables)) used) x

@@ -58,7 +58,8 @@ pub record IsWithinSizes (heap : SymHeap) : Type 0 where
 
 -- each well-formed heap is within the sizes
 abbrev pub WellFormedIsWithinSizes : Type 0
-WellFormedIsWithinSizes = (structs : List StructDef) (params : ℕ) (heap : SymHeap) → AreStructs structs → IsSymHeap widest structs params heap → IsWithinSizes heap
+WellFormedIsWithinSizes = (structs : List StructDef) (params : ℕ) (heap : SymHeap) → AreStructs structs →
+    IsSymHeap widest structs params heap → IsWithinSizes heap
 
 -- a heap within the sizes has at most 131,072,000 fields
 abbrev pub FewFields : Type 0
@@ -74,7 +75,8 @@ RoomOfFew = (count : ℕ) (used : List ℕ) → 65536 + length used + count ≤ 
 
 -- room for more is room for some, and then for the others
 abbrev pub RoomParts : Type 0
-RoomParts = (one other : ℕ) (used : List ℕ) → HasRoom (one + other) used → HasRoom one used × HasRoom other (used ++ fresh_variables one used)
+RoomParts = (one other : ℕ) (used : List ℕ) → HasRoom (one + other) used →
+    HasRoom one used × HasRoom other (used ++ fresh_variables one used)
 
 -- the number that the search from x on finds is at least x, and not in use
 abbrev pub SearchFindsFree : Type 0
@@ -84,19 +86,23 @@ SearchFindsFree =
 -- a wanted atom takes no more room than it has fields
 abbrev pub AtomTakesRoom : Type 0
 AtomTakesRoom =
-    (rules : Rules) (number : ℕ) (atom : Atom) (m n : Matching) (more : ℕ) → want_atom rules number atom m ≡ On n → HasRoom (fields_of atom + more) m.used → HasRoom more n.used
+    (rules : Rules) (number : ℕ) (atom : Atom) (m n : Matching) (more : ℕ) → want_atom rules number atom m ≡ On n →
+    HasRoom (fields_of atom + more) m.used → HasRoom more n.used
 
 -- wanted atoms take no more room than they have fields
 abbrev pub AtomsTakeRoom : Type 0
 AtomsTakeRoom =
-    (rules : Rules) (turns : ℕ) (wanted : List Wanted) (m n : Matching) (more : ℕ) → length wanted ≡ turns → want_atoms turns rules wanted m ≡ On n →
+    (rules : Rules) (turns : ℕ) (wanted : List Wanted) (m n : Matching) (more : ℕ) → length wanted ≡ turns →
+    want_atoms turns rules wanted m ≡ On n →
     HasRoom (fields_wanted wanted + more) m.used → HasRoom more n.used
 
 -- a wanted atom takes no more new logical variables than it may
 abbrev pub AtomNames : Type 0
-AtomNames = (rules : Rules) (number : ℕ) (atom : Atom) (m n : Matching) → want_atom rules number atom m ≡ On n → n.next ≤ m.next + names_of atom
+AtomNames = (rules : Rules) (number : ℕ) (atom : Atom) (m n : Matching) → want_atom rules number atom m ≡ On n →
+    n.next ≤ m.next + names_of atom
 
 -- and so wanted atoms
 abbrev pub AtomsName : Type 0
 AtomsName =
-    (rules : Rules) (turns : ℕ) (wanted : List Wanted) (m n : Matching) → length wanted ≡ turns → want_atoms turns rules wanted m ≡ On n → n.next ≤ m.next + names_wanted wanted
+    (rules : Rules) (turns : ℕ) (wanted : List Wanted) (m n : Matching) → length wanted ≡ turns → want_atoms turns rules wanted m ≡ On n →
+    n.next ≤ m.next + names_wanted wanted

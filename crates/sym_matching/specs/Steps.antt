@@ -71,7 +71,8 @@ miss_fact rules number fact m = unless_contradiction rules number (with_missing_
 
 -- one missing atom more, which is taken at once
 abbrev pub with_missing_atom : Matching → Atom → Matching
-with_missing_atom m atom = record m { missing = record { pure = m.missing.pure; spatial = m.missing.spatial ++ atom ∷ [] }; gone = m.gone ++ atom ∷ [] }
+with_missing_atom m atom =
+    record m { missing = record { pure = m.missing.pure; spatial = m.missing.spatial ++ atom ∷ [] }; gone = m.gone ++ atom ∷ [] }
 
 -- the atom is missing
 abbrev pub miss_atom : Rules → ℕ → Atom → Matching → Turned

@@ -41,7 +41,8 @@ or_else (Some place) other = Some place
 
 -- the place of the atom that is taken next: the first whose source and end are determined, else the first whose source is
 abbrev pub next_place : Rules → Matching → List Wanted → Option ℕ
-next_place rules m wanted = or_else (position (λ w. has_source rules m w.atom && has_end rules m w.atom) wanted) (position (λ w. has_source rules m w.atom) wanted)
+next_place rules m wanted =
+    or_else (position (λ w. has_source rules m w.atom && has_end rules m w.atom) wanted) (position (λ w. has_source rules m w.atom) wanted)
 
 -- the number of the first wanted atom that is left
 abbrev pub first_number : List Wanted → ℕ
@@ -66,6 +67,8 @@ want_atoms (suc turns) rules wanted m = want_at rules m wanted (want_atoms turns
 -- the atoms other than Junk, with their numbers from one on
 abbrev pub wanted_from : ℕ → List Atom → List Wanted
 wanted_from number [] = []
-wanted_from number (Points at kind fields ∷ atoms) = record { number = number; atom = Points at kind fields } ∷ wanted_from (number + 1) atoms
-wanted_from number (Seg kind link from to ∷ atoms) = record { number = number; atom = Seg kind link from to } ∷ wanted_from (number + 1) atoms
+wanted_from number (Points at kind fields ∷ atoms) =
+    record { number = number; atom = Points at kind fields } ∷ wanted_from (number + 1) atoms
+wanted_from number (Seg kind link from to ∷ atoms) =
+    record { number = number; atom = Seg kind link from to } ∷ wanted_from (number + 1) atoms
 wanted_from number (Junk ∷ atoms) = wanted_from (number + 1) atoms

@@ -56,7 +56,8 @@ name_fields rules (want ∷ wants) m = name_fields rules wants (name_field rules
 
 -- the cell with these fields is missing, if they are logical
 abbrev pub miss_read : Rules → ℕ → List ℕ → Exp → List Exp → Matching → Turned
-miss_read rules number kind e fields m = if list_all is_logical fields then miss_atom rules number (Points e kind fields) m else Stuck number
+miss_read rules number kind e fields m =
+    if list_all is_logical fields then miss_atom rules number (Points e kind fields) m else Stuck number
 
 -- unbound fields are named, and then all of them are read
 abbrev pub miss_named : Rules → ℕ → List ℕ → List Exp → Exp → Matching → Turned
@@ -66,7 +67,8 @@ miss_named rules number kind wants e m = miss_read rules number kind e (map (rea
 abbrev pub miss_cell : Rules → ℕ → List ℕ → List Exp → Exp → Matching → Mode → Turned
 miss_cell rules number kind wants e m Subtract = Stuck number
 miss_cell rules number kind wants e m Abduce =
-    if is_logical_variable e && not (list_any (is_atom_from e) m.left) then miss_named rules number kind wants e (name_fields rules wants m) else Stuck number
+    if is_logical_variable e && not (list_any (is_atom_from e) m.left) then miss_named rules number kind wants e (name_fields rules wants m)
+    else Stuck number
 
 -- RULE 2: a segment of the kind is left from e, and its ends differ: it is unfolded, and its cell taken
 
@@ -75,7 +77,8 @@ abbrev pub take_unfolded : Rules → ℕ → List Exp → Matching → ℕ → O
 take_unfolded rules number wants m place None = Stuck number
 take_unfolded rules number wants m place (Some (Points at kind haves)) = Stuck number
 take_unfolded rules number wants m place (Some (Seg kind link from to)) =
-    On (take_fields rules number wants (map Var (fresh_variables (length wants) m.used)) (unfold_at m place kind link from to (fresh_variables (length wants) m.used)))
+    On (take_fields rules number wants (map Var (fresh_variables (length wants) m.used))
+    (unfold_at m place kind link from to (fresh_variables (length wants) m.used)))
 take_unfolded rules number wants m place (Some Junk) = Stuck number
 
 -- a segment of the kind from the expression, whose ends are known to differ in the heap
@@ -127,7 +130,8 @@ take_cell rules number kind wants m place (Some Junk) = Stuck number
 
 -- rule 1 where it has a place, else the rules after it
 abbrev pub cell_place : Rules → ℕ → List ℕ → List Exp → Exp → Matching → Option ℕ → Turned
-cell_place rules number kind wants e m None = unfold_place rules number kind wants e m (position (is_to_unfold (whole rules m) e kind) m.left)
+cell_place rules number kind wants e m None =
+    unfold_place rules number kind wants e m (position (is_to_unfold (whole rules m) e kind) m.left)
 cell_place rules number kind wants e m (Some place) = take_cell rules number kind wants m place (slice_get m.left place)
 
 -- a cell of the kind with these fields is wanted at e, which is read

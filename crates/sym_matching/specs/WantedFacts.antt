@@ -23,7 +23,8 @@ use Rattle.sym_matching.specs.Steps.{Rules, whole, bind, miss_fact, and_then}
 abbrev pub miss_equation : Rules → ℕ → Exp → Exp → Matching → Mode → Turned
 miss_equation rules number left right m Subtract = Stuck number
 miss_equation rules number left right m Abduce =
-    if is_logical left && is_logical right && not (differs (whole rules m) left right) then miss_fact rules number (Eq left right) m else Stuck number
+    if is_logical left && is_logical right && not (differs (whole rules m) left right) then miss_fact rules number (Eq left right) m
+    else Stuck number
 
 -- RULE 2 for e = f, both sides being determined and read: they are equal; else rule 3
 abbrev pub want_same : Rules → ℕ → Exp → Exp → Matching → Turned
@@ -44,11 +45,13 @@ miss_disequality rules number left right m Abduce =
 
 -- RULE 1 for e != f, both sides being determined and read: they are known to differ in the whole heap with the missing part
 abbrev pub want_apart : Rules → ℕ → Exp → Exp → Matching → Turned
-want_apart rules number left right m = if differs (whole rules m) left right then On m else miss_disequality rules number left right m rules.mode
+want_apart rules number left right m =
+    if differs (whole rules m) left right then On m else miss_disequality rules number left right m rules.mode
 
 -- the rules for a fact
 abbrev pub want_fact : Rules → ℕ → Fact → Matching → Turned
-want_fact rules number (Eq e f) m = want_equal rules number e f m (is_unbound rules.flexible m.binding e) (is_unbound rules.flexible m.binding f)
+want_fact rules number (Eq e f) m =
+    want_equal rules number e f m (is_unbound rules.flexible m.binding e) (is_unbound rules.flexible m.binding f)
 want_fact rules number (Ne e f) m =
     if is_unbound rules.flexible m.binding e || is_unbound rules.flexible m.binding f
     then Stuck number

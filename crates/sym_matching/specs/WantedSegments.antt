@@ -63,7 +63,8 @@ piece_at number link m go_on otherwise (Some place) = take_piece number link m g
 -- RULE 5: e is a logical variable and the end is logical: the segment is missing
 abbrev pub miss_segment : Rules → ℕ → List ℕ → ℕ → Exp → Exp → Matching → Mode → Turned
 miss_segment rules number kind link to e m Subtract = Stuck number
-miss_segment rules number kind link to e m Abduce = if is_logical_variable e && is_logical to then miss_atom rules number (Seg kind link e to) m else Stuck number
+miss_segment rules number kind link to e m Abduce =
+    if is_logical_variable e && is_logical to then miss_atom rules number (Seg kind link e to) m else Stuck number
 
 -- RULE 1, the end being known: where it is e, all is done. Else a piece is taken, and the segment from where it leads to is
 -- wanted. Each piece is an atom that was left, so as many turns as there are such atoms are enough
@@ -72,17 +73,20 @@ walk zero rules number kind link to e m = if same_exp e to then On m else miss_s
 walk (suc turns) rules number kind link to e m =
     if same_exp e to
     then On m
-    else piece_at number link m (walk turns rules number kind link to) (miss_segment rules number kind link to e m rules.mode) (piece kind link e m.left)
+    else piece_at number link m (walk turns rules number kind link to) (miss_segment rules number kind link to e m rules.mode)
+    (piece kind link e m.left)
 
 -- RULE 4, the end being unbound and no piece there: it is bound to e. In abduction, where e is a logical variable, the
 -- segment to a new logical variable is missing instead (which is below 65,536 by the condition of abduction)
 abbrev pub bind_end : Rules → ℕ → List ℕ → ℕ → Exp → Exp → Matching → Mode → Turned
 bind_end rules number kind link to e m Subtract = On (bind m to e)
-bind_end rules number kind link to e m Abduce = if is_logical_variable e then miss_segment rules number kind link (Var m.next) e (bind_new m to) Abduce else On (bind m to e)
+bind_end rules number kind link to e m Abduce =
+    if is_logical_variable e then miss_segment rules number kind link (Var m.next) e (bind_new m to) Abduce else On (bind m to e)
 
 -- the end being unbound: one piece is taken, and the end bound to where it leads to
 abbrev pub reach : Rules → ℕ → List ℕ → ℕ → Exp → Exp → Matching → Turned
-reach rules number kind link to e m = piece_at number link m (λ next n. On (bind n to next)) (bind_end rules number kind link to e m rules.mode) (piece kind link e m.left)
+reach rules number kind link to e m =
+    piece_at number link m (λ next n. On (bind n to next)) (bind_end rules number kind link to e m rules.mode) (piece kind link e m.left)
 
 -- a segment is wanted from e, which is read, to an end
 abbrev pub want_segment : Rules → ℕ → List ℕ → ℕ → Exp → Exp → Matching → Turned

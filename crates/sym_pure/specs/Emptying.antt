@@ -38,7 +38,8 @@ with_equal_ends solved None = Some solved
 -- the atom at the place goes, its ends are made equal, and so again; without a place all is settled
 abbrev pub settle_at : (List Solved → List Atom → Option Settled) → List Solved → List Atom → Option ℕ → Option Settled
 settle_at again solved atoms None = Some (record { solved = solved; atoms = atoms })
-settle_at again solved atoms (Some place) = unless_clash (λ more. again more (remove atoms place)) (with_equal_ends solved (slice_get atoms place))
+settle_at again solved atoms (Some place) =
+    unless_clash (λ more. again more (remove atoms place)) (with_equal_ends solved (slice_get atoms place))
 
 -- as often as there is such a segment, but no more than the turns: one for each atom is enough, since each turn takes one.
 -- None is a contradiction

@@ -69,12 +69,14 @@ has_two_junk (atom ∷ atoms) = (is_junk atom && list_any is_junk atoms) || has_
 
 -- the heap's facts: in order, read, and none redundant
 abbrev pub are_normal_facts : SymHeap → Bool
-are_normal_facts heap = are_in_order 0 heap.pure && list_all (is_read_fact heap.pure) heap.pure && not (has_redundant (addresses heap.spatial) heap.pure)
+are_normal_facts heap = are_in_order 0 heap.pure && list_all (is_read_fact heap.pure) heap.pure
+    && not (has_redundant (addresses heap.spatial) heap.pure)
 
 -- the heap's atoms: read, no segment that is known to be empty, and no two Junk
 abbrev pub are_normal_atoms : SymHeap → Bool
 are_normal_atoms heap =
-    list_all (is_read_atom heap.pure) heap.spatial && not (list_any (is_empty [] (addresses heap.spatial)) heap.spatial) && not (has_two_junk heap.spatial)
+    list_all (is_read_atom heap.pure) heap.spatial && not (list_any (is_empty [] (addresses heap.spatial)) heap.spatial)
+    && not (has_two_junk heap.spatial)
 
 -- the heap is normal: its facts and atoms are, and they do not contradict one another
 abbrev pub is_normal_heap : SymHeap → Bool

@@ -18,8 +18,10 @@ use Rattle.sym_pure.specs.Sources.{differs}
 -- a state whose form is a contradiction
 abbrev pub MeansTheSame : SymState → Normal → Type 0
 MeansTheSame state (Is form) =
-    (structs : List StructDef) (s : ℕ → ℤ) (locals : List ℤ) (heap : List Cell) → MeetsState structs s locals heap state ↔ MeetsState structs s locals heap form
-MeansTheSame state Contradiction = (structs : List StructDef) (s : ℕ → ℤ) (locals : List ℤ) (heap : List Cell) → ¬ MeetsState structs s locals heap state
+    (structs : List StructDef) (s : ℕ → ℤ) (locals : List ℤ) (heap : List Cell) → MeetsState structs s locals heap state
+    ↔ MeetsState structs s locals heap form
+MeansTheSame state Contradiction =
+    (structs : List StructDef) (s : ℕ → ℤ) (locals : List ℤ) (heap : List Cell) → ¬ MeetsState structs s locals heap state
 
 -- the normal form keeps the meaning
 abbrev pub NormalKeepsMeaning : Type 0
@@ -29,7 +31,8 @@ NormalKeepsMeaning = (state : SymState) → MeansTheSame state (normal state)
 -- same values under it; nothing holds of a contradiction
 abbrev pub HoldsAlike : SymState → Normal → Type 0
 HoldsAlike state (Is form) =
-    (structs : List StructDef) (t : ℕ → ℤ) (heap : List Cell) → Holds structs t heap state.heap → Holds structs t heap form.heap × (map (value t) form.locals ≡ map (value t) state.locals)
+    (structs : List StructDef) (t : ℕ → ℤ) (heap : List Cell) → Holds structs t heap state.heap →
+    Holds structs t heap form.heap × (map (value t) form.locals ≡ map (value t) state.locals)
 HoldsAlike state Contradiction = (structs : List StructDef) (t : ℕ → ℤ) (heap : List Cell) → ¬ Holds structs t heap state.heap
 
 -- what holds of a state holds of its normal form
@@ -38,7 +41,8 @@ NormalHoldsAlike = (state : SymState) → HoldsAlike state (normal state)
 
 -- what differs has different values in each heap that holds, under the same assignment
 abbrev pub DiffersIsSound : Type 0
-DiffersIsSound = (structs : List StructDef) (t : ℕ → ℤ) (heap : List Cell) (shape : SymHeap) (e f : Exp) → Holds structs t heap shape → differs shape e f ≡ true → value t e ≢ value t f
+DiffersIsSound = (structs : List StructDef) (t : ℕ → ℤ) (heap : List Cell) (shape : SymHeap) (e f : Exp) → Holds structs t heap shape →
+    differs shape e f ≡ true → value t e ≢ value t f
 
 -- the form is normal
 abbrev pub FormIsNormal : Type 0
@@ -51,7 +55,8 @@ NormalIsItself = (state : SymState) → (is_normal state ≡ true) ↔ (normal s
 -- what holds of each expression of a state, by a test, holds of each of its form
 abbrev pub FormHasNoOther : Type 0
 FormHasNoOther =
-    (test : Exp → Bool) (state form : SymState) → normal state ≡ Is form → EachInState (λ e. test e ≡ true) state → EachInState (λ e. test e ≡ true) form
+    (test : Exp → Bool) (state form : SymState) → normal state ≡ Is form → EachInState (λ e. test e ≡ true) state →
+    EachInState (λ e. test e ≡ true) form
 
 -- a form has no more parts than its state, and as many locals
 pub record HasNoMoreParts (state form : SymState) : Type 0 where

@@ -38,7 +38,8 @@ normal_of state solved facts atoms = if has_clash facts atoms then Contradiction
 -- with empty segments gone
 abbrev pub normal_settled : SymState → Option Settled → Normal
 normal_settled state None = Contradiction
-normal_settled state (Some settled) = normal_of state settled.solved (disequalities settled.solved state.heap.pure) (map (on_atom (read settled.solved)) settled.atoms)
+normal_settled state (Some settled) =
+    normal_of state settled.solved (disequalities settled.solved state.heap.pure) (map (on_atom (read settled.solved)) settled.atoms)
 
 -- with equations solved
 abbrev pub normal_solved : SymState → Option (List Solved) → Normal

@@ -18,7 +18,8 @@ are_constants _ _ = false
 -- a disequality is redundant beside some facts: it is between two constants, between 0 and a cell's address or two
 -- cells' addresses, or it is among them, either way round
 abbrev pub is_redundant : List Exp → List Fact → Exp → Exp → Bool
-is_redundant cells kept left right = are_constants left right || ((is_plain cells left && is_plain cells right) || is_written kept left right)
+is_redundant cells kept left right =
+    are_constants left right || ((is_plain cells left && is_plain cells right) || is_written kept left right)
 
 -- the disequality behind the facts, unless it is redundant
 abbrev pub with_needed : List Exp → List Fact → Exp → Exp → List Fact

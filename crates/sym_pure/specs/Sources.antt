@@ -22,7 +22,8 @@ are_unequal_constants _ _ = false
 abbrev pub is_written : List Fact → Exp → Exp → Bool
 is_written [] e f = false
 is_written (Eq left right ∷ facts) e f = is_written facts e f
-is_written (Ne left right ∷ facts) e f = (same_exp left e && same_exp right f) || ((same_exp left f && same_exp right e) || is_written facts e f)
+is_written (Ne left right ∷ facts) e f =
+    (same_exp left e && same_exp right f) || ((same_exp left f && same_exp right e) || is_written facts e f)
 
 -- the ends of a segment are unequal constants, or have a written disequality
 abbrev pub do_ends_differ : List Fact → Exp → Exp → Bool
@@ -47,4 +48,5 @@ is_zero_and_source heap e f = same_exp e (Const (pos 0)) && is_among f (sources 
 abbrev pub differs : SymHeap → Exp → Exp → Bool
 differs heap e f =
     are_unequal_constants e f
-    || (is_written heap.pure e f || (is_zero_and_source heap e f || (is_zero_and_source heap f e || are_two e f (sources heap.pure heap.spatial))))
+    || (is_written heap.pure e f
+    || (is_zero_and_source heap e f || (is_zero_and_source heap f e || are_two e f (sources heap.pure heap.spatial))))

@@ -57,7 +57,8 @@ ArgumentsStand =
 
 -- what a match says of a heap, for a call: under an assignment it is the sum of what holds the precondition, whose variables have the
 -- values of what they stand for, and what holds the frame; and the parameters have the values of the arguments
-pub record IsCalled (structs : List StructDef) (s : ℕ → ℤ) (heap : List Cell) (a : SymHeap) (avoid : List ℕ) (params : List (List ℕ)) (args : List Exp) (pre : SymHeap)
+pub record IsCalled (structs : List StructDef) (s : ℕ → ℤ) (heap : List Cell) (a : SymHeap) (avoid : List ℕ) (params : List (List ℕ))
+    (args : List Exp) (pre : SymHeap)
     (apart : Numbers) (binding : List (ℕ × Exp)) (frame : SymHeap) : Type 0 where
   pub t : ℕ → ℤ
   pub lent : List Cell
@@ -73,10 +74,12 @@ pub record IsCalled (structs : List StructDef) (s : ℕ → ℤ) (heap : List Ce
 -- a match of the precondition in its new numbers is such a call, in both modes
 abbrev pub MatchIsCall : Type 0
 MatchIsCall =
-    (structs : List StructDef) (s : ℕ → ℤ) (heap : List Cell) (a : SymHeap) (used avoid : List ℕ) (params : List (List ℕ)) (args : List Exp) (pre : SymHeap)
+    (structs : List StructDef) (s : ℕ → ℤ) (heap : List Cell) (a : SymHeap) (used avoid : List ℕ) (params : List (List ℕ)) (args : List Exp)
+    (pre : SymHeap)
     (binding : List (ℕ × Exp)) (frame : SymHeap) → length params ≡ length args →
     (let apart = pre_numbers used (length args) pre in
-    GivesBeside structs s heap a (pre_apart apart pre) (parameters_bound apart 0 args) (others_flexible apart (length args)) avoid binding frame →
+    GivesBeside structs s heap a (pre_apart apart pre) (parameters_bound apart 0 args)
+    (others_flexible apart (length args)) avoid binding frame →
     IsCalled structs s heap a avoid params args pre apart binding frame)
 
 -- a result and a heap are as a post says, under an assignment that agrees with t on what is in use and on logical variables
@@ -89,7 +92,8 @@ pub record PostHolds (structs : List StructDef) (used : List ℕ) (t : ℕ → �
 -- what meets a post, its logical variables being what those of the precondition stand for, is as the post in the caller says
 abbrev pub PostInCaller : Type 0
 PostInCaller =
-    (structs : List StructDef) (used : List ℕ) (apart : Numbers) (binding : List (ℕ × Exp)) (post : Post) (t : ℕ → ℤ) (ret : ℤ) (heap : List Cell) →
+    (structs : List StructDef) (used : List ℕ) (apart : Numbers) (binding : List (ℕ × Exp)) (post : Post) (t : ℕ → ℤ) (ret : ℤ)
+    (heap : List Cell) →
     MeetsPost structs (standing apart binding t) ret heap post → PostHolds structs used t ret heap (post_in_caller used apart binding post)
 
 -- a post beside a frame
@@ -103,8 +107,10 @@ HasVariables used heap = (x : ℕ) → is_one_of (with_heap [] heap) x ≡ true 
 -- and beside what holds the frame, whose variables are in use, it is as the post beside the frame says
 abbrev pub PostBesideFrame : Type 0
 PostBesideFrame =
-    (structs : List StructDef) (used : List ℕ) (apart : Numbers) (binding : List (ℕ × Exp)) (post : Post) (frame : SymHeap) (t : ℕ → ℤ) (ret : ℤ) (whole own kept : List Cell) →
-    HasVariables used frame → Holds structs t kept frame → IsSum structs whole own kept → MeetsPost structs (standing apart binding t) ret own post →
+    (structs : List StructDef) (used : List ℕ) (apart : Numbers) (binding : List (ℕ × Exp)) (post : Post) (frame : SymHeap) (t : ℕ → ℤ)
+    (ret : ℤ) (whole own kept : List Cell) →
+    HasVariables used frame → Holds structs t kept frame → IsSum structs whole own kept →
+    MeetsPost structs (standing apart binding t) ret own post →
     PostHolds structs used t ret whole (post_beside frame (post_in_caller used apart binding post))
 
 -- COVERINGS

@@ -23,12 +23,14 @@ AreSmall names = All (λ x. x < 2147483648) names
 abbrev pub IsSmallBinding : List (ℕ × Exp) → Type 0
 IsSmallBinding binding = All (λ (bound : ℕ × Exp). (bound.0 < 2147483648) × IsSmall bound.1) binding
 
--- a heap within the sizes has fewer than 131,076,001 variables, doubles counted; a state has one more for each local, a binding two for each
+-- a heap within the sizes has fewer than 131,076,001 variables, doubles counted; a state has one more for each local, a binding two for
+-- each
 abbrev pub FewHeapVariables : Type 0
 FewHeapVariables = (names : List ℕ) (heap : SymHeap) → IsWithinSizes heap → length (with_heap names heap) ≤ length names + 131076000
 
 abbrev pub FewStateVariables : Type 0
-FewStateVariables = (names : List ℕ) (state : SymState) → IsWithinSizes state.heap → length (with_state names state) ≤ length names + length state.locals + 131076000
+FewStateVariables = (names : List ℕ) (state : SymState) → IsWithinSizes state.heap →
+    length (with_state names state) ≤ length names + length state.locals + 131076000
 
 abbrev pub FewBindingVariables : Type 0
 FewBindingVariables = (names : List ℕ) (binding : List (ℕ × Exp)) → length (with_binding names binding) ≤ length names + 2 * length binding
@@ -39,25 +41,30 @@ FewDistinct = (names : List ℕ) → length (distinct names) ≤ length names
 
 -- what stays small where each expression does: a heap mapped by a function stays within the sizes
 abbrev pub MappedIsWithinSizes : Type 0
-MappedIsWithinSizes = (f : Exp → Exp) (heap : SymHeap) → ((e : Exp) → IsSmall e → IsSmall (f e)) → IsWithinSizes heap → IsWithinSizes (on_heap f heap)
+MappedIsWithinSizes = (f : Exp → Exp) (heap : SymHeap) → ((e : Exp) → IsSmall e → IsSmall (f e)) → IsWithinSizes heap →
+    IsWithinSizes (on_heap f heap)
 
 -- a heap, a state, a post mapped by a function whose results may occur are well formed where they were
 abbrev pub MappedHeapIsWellFormed : Type 0
 MappedHeapIsWellFormed =
-    (limits : Limits) (structs : List StructDef) (before after : ℕ) (f : Exp → Exp) (heap : SymHeap) → ((e : Exp) → IsExp limits before e → IsExp limits after (f e)) →
+    (limits : Limits) (structs : List StructDef) (before after : ℕ) (f : Exp → Exp) (heap : SymHeap) →
+    ((e : Exp) → IsExp limits before e → IsExp limits after (f e)) →
     IsSymHeap limits structs before heap → IsSymHeap limits structs after (on_heap f heap)
 
 abbrev pub MappedStateIsWellFormed : Type 0
 MappedStateIsWellFormed =
-    (limits : Limits) (structs : List StructDef) (before after slots : ℕ) (f : Exp → Exp) (state : SymState) → ((e : Exp) → IsExp limits before e → IsExp limits after (f e)) →
+    (limits : Limits) (structs : List StructDef) (before after slots : ℕ) (f : Exp → Exp) (state : SymState) →
+    ((e : Exp) → IsExp limits before e → IsExp limits after (f e)) →
     IsState limits structs before slots state → IsState limits structs after slots (on_state f state)
 
 abbrev pub MappedPostIsWellFormed : Type 0
 MappedPostIsWellFormed =
-    (limits : Limits) (structs : List StructDef) (before after : ℕ) (f : Exp → Exp) (post : Post) → ((e : Exp) → IsExp limits before e → IsExp limits after (f e)) →
+    (limits : Limits) (structs : List StructDef) (before after : ℕ) (f : Exp → Exp) (post : Post) →
+    ((e : Exp) → IsExp limits before e → IsExp limits after (f e)) →
     IsPost limits structs before post → IsPost limits structs after (on_post f post)
 
--- what a precondition is matched with in the caller is within the sizes: the heap, the bound variables with the arguments, and the flexible ones
+-- what a precondition is matched with in the caller is within the sizes: the heap, the bound variables with the arguments, and the flexible
+-- ones
 pub record IsCalledWithinSizes (called : CalledPre) : Type 0 where
   pub pre : IsWithinSizes called.pre
   pub bound : IsSmallBinding called.bound
@@ -65,18 +72,22 @@ pub record IsCalledWithinSizes (called : CalledPre) : Type 0 where
 
 abbrev pub CalledIsWithinSizes : Type 0
 CalledIsWithinSizes =
-    (used : List ℕ) (args : List Exp) (pre : SymHeap) → length used ≤ 1073741824 → length args ≤ 32768 → All IsSmall args → IsWithinSizes pre →
+    (used : List ℕ) (args : List Exp) (pre : SymHeap) → length used ≤ 1073741824 → length args ≤ 32768 → All IsSmall args →
+    IsWithinSizes pre →
     IsCalledWithinSizes (called_with used args pre)
 
 -- and so is a post in the caller
 abbrev pub PostIsWithinSizes : Type 0
 PostIsWithinSizes =
-    (used : List ℕ) (apart : Numbers) (binding : List (ℕ × Exp)) (post : Post) → length used ≤ 1073741824 → length binding ≤ 268435456 → IsSmallBinding binding →
-    IsSmall post.ret → IsWithinSizes post.heap → IsSmall (post_in_caller used apart binding post).ret × IsWithinSizes (post_in_caller used apart binding post).heap
+    (used : List ℕ) (apart : Numbers) (binding : List (ℕ × Exp)) (post : Post) → length used ≤ 1073741824 → length binding ≤ 268435456 →
+    IsSmallBinding binding →
+    IsSmall post.ret → IsWithinSizes post.heap →
+    IsSmall (post_in_caller used apart binding post).ret × IsWithinSizes (post_in_caller used apart binding post).heap
 
 -- WELL-FORMEDNESS
 
--- what a precondition is matched with in the caller is well formed: the heap, with as many parts, the variables that are bound, one for each
+-- what a precondition is matched with in the caller is well formed: the heap, with as many parts, the variables that are bound, one for
+-- each
 -- argument, and the flexible ones, no more than variables occur
 pub record IsCalledWellFormed (structs : List StructDef) (params : ℕ) (args : List Exp) (pre : SymHeap) (called : CalledPre) : Type 0 where
   pub heap : IsSymHeap widest structs params called.pre
@@ -89,8 +100,10 @@ pub record IsCalledWellFormed (structs : List StructDef) (params : ℕ) (args : 
 
 abbrev pub CalledIsWellFormed : Type 0
 CalledIsWellFormed =
-    (structs : List StructDef) (before after : ℕ) (used : List ℕ) (args : List Exp) (pre : SymHeap) → AreStructs structs → length used ≤ 1073741824 → length args ≤ 32768 →
-    All (IsExp widest after) args → IsSymHeap widest structs before pre → IsCalledWellFormed structs after args pre (called_with used args pre)
+    (structs : List StructDef) (before after : ℕ) (used : List ℕ) (args : List Exp) (pre : SymHeap) → AreStructs structs →
+    length used ≤ 1073741824 → length args ≤ 32768 →
+    All (IsExp widest after) args → IsSymHeap widest structs before pre →
+    IsCalledWellFormed structs after args pre (called_with used args pre)
 
 -- and so is a post in the caller, with as many parts
 pub record IsPostWellFormed (structs : List StructDef) (params : ℕ) (post read : Post) : Type 0 where
@@ -100,5 +113,7 @@ pub record IsPostWellFormed (structs : List StructDef) (params : ℕ) (post read
 
 abbrev pub PostIsWellFormed : Type 0
 PostIsWellFormed =
-    (structs : List StructDef) (before after : ℕ) (used : List ℕ) (apart : Numbers) (binding : List (ℕ × Exp)) (post : Post) → AreStructs structs → length used ≤ 1073741824 →
-    length binding ≤ 268435456 → All (IsBound widest after) binding → IsPost widest structs before post → IsPostWellFormed structs after post (post_in_caller used apart binding post)
+    (structs : List StructDef) (before after : ℕ) (used : List ℕ) (apart : Numbers) (binding : List (ℕ × Exp)) (post : Post) →
+    AreStructs structs → length used ≤ 1073741824 →
+    length binding ≤ 268435456 → All (IsBound widest after) binding → IsPost widest structs before post →
+    IsPostWellFormed structs after post (post_in_caller used apart binding post)

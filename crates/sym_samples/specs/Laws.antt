@@ -26,10 +26,12 @@ IsShaped structs Junk = Unit {0}
 
 -- the atoms of each well-formed heap are so
 abbrev pub WellFormedIsShaped : Type 0
-WellFormedIsShaped = (limits : Limits) (structs : List StructDef) (params : ℕ) (heap : SymHeap) → IsSymHeap limits structs params heap → All (IsShaped structs) heap.spatial
+WellFormedIsShaped = (limits : Limits) (structs : List StructDef) (params : ℕ) (heap : SymHeap) → IsSymHeap limits structs params heap →
+    All (IsShaped structs) heap.spatial
 
 -- a normal heap whose sources are pairwise distinct variables is met by the cells of its atoms
 abbrev pub NormalIsMet : Type 0
 NormalIsMet =
-    (structs : List StructDef) (pre : SymHeap) → All (IsShaped structs) pre.spatial → All (EachInFact IsLow) pre.pure → has_sample pre ≡ true →
+    (structs : List StructDef) (pre : SymHeap) → All (IsShaped structs) pre.spatial → All (EachInFact IsLow) pre.pure →
+    has_sample pre ≡ true →
     Meets structs (number_of pre.pure) (heap_of structs (number_of pre.pure) pre.spatial) pre

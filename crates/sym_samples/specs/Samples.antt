@@ -65,7 +65,8 @@ zeros (Some def) = map (λ (field : Field). pos 0) def.fields
 -- the cell of an atom: for a segment one whose link holds the end, and whose other fields are 0
 abbrev pub cell_of : List StructDef → (ℕ → ℤ) → Atom → Option Cell
 cell_of structs s (Points at kind fields) = Some record { at = value s at; kind = kind; fields = map (value s) fields }
-cell_of structs s (Seg kind link from to) = Some record { at = value s from; kind = kind; fields = slice_set (zeros (struct_named structs kind)) link (value s to) }
+cell_of structs s (Seg kind link from to) =
+    Some record { at = value s from; kind = kind; fields = slice_set (zeros (struct_named structs kind)) link (value s to) }
 cell_of structs s Junk = None
 
 -- the heap with a cell, if there is one

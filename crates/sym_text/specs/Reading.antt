@@ -1,5 +1,6 @@
 -- How texts of heaps are read, from the front. `proofs/` shows that the readers read the grammar exactly.
-use Rattle.std.specs.Prelude.{◌≡◌, ℕ, zero, suc, ◌+◌, ◌-◌, ◌*◌, nat_lt, nat_le, Bool, true, false, not, ◌&&◌, ◌||◌, List, [], ◌∷◌, ◌++◌, length, map, take, drop, codes, Option, Some, None, unwrap_or, ◌==◌, if◌then◌else◌, pos, negsuc}
+use Rattle.std.specs.Prelude.{◌≡◌, ℕ, zero, suc, ◌+◌, ◌-◌, ◌*◌, nat_lt, nat_le, Bool, true, false, not, ◌&&◌, ◌||◌, List, [], ◌∷◌, ◌++◌}
+use Rattle.std.specs.Prelude.{length, map, take, drop, codes, Option, Some, None, unwrap_or, ◌==◌, if◌then◌else◌, pos, negsuc}
 use Rattle.std.specs.List.{list_any, prefix_len, position, filter}
 use Rattle.std.specs.Str.{bytes_eq}
 use Rattle.std.specs.Char.{is_ascii_digit}
@@ -133,12 +134,14 @@ linked (def ∷ structs) = if has_some def.fields then def.name ∷ linked struc
 
 -- a separator, the name of a field, `:` and its value
 unfoldable pub read_field : List (List ℕ) → List ℕ → List ℕ → Reader Exp
-read_field params separator name = literal separator >>= λ mark. (literal name >>= λ named. (literal (codes ":") >>= λ colon. read_exp params))
+read_field params separator name =
+    literal separator >>= λ mark. (literal name >>= λ named. (literal (codes ":") >>= λ colon. read_exp params))
 
 -- the values of these fields, behind those that are read, and `)`
 unfoldable pub read_fields : List (List ℕ) → List ℕ → List (List ℕ) → List Exp → Reader (List Exp)
 read_fields params separator [] values = literal (codes ")") >>= λ mark. give values
-read_fields params separator (name ∷ names) values = read_field params separator name >>= λ value. read_fields params (codes ",") names (values ++ (value ∷ []))
+read_fields params separator (name ∷ names) values =
+    read_field params separator name >>= λ value. read_fields params (codes ",") names (values ++ (value ∷ []))
 
 -- a cell, behind its address
 unfoldable pub read_cell : List StructDef → List (List ℕ) → Exp → Reader Part
@@ -183,21 +186,27 @@ lead_words structs params facts is_first =
 
 -- what stands behind a word, and begins so
 unfoldable pub word_by : List StructDef → List (List ℕ) → Bool → Bool → List ℕ → Next → Reader Part
-word_by structs params facts is_first word next.Bracket = only_if (bytes_eq (codes "ls") word && has_some (linked structs)) (read_segment structs params)
+word_by structs params facts is_first word next.Bracket =
+    only_if (bytes_eq (codes "ls") word && has_some (linked structs)) (read_segment structs params)
 word_by structs params facts is_first word next.End =
     if bytes_eq (codes "junk") word then give (part.Atom Junk) else only_if (bytes_eq (codes "emp") word && is_first) (give part.Nothing)
-word_by structs params facts is_first word next.Bar = only_if (is_one_of params word) (tail_by structs params facts (Var (place_of params word)) next.Bar)
-word_by structs params facts is_first word next.Equal = only_if (is_one_of params word) (tail_by structs params facts (Var (place_of params word)) next.Equal)
-word_by structs params facts is_first word next.Bang = only_if (is_one_of params word) (tail_by structs params facts (Var (place_of params word)) next.Bang)
+word_by structs params facts is_first word next.Bar =
+    only_if (is_one_of params word) (tail_by structs params facts (Var (place_of params word)) next.Bar)
+word_by structs params facts is_first word next.Equal =
+    only_if (is_one_of params word) (tail_by structs params facts (Var (place_of params word)) next.Equal)
+word_by structs params facts is_first word next.Bang =
+    only_if (is_one_of params word) (tail_by structs params facts (Var (place_of params word)) next.Bang)
 word_by structs params facts is_first word next.Other = never
 
 -- a part that begins with an expression other than a name
 abbrev pub counted_part : List StructDef → List (List ℕ) → Bool → Start → Reader Part
-counted_part structs params facts kind = only_if (exps_may_come structs facts) (exp_by params kind >>= λ left. by_first next_of (tail_by structs params facts left))
+counted_part structs params facts kind =
+    only_if (exps_may_come structs facts) (exp_by params kind >>= λ left. by_first next_of (tail_by structs params facts left))
 
 -- a part that begins so
 unfoldable pub part_by : List StructDef → List (List ℕ) → Bool → Bool → Start → Reader Part
-part_by structs params facts is_first start.Letter = read_word (lead_words structs params facts is_first) >>= λ word. by_first next_of (word_by structs params facts is_first word)
+part_by structs params facts is_first start.Letter =
+    read_word (lead_words structs params facts is_first) >>= λ word. by_first next_of (word_by structs params facts is_first word)
 part_by structs params facts is_first start.Other = never
 part_by structs params facts is_first start.Digit = counted_part structs params facts start.Digit
 part_by structs params facts is_first start.Dollar = counted_part structs params facts start.Dollar

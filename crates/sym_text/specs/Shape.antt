@@ -31,8 +31,10 @@ pub record IsShapedSpec (structs : List StructDef) (spec : Spec) : Type 0 where
 
 -- a heap that is well formed within any limits is so
 abbrev pub WellFormedIsShaped : Type 0
-WellFormedIsShaped = (limits : Limits) (structs : List StructDef) (params : ℕ) (heap : SymHeap) → IsSymHeap limits structs params heap → IsShapedHeap structs heap
+WellFormedIsShaped = (limits : Limits) (structs : List StructDef) (params : ℕ) (heap : SymHeap) → IsSymHeap limits structs params heap
+    → IsShapedHeap structs heap
 
 -- so are the heaps of a spec that is well formed within any limits
 abbrev pub WellFormedSpecIsShaped : Type 0
-WellFormedSpecIsShaped = (limits : Limits) (structs : List StructDef) (params : ℕ) (spec : Spec) → IsSpec limits structs params spec → IsShapedSpec structs spec
+WellFormedSpecIsShaped = (limits : Limits) (structs : List StructDef) (params : ℕ) (spec : Spec) → IsSpec limits structs params spec
+    → IsShapedSpec structs spec

@@ -1,5 +1,6 @@
 -- The texts of expressions, facts, atoms, symbolic heaps and posts.
-use Rattle.std.specs.Prelude.{ℕ, ◌+◌, ◌-◌, nat_lt, Bool, true, false, if◌then◌else◌, List, [], ◌∷◌, ◌++◌, length, map, codes, slice_index_or, unwrap_or}
+use Rattle.std.specs.Prelude.{ℕ, ◌+◌, ◌-◌, nat_lt, Bool, true, false, if◌then◌else◌, List, [], ◌∷◌, ◌++◌, length, map, codes}
+use Rattle.std.specs.Prelude.{slice_index_or, unwrap_or}
 use Rattle.std.specs.List.{join_by}
 use Rattle.std.specs.Option.{option_map}
 use Rattle.std.specs.Fmt.{decimal, signed_decimal}
@@ -33,7 +34,8 @@ fact_text params (Ne left right) = exp_text params left ++ codes "!=" ++ exp_tex
 
 -- the names of the fields of a structure
 abbrev pub field_names : List StructDef → List ℕ → List (List ℕ)
-field_names structs kind = unwrap_or (option_map (λ (def : StructDef). map (λ (field : Field). field.name) def.fields) (struct_named structs kind)) []
+field_names structs kind =
+    unwrap_or (option_map (λ (def : StructDef). map (λ (field : Field). field.name) def.fields) (struct_named structs kind)) []
 
 -- `FIELD:EXP` for each field, one after another
 abbrev pub field_texts : List (List ℕ) → List (List ℕ) → List Exp → List (List ℕ)
@@ -44,9 +46,11 @@ field_texts params (name ∷ names) (field ∷ fields) = (name ++ codes ":" ++ e
 -- `EXP|->KIND(FIELD:EXP,FIELD:EXP)`, `ls[KIND.FIELD](EXP,EXP)` or `junk`
 abbrev pub atom_text : List StructDef → List (List ℕ) → Atom → List ℕ
 atom_text structs params (Points at kind fields) =
-    exp_text params at ++ codes "|->" ++ kind ++ codes "(" ++ join_by (λ text. text) (codes ",") (field_texts params (field_names structs kind) fields) ++ codes ")"
+    exp_text params at ++ codes "|->" ++ kind
+    ++ codes "(" ++ join_by (λ text. text) (codes ",") (field_texts params (field_names structs kind) fields) ++ codes ")"
 atom_text structs params (Seg kind link from to) =
-    codes "ls[" ++ kind ++ codes "." ++ slice_index_or (field_names structs kind) link [] ++ codes "](" ++ exp_text params from ++ codes "," ++ exp_text params to ++ codes ")"
+    codes "ls[" ++ kind ++ codes "." ++ slice_index_or (field_names structs kind) link [] ++ codes "](" ++ exp_text params from ++ codes ","
+    ++ exp_text params to ++ codes ")"
 atom_text structs params Junk = codes "junk"
 
 -- `emp` where there is nothing, else the texts with ` * ` between each two

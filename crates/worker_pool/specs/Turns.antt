@@ -33,7 +33,8 @@ next_in (Yours claim) = next.Yours claim
 next_in (Waits claim) = next.Waits claim
 
 -- the entries are those of the aim, and they are what the log leaves: the keys and answers of its slots. All that was published was seen
-pub record AreCollected (solves : Key → Answer → Type 0) (log : List Event) (program : Program) (aim : Aim) (seen : ℕ) (kept : List Kept) : Type 0 where
+pub record AreCollected (solves : Key → Answer → Type 0) (log : List Event) (program : Program) (aim : Aim) (seen : ℕ)
+    (kept : List Kept) : Type 0 where
   pub entries : AreEntries solves program aim kept
   pub slots : map solution_of kept ≡ map slot_solution (slots_by (replay log) (aimed program aim))
   pub seen_is : seen ≡ published log
@@ -46,7 +47,8 @@ IsTurn solves log program aim seen (Waits claim) = Unit {0}
 
 -- the program was met, and this is next in it
 abbrev pub IsMetTurn : List Event → List Event → Program → Aim → Next → Type 0
-IsMetTurn log later program aim next = (later ≡ met_log log program ++ events_by leader next) × IsNext (replay (met_log log program)) (aimed program aim) next
+IsMetTurn log later program aim next =
+    (later ≡ met_log log program ++ events_by leader next) × IsNext (replay (met_log log program)) (aimed program aim) next
 
 -- the log is as before, or the program was met
 abbrev pub IsMetAtMost : List Event → List Event → Program → Type 0
@@ -56,6 +58,8 @@ IsMetAtMost log later program = (later ≡ log) ⊎ (later ≡ met_log log progr
 abbrev pub GoesOn : List Event → List Event → Program → Aim → Turn → Type 0
 GoesOn log later program aim (Done kept) = later ≡ met_log log program
 GoesOn log later program aim (Yours claim) =
-    ((later ≡ log ++ events_by leader (next.Yours claim)) × IsNext (replay log) (aimed (replay log).program aim) (next.Yours claim)) ⊎ IsMetTurn log later program aim (next.Yours claim)
+    ((later ≡ log ++ events_by leader (next.Yours claim)) × IsNext (replay log) (aimed (replay log).program aim) (next.Yours claim))
+    ⊎ IsMetTurn log later program aim (next.Yours claim)
 GoesOn log later program aim (Waits claim) =
-    ((later ≡ log) × IsNext (replay log) (aimed (replay log).program aim) (next.Waits claim)) ⊎ IsMetTurn log later program aim (next.Waits claim)
+    ((later ≡ log) × IsNext (replay log) (aimed (replay log).program aim) (next.Waits claim))
+    ⊎ IsMetTurn log later program aim (next.Waits claim)

@@ -5,7 +5,7 @@ use Rattle.std.specs.Option.{option_map as map_option}
 use Rattle.std.proofs.lemmas.List.Elements.{All-push}
 use Rattle.exec_laws.specs.Calling.{found}
 use Rattle.sym_exec.specs.Callers.{IsRoomy, fit_in}
-use Rattle.sym_exec.specs.InSetting.{setting_in}
+use Rattle.exec_cells.specs.InSetting.{setting_in}
 use Rattle.sym_exec.proofs.CalledSpecs.{all_more, all_passed, found_one}
 use Rattle.sym_exec.proofs.calls.all_found.Goals.{in-Some+in_ok-push-in-Some, in-None}
 use Rattle.sym_exec.proofs.calls.all_found.Goals as goal

@@ -2,7 +2,7 @@ use Rattle.std.proofs.Common.{◌≡◌, ◌++◌, All, drop, map}
 use Rattle.std.specs.List.{filter_map}
 use Rattle.exec_laws.specs.Calling.{found}
 use Rattle.sym_exec.specs.Callers.{IsRoomy, fit_in}
-use Rattle.sym_exec.specs.InSetting.{setting_with}
+use Rattle.exec_cells.specs.InSetting.{setting_with}
 use Rattle.sym_exec.proofs.calls.all_found.Given as goal
 
 abbrev pub invariant-loop-spec : goal.invariant-loop-spec

@@ -5,9 +5,9 @@ use Rattle.shape_data.specs.WellFormed.{IsSpec, widest}
 use Rattle.sym_matching.specs.Covers.{above}
 use Rattle.std.specs.Prelude.{filter, ltb}
 use Rattle.exec_laws.specs.Values.{operand}
-use Rattle.sym_exec.specs.InSetting.{setting_in}
+use Rattle.exec_cells.specs.InSetting.{setting_in}
 use Rattle.sym_exec.proofs.CalledSpecs.{caller_is}
-use Rattle.sym_exec.proofs.Listed.{callee_fits}
+use Rattle.sym_exec.proofs.FoundCallees.{callee_fits}
 use Rattle.sym_exec.proofs.calls.call.Goals as goal
 
 pub call_callee-requires-clause-caller : goal.call_callee-requires-clause-caller

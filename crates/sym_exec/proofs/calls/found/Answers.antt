@@ -1,6 +1,6 @@
 -- The arguments of the abduction are within the sizes, and the fit is the definition's.
 use Rattle.std.proofs.Common.{◌∙◌, ap, sym, length, subst}
-use Rattle.sym_exec.specs.InSetting.{setting_in}
+use Rattle.exec_cells.specs.InSetting.{setting_in}
 use Rattle.sym_matching.specs.Matches.{biabduce_avoiding}
 use Rattle.sym_matching.specs.Steps.{contradicts}
 use Rattle.sym_renaming.specs.Sizes.{AreSmall, IsSmallBinding}

@@ -1,6 +1,6 @@
 -- The arguments of the subtraction are within the sizes, and the fit is the definition's.
 use Rattle.std.proofs.Common.{◌∙◌, ap, sym, length, subst}
-use Rattle.sym_exec.specs.InSetting.{setting_in}
+use Rattle.exec_cells.specs.InSetting.{setting_in}
 use Rattle.sym_matching.specs.Matches.{subtract_avoiding}
 use Rattle.sym_renaming.specs.Sizes.{AreSmall, IsSmallBinding}
 use Rattle.sym_exec.proofs.CalledSpecs.{called_within, heap_within, pre_within, subtracted_roomy, subtracted_some}

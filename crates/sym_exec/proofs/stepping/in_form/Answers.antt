@@ -1,7 +1,7 @@
 -- Each case is kept in its form, or left out.
 use Rattle.std.proofs.Common.{◌∙◌, sym}
 use Rattle.exec_laws.specs.Execution.{formed_case}
-use Rattle.sym_exec.specs.InSetting.{setting_in}
+use Rattle.exec_cells.specs.InSetting.{setting_in}
 use Rattle.sym_exec.proofs.Collected.{kept_more, passed_more}
 use Rattle.sym_exec.proofs.stepping.in_form.Goals as goal
 

@@ -1,7 +1,7 @@
 use Rattle.std.proofs.Common.{◌≡◌}
 use Rattle.std.specs.List.{filter_map}
 use Rattle.exec_laws.specs.Execution.{formed_case}
-use Rattle.sym_exec.specs.InSetting.{setting_with}
+use Rattle.exec_cells.specs.InSetting.{setting_with}
 use Rattle.sym_exec.proofs.stepping.in_form.Given as goal
 
 abbrev pub invariant-loop-case : goal.invariant-loop-case

@@ -1,0 +1,4 @@
+pub mod ExposeTurns
+pub mod Listed
+pub mod LowForms
+pub mod LowVariables

@@ -1,0 +1,4 @@
+pub mod Accesses
+pub mod InSetting
+pub mod Sizes
+pub mod Turns

@@ -1,7 +1,0 @@
-use Rattle.std.proofs.Common.{◌≡◌}
-use Rattle.exec_laws.specs.Cells.{for_each_case}
-use Rattle.sym_exec.specs.Accesses.{use_of}
-use Rattle.sym_exec.proofs.cells.for_each_case.Given as goal
-
-abbrev pub invariant-loop-one : goal.invariant-loop-one
-invariant-loop-one l = l.cases.items ≡ for_each_case (use_of l.access l.base l.next) l.base l.yielded

@@ -1,6 +1,0 @@
-use Rattle.std.proofs.Common.{arith}
-use Rattle.sym_exec.proofs.LowVariables.{low_room}
-use Rattle.sym_exec.proofs.exposing.unfolded_of_def.Goals as goal
-
-pub new_existentials-requires : goal.new_existentials-requires
-new_existentials-requires c = low_room c.len.result c.args.pair.now c.requires.low (omega arith)
