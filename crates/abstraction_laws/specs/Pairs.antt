@@ -119,8 +119,10 @@ abbrev pub lose_in_pair : ℕ → Pair → Pair
 lose_in_pair params pair = record {
   missing = heap_without_disequalities (is_lost_among params (exps_beside_facts pair)) pair.missing;
   state =
-    record { locals = pair.state.locals;
-    heap = heap_without_disequalities (is_lost_among params (exps_beside_facts pair)) pair.state.heap };
+      record {
+        locals = pair.state.locals;
+        heap = heap_without_disequalities (is_lost_among params (exps_beside_facts pair)) pair.state.heap;
+      };
 }
 
 -- the five steps, once and in order

@@ -24,8 +24,12 @@ strict flow callees =
 -- the analysis of a procedure that calls itself, while no spec of it is known: strict, or under a cut table
 abbrev pub unknown : Flow → Bool → Task
 unknown flow cut =
-    record { flow = flow; structs = node_struct ∷ []; table = record { own = callee flow.name flow.params [] ∷ []; outer = []; cut = cut };
-    recursive = true }
+    record {
+      flow = flow;
+      structs = node_struct ∷ [];
+      table = record { own = callee flow.name flow.params [] ∷ []; outer = []; cut = cut };
+      recursive = true;
+    }
 
 -- the procedure that reads, where the one that it calls has its spec
 abbrev pub read_task : Task

@@ -56,7 +56,7 @@ abbrev mutual
   placeless_expr (Expr.Paren place inner) = Expr.Paren nowhere (placeless_expr inner)
   placeless_expr (Expr.Call callee args) = Expr.Call (placeless_name callee) (placeless_args args)
   placeless_expr (Expr.Malloc place as_type target) =
-    Expr.Malloc nowhere (placeless_maybe placeless_specifier as_type) (placeless_specifier target)
+      Expr.Malloc nowhere (placeless_maybe placeless_specifier as_type) (placeless_specifier target)
 
   pub placeless_links : Links → Links
   placeless_links Links.NoLinks = Links.NoLinks
@@ -95,7 +95,7 @@ abbrev mutual
   placeless_stmt (Stmt.Do s) = Stmt.Do (placeless_simple s)
   placeless_stmt (Stmt.If place test body) = Stmt.If nowhere (placeless_expr test) (placeless_stmt body)
   placeless_stmt (Stmt.IfElse place test body other) =
-    Stmt.IfElse nowhere (placeless_expr test) (placeless_stmt body) (placeless_stmt other)
+      Stmt.IfElse nowhere (placeless_expr test) (placeless_stmt body) (placeless_stmt other)
   placeless_stmt (Stmt.While place test body) = Stmt.While nowhere (placeless_expr test) (placeless_stmt body)
   placeless_stmt (Stmt.DoWhile place body test) = Stmt.DoWhile nowhere (placeless_stmt body) (placeless_expr test)
   placeless_stmt (Stmt.For place init test step body) =

@@ -35,13 +35,13 @@ IsCalled used c callee operands first before old new found =
 abbrev pub LeadsWhereHolds : ℕ → Out → Out → Type 0
 LeadsWhereHolds from old new =
     from ≤ length old.nodes → length old.nodes < 4294967296
-      → new ≡ led_out from (length old.nodes) (record as_they_are { holds = At (length old.nodes) }) old
+    → new ≡ led_out from (length old.nodes) (record as_they_are { holds = At (length old.nodes) }) old
 
 -- the same, where it doesn't hold
 abbrev pub LeadsWhereFails : ℕ → Out → Out → Type 0
 LeadsWhereFails from old new =
     from ≤ length old.nodes → length old.nodes < 4294967296
-      → new ≡ led_out from (length old.nodes) (record as_they_are { fails = At (length old.nodes) }) old
+    → new ≡ led_out from (length old.nodes) (record as_they_are { fails = At (length old.nodes) }) old
 
 -- OPERATORS, behind any operands. A test begins at `from`, and its value goes to the slot `to`
 

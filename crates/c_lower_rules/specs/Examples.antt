@@ -15,8 +15,8 @@ head = record {
   specifier = Specifier.Int (at 1);
   declarator = plain_name (codes "f") 5;
   params =
-    Params.Listed
-    (record { specifier = Specifier.Struct (at 7) (named (codes "node") 14); stars = 1; name = Some (named (codes "p") 20) }) [];
+      Params.Listed
+      (record { specifier = Specifier.Struct (at 7) (named (codes "node") 14); stars = 1; name = Some (named (codes "p") 20) }) [];
 }
 
 -- statements as a body

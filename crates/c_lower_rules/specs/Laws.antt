@@ -77,8 +77,8 @@ pub record HaveExamples : Type 0 where
       ∷ closing (cmd.Any 1 Int 2) ∷ closing (cmd.Return (Slot 1)) ∷ []
   -- `do { break; return 1; } while (1); return 2;`: a run begins behind the loop
   pub begins_later : nodes
-    (Stmt.DoWhile (at 1) (Stmt.Block (at 1) (body (Stmt.Break (at 1) ∷ returns (number 1 8) ∷ [])) (at 9)) (number 1 1)
-    ∷ returns (number 2 8) ∷ []) ≡
+      (Stmt.DoWhile (at 1) (Stmt.Block (at 1) (body (Stmt.Break (at 1) ∷ returns (number 1 8) ∷ [])) (at 9)) (number 1 1)
+      ∷ returns (number 2 8) ∷ []) ≡
       step (cmd.Branch test.Ne false (Num (pos 1)) (Num (pos 0)) 3 3)
       ∷ loop [] (1 ∷ []) (cmd.Return (Num (pos 1))) ∷ step (cmd.Branch test.Ne false (Num (pos 1)) (Num (pos 0)) 3 3)
       ∷ step (cmd.Return (Num (pos 2)))

@@ -143,8 +143,10 @@ pub record Lowered : Type 0 where
 -- behind the declaration of a local (C11 6.2.1)
 abbrev pub with_local : Context → ℕ → Specifier → Initialized → Context
 with_local c locals specifier one =
-    record c { env = behind_local c.env specifier one;
-      bound = record { name = one.declarator.name.text; slot = c.first_local + locals } ∷ c.bound }
+    record c {
+      env = behind_local c.env specifier one;
+      bound = record { name = one.declarator.name.text; slot = c.first_local + locals } ∷ c.bound;
+    }
 
 -- a local holds any value, or that of its initializer (C11 6.7.9), in which its name means it already
 abbrev pub initial : Context → ℕ → Ty → Option Expr → List Temp → Piece
@@ -264,8 +266,10 @@ abbrev mutual
   stmt (Stmt.DoWhile place body e) before =
       stmt body (inside before)
       ▹ (λ b. condition (with_names before b.behind) e
-      ▹ (λ t. record { code = repeat_first (visible before.context) b.code t.test;
-        behind = with_temps (with_names before b.behind) t.temps }))
+      ▹ (λ t. record {
+        code = repeat_first (visible before.context) b.code t.test;
+        behind = with_temps (with_names before b.behind) t.temps;
+      }))
   stmt (Stmt.For place first e step body) before =
       for_init (inside before) place first
       ▹ (λ i. for_condition i.behind place e

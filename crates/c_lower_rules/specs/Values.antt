@@ -111,7 +111,7 @@ abbrev pub truth : Context → (List Temp → Tested) → Lowering
 truth c testing = record {
   kind = Int;
   value = λ temps. take_temp Int temps
-    ▹ (λ taken. truth_value (slot_taken c taken) (put_truth c (slot_taken c taken) (testing taken.temps)));
+      ▹ (λ taken. truth_value (slot_taken c taken) (put_truth c (slot_taken c taken) (testing taken.temps)));
   into = λ to temps. put_truth c to (testing temps);
   test = testing;
 }

@@ -47,7 +47,7 @@ for_loop = body (Stmt.For (at 1) (ForInit.Locals (int_local (codes "i") (Some (n
 pub record HaveExamples : Type 0 where
   -- `return p && p->v || 0;`
   pub short_circuit : stmts_size
-    (body (returns (Expr.Chain (two BinaryOp.And p p_v) (Links.Link BinaryOp.Or (number 0 9) Links.NoLinks)) ∷ [])) ≡ 7
+      (body (returns (Expr.Chain (two BinaryOp.And p p_v) (Links.Link BinaryOp.Or (number 0 9) Links.NoLinks)) ∷ [])) ≡ 7
   -- `p->v += p->v;`
   pub updates : stmts_size (body (Stmt.Do (Simple.Assign p_v AssignOp.AddTo p_v) ∷ [])) ≡ 4
   -- `p->n->v = p->v;`

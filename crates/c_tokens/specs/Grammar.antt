@@ -32,7 +32,7 @@ pub data IsDirective : List ℕ → Stage → Type 0 where
 pub data IsInclude (line behind : List ℕ) : Type 0 where
   bare : IsDirective line AtHeader → IsLineEnd behind → IsInclude line behind
   commented : (front comment : List ℕ) → IsDirective front AtHeader → IsLineComment comment behind → line ≡ front ++ comment
-    → IsInclude line behind
+      → IsInclude line behind
 
 -- the bytes begin with an `#include` line
 abbrev pub BeginsInclude : List ℕ → Type 0
@@ -69,7 +69,7 @@ pub data IsPiece (at : Position) (piece behind : List ℕ) : List Token → Bool
   line_comment : IsLineComment piece behind → IsPiece at piece behind [] at.fresh
   include : at.fresh ≡ true → IsInclude piece behind → IsPiece at piece behind [] false
   token : (kind : TokenKind) → IsToken kind piece → IsLongest piece behind
-    → IsPiece at piece behind (token_at kind piece at.place ∷ []) false
+      → IsPiece at piece behind (token_at kind piece at.place ∷ []) false
 
 -- from one position up to a later one the bytes are pieces, one after the other, with these tokens; the rest stands behind
 pub data Reads : Position → List ℕ → List Token → Position → List ℕ → Type 0 where

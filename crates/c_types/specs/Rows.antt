@@ -18,8 +18,8 @@ body list = record {
         specifier = Specifier.Int (at 41);
         declarator = plain_name (codes "f") 45;
         params =
-          Params.Listed
-          (record { specifier = Specifier.Struct (at 47) (named (codes "node") 54); stars = 1; name = Some (named (codes "p") 60) }) [];
+            Params.Listed
+            (record { specifier = Specifier.Struct (at 47) (named (codes "node") 54); stars = 1; name = Some (named (codes "p") 60) }) [];
       })
       (at 63) (stmts list) (at 90) ∷ [];
 } ∷ []
@@ -78,7 +78,8 @@ pub record HaveRows : Type 0 where
   -- a test is an int or a pointer: `if (p) ;`; 126: `while (f(p)) ;`
   pub condition : first_refusal (body (Stmt.If (at 65) (p 69) (Stmt.Empty (at 72)) ∷ [])) ≡ None
   pub call_in_test : first_refusal
-    (body (Stmt.While (at 65) (Expr.Call (named (codes "f") 72) (Args.Arg (p 74) Args.NoArgs)) (Stmt.Empty (at 78)) ∷ [])) ≡ refused 72 126
+      (body (Stmt.While (at 65) (Expr.Call (named (codes "f") 72) (Args.Arg (p 74) Args.NoArgs)) (Stmt.Empty (at 78)) ∷ []))
+      ≡ refused 72 126
   -- `f(p);` is accepted; 124: `f();`
   pub called : first_refusal (body (Stmt.Do (Simple.Perform (named (codes "f") 65) (Args.Arg (p 67) Args.NoArgs)) ∷ [])) ≡ None
   pub few : first_refusal (body (Stmt.Do (Simple.Perform (named (codes "f") 65) Args.NoArgs) ∷ [])) ≡ refused 65 124
@@ -93,62 +94,65 @@ pub record HaveRows : Type 0 where
   pub initial : first_refusal (body (declare (int 65) (initialized 0 69 (Some (p 73))) ∷ [])) ≡ refused 65 122
   pub int_pointer : first_refusal (body (declare (int 65) (initialized 1 70 None) ∷ [])) ≡ refused 65 126
   pub structure : first_refusal (body (declare (Specifier.Struct (at 65) (named (codes "node") 72)) (initialized 0 77 None) ∷ []))
-    ≡ refused 65 126
+      ≡ refused 65 126
   pub no_tag : first_refusal (body (declare (Specifier.Struct (at 65) (named (codes "nope") 72)) (initialized 1 78 None) ∷ []))
-    ≡ refused 72 121
+      ≡ refused 72 121
   -- 123: `int x; int x;`, and a parameter's name, `int p;`; an inner scope hides it, `{ int p; }`
   pub second : first_refusal (body (declare (int 65) (initialized 0 69 None) ∷ declare (int 72) (initialized 0 76 None) ∷ []))
-    ≡ refused 76 123
+      ≡ refused 76 123
   pub second_param : first_refusal
-    (body (Stmt.Declare
-    (record { specifier = int 65; first = record { declarator = plain_name (codes "p") 69; value = None }; others = [] }) ∷ []))
-    ≡ refused 69 123
+      (body (Stmt.Declare
+      (record { specifier = int 65; first = record { declarator = plain_name (codes "p") 69; value = None }; others = [] }) ∷ []))
+      ≡ refused 69 123
   pub hidden : first_refusal
-    (body (Stmt.Block (at 65)
-    (stmts (Stmt.Declare
-    (record { specifier = int 67; first = record { declarator = plain_name (codes "p") 71; value = None }; others = [] }) ∷ [])) (at 74)
-    ∷ [])) ≡ None
+      (body (Stmt.Block (at 65)
+      (stmts (Stmt.Declare
+      (record { specifier = int 67; first = record { declarator = plain_name (codes "p") 71; value = None }; others = [] }) ∷ [])) (at 74)
+      ∷ [])) ≡ None
   -- 121: a name of an inner scope behind it, `{ int x; } x = 1;` and `for (int x = 0; x; x++) ; x = 1;`
   pub outside : first_refusal
-    (body (Stmt.Block (at 65) (stmts (declare (int 67) (initialized 0 71 None) ∷ [])) (at 74) ∷ set (x 76) (number 1 80) ∷ []))
-    ≡ refused 76 121
+      (body (Stmt.Block (at 65) (stmts (declare (int 67) (initialized 0 71 None) ∷ [])) (at 74) ∷ set (x 76) (number 1 80) ∷ []))
+      ≡ refused 76 121
   pub outside_for : first_refusal
-    (body (Stmt.For (at 65) (ForInit.Locals (record { specifier = int 66; first = initialized 0 67 (Some (number 0 68)); others = [] }))
-    (Some (x 69)) (Some (Simple.Step (x 70) StepOp.Increment)) (Stmt.Empty (at 71)) ∷ set (x 72) (number 1 73) ∷ [])) ≡ refused 72 121
+      (body (Stmt.For (at 65) (ForInit.Locals (record { specifier = int 66; first = initialized 0 67 (Some (number 0 68)); others = [] }))
+      (Some (x 69)) (Some (Simple.Step (x 70) StepOp.Increment)) (Stmt.Empty (at 71)) ∷ set (x 72) (number 1 73) ∷ [])) ≡ refused 72 121
   -- the first of two: `q = p + 1;`
   pub first_of_two : first_refusal (body (set (variable (codes "q") 65) (two BinaryOp.Add (p 69) (number 1 73)) ∷ [])) ≡ refused 65 121
   -- a prototype with the same types is accepted, `int f(struct node *);`; 122: `int f(int a);`
   pub prototype : first_refusal
-    (more (Item.Prototype
-    (head (int 100) (plain_name (codes "f") 104) (Params.Listed (param (Specifier.Struct (at 106) (named (codes "node") 113)) 1 None) []))))
-    ≡ None
+      (more (Item.Prototype
+      (head (int 100) (plain_name (codes "f") 104)
+      (Params.Listed (param (Specifier.Struct (at 106) (named (codes "node") 113)) 1 None) []))))
+      ≡ None
   pub clash : first_refusal
-    (more (Item.Prototype
-    (head (int 100) (plain_name (codes "f") 104) (Params.Listed (param (int 106) 0 (Some (named (codes "a") 110))) [])))) ≡ refused 100 122
+      (more (Item.Prototype
+      (head (int 100) (plain_name (codes "f") 104) (Params.Listed (param (int 106) 0 (Some (named (codes "a") 110))) []))))
+      ≡ refused 100 122
   -- 123: `int f(struct node *a) { }`
   pub defined : first_refusal
-    (more (Item.Definition
-    (head (int 100) (plain_name (codes "f") 104)
-    (Params.Listed (param (Specifier.Struct (at 106) (named (codes "node") 113)) 1 (Some (named (codes "a") 119))) []))
-    (at 122) Stmts.NoStmts (at 124))) ≡ refused 104 123
+      (more (Item.Definition
+      (head (int 100) (plain_name (codes "f") 104)
+      (Params.Listed (param (Specifier.Struct (at 106) (named (codes "node") 113)) 1 (Some (named (codes "a") 119))) []))
+      (at 122) Stmts.NoStmts (at 124))) ≡ refused 104 123
   -- 123: `int g(int a, int a);`; 126: `int *g();` and `void g(int) { }`
   pub params : first_refusal
-    (more (Item.Prototype
-    (head (int 100) (plain_name (codes "g") 104)
-    (Params.Listed (param (int 106) 0 (Some (named (codes "a") 110))) (param (int 113) 0 (Some (named (codes "a") 117)) ∷ [])))))
-    ≡ refused 117 123
+      (more (Item.Prototype
+      (head (int 100) (plain_name (codes "g") 104)
+      (Params.Listed (param (int 106) 0 (Some (named (codes "a") 110))) (param (int 113) 0 (Some (named (codes "a") 117)) ∷ [])))))
+      ≡ refused 117 123
   pub result : first_refusal (more (Item.Prototype (head (int 100) (pointer_name (codes "g") 105) Params.NoParams))) ≡ refused 100 126
   pub unnamed : first_refusal
-    (more (Item.Definition (head (Specifier.Void (at 100)) (plain_name (codes "g") 105) (Params.Listed (param (int 107) 0 None) []))
-    (at 112) Stmts.NoStmts (at 114))) ≡ refused 107 126
+      (more (Item.Definition (head (Specifier.Void (at 100)) (plain_name (codes "g") 105) (Params.Listed (param (int 107) 0 None) []))
+      (at 112) Stmts.NoStmts (at 114))) ≡ refused 107 126
   -- 125: `struct node { int v; };`; 123: `struct s { int v; int v; };`; 126: `struct s { int *v; };`
   pub differs : first_refusal (more (Item.StructItem (at 100) (named (codes "node") 107) (fields (int 114) 0 (codes "v") 118 ∷ [])))
-    ≡ refused 107 125
+      ≡ refused 107 125
   pub fields_second : first_refusal
-    (more (Item.StructItem (at 100) (named (codes "s") 107) (fields (int 111) 0 (codes "v") 115 ∷ fields (int 118) 0 (codes "v") 122 ∷ [])))
-    ≡ refused 122 123
+      (more (Item.StructItem (at 100) (named (codes "s") 107)
+      (fields (int 111) 0 (codes "v") 115 ∷ fields (int 118) 0 (codes "v") 122 ∷ [])))
+      ≡ refused 122 123
   pub field : first_refusal (more (Item.StructItem (at 100) (named (codes "s") 107) (fields (int 111) 1 (codes "v") 116 ∷ [])))
-    ≡ refused 111 126
+      ≡ refused 111 126
   -- 121: `typedef struct nope t;`; 123: `typedef struct node f;`
   pub alias_unknown : first_refusal (more (Item.TypedefAlias (at 100) (named (codes "nope") 115) (named (codes "t") 120))) ≡ refused 115 121
   pub alias_second : first_refusal (more (Item.TypedefAlias (at 100) (named (codes "node") 115) (named (codes "f") 120))) ≡ refused 120 123

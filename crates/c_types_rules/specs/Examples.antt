@@ -38,8 +38,8 @@ with_pointer e = Item.Definition
       specifier = Specifier.Int (at 41);
       declarator = plain_name (codes "f") 45;
       params =
-        Params.Listed
-        (record { specifier = Specifier.Struct (at 47) (named (codes "node") 54); stars = 1; name = Some (named (codes "p") 60) }) [];
+          Params.Listed
+          (record { specifier = Specifier.Struct (at 47) (named (codes "node") 54); stars = 1; name = Some (named (codes "p") 60) }) [];
     })
     (at 63) (Stmts.Next (Stmt.Return (at 65) (Some e)) Stmts.NoStmts) (at 90)
 

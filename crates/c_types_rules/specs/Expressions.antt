@@ -190,7 +190,7 @@ abbrev mutual
   -- what is refused in an expression where no call and no `malloc` may stand
   pub expr_refusals : Env → Expr → List Refusal
   expr_refusals env (Expr.Chain first others) =
-    expr_refusals env first ++ links_refusals env (place_of_expr first) (kind_of env first) (given_by env first) (is_null first) others
+      expr_refusals env first ++ links_refusals env (place_of_expr first) (kind_of env first) (given_by env first) (is_null first) others
   expr_refusals env (Expr.Prefix place op inner) = expr_refusals env inner ++ unless (may_stand_behind op (given_by env inner)) place CLASH
   expr_refusals env (Expr.Members base first others) =
       expr_refusals env base ++ members_refusals env.tables (place_of_expr base) (kind_of env base) (first ∷ others)

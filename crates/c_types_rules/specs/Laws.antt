@@ -41,10 +41,10 @@ pub record HaveExamples : Type 0 where
   -- `p->v`: nothing is refused; the types are the pointer and the int
   pub member : first_refusal (files (Expr.Members (variable (codes "p") 72) (named (codes "v") 75) [])) ≡ None
   pub member_kinds : kinds_of (files (Expr.Members (variable (codes "p") 72) (named (codes "v") 75) []))
-    ≡ Some (Ptr (codes "node")) ∷ Some Int ∷ []
+      ≡ Some (Ptr (codes "node")) ∷ Some Int ∷ []
   -- `p->n->v`
   pub members : kinds_of (files (Expr.Members (variable (codes "p") 72) (named (codes "n") 75) (named (codes "v") 78 ∷ [])))
-    ≡ Some (Ptr (codes "node")) ∷ Some (Ptr (codes "node")) ∷ Some Int ∷ []
+      ≡ Some (Ptr (codes "node")) ∷ Some (Ptr (codes "node")) ∷ Some Int ∷ []
   -- `p`: a pointer is no int; the statement is refused
   pub pointer : first_refusal (files (variable (codes "p") 72)) ≡ refused 65 122
   -- `p == 0` is a test; `p == 1` is none
@@ -57,21 +57,21 @@ pub record HaveExamples : Type 0 where
   -- `f(p)` may stand there, and within `1 + f(p)` it may not; `f()` has too few arguments, and `f(1)` one that clashes
   pub call : first_refusal (files (Expr.Call (named (codes "f") 72) (Args.Arg (variable (codes "p") 74) Args.NoArgs))) ≡ None
   pub call_within : first_refusal
-    (files (two BinaryOp.Add (number 1 72) (Expr.Call (named (codes "f") 76) (Args.Arg (variable (codes "p") 78) Args.NoArgs))))
-    ≡ refused 76 126
+      (files (two BinaryOp.Add (number 1 72) (Expr.Call (named (codes "f") 76) (Args.Arg (variable (codes "p") 78) Args.NoArgs))))
+      ≡ refused 76 126
   pub few : first_refusal (files (Expr.Call (named (codes "f") 72) Args.NoArgs)) ≡ refused 72 124
   pub clash : first_refusal (files (Expr.Call (named (codes "f") 72) (Args.Arg (number 1 74) Args.NoArgs))) ≡ refused 72 122
   -- the smallest expression that breaks a rule is refused: `1 + (p - 1)`
   pub smallest : first_refusal
-    (files (two BinaryOp.Add (number 1 72) (Expr.Paren (at 76) (two BinaryOp.Subtract (variable (codes "p") 77) (number 1 81)))))
-    ≡ refused 77 122
+      (files (two BinaryOp.Add (number 1 72) (Expr.Paren (at 76) (two BinaryOp.Subtract (variable (codes "p") 77) (number 1 81)))))
+      ≡ refused 77 122
   -- the first of two in the order of the text: `1 + (p - q)`
   pub first_of_two : first_refusal
-    (files (two BinaryOp.Add (number 1 72)
-    (Expr.Paren (at 76) (two BinaryOp.Subtract (variable (codes "p") 77) (variable (codes "q") 81))))) ≡ refused 77 122
+      (files (two BinaryOp.Add (number 1 72)
+      (Expr.Paren (at 76) (two BinaryOp.Subtract (variable (codes "p") 77) (variable (codes "q") 81))))) ≡ refused 77 122
   -- a type that is not known clashes with nothing: `q + 1`
   pub unknown : first_refusal (files (two BinaryOp.Add (variable (codes "q") 72) (number 1 76))) ≡ refused 72 121
   -- `malloc` is out of place in `p == malloc(sizeof(struct node))`, and clashes with nothing
   pub out_of_place : first_refusal
-    (files (two BinaryOp.Equal (variable (codes "p") 72) (Expr.Malloc (at 77) None (Specifier.Struct (at 91) (named (codes "node") 98)))))
-    ≡ refused 77 126
+      (files (two BinaryOp.Equal (variable (codes "p") 72) (Expr.Malloc (at 77) None (Specifier.Struct (at 91) (named (codes "node") 98)))))
+      ≡ refused 77 126

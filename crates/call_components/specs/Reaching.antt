@@ -32,7 +32,7 @@ pub record IsReaching (calls : List (List ℕ)) (starts : List ℕ) (marks : Lis
   pub start : (number : ℕ) → holds starts number ≡ true → marked marks number ≡ true
   pub todo_marked : (number : ℕ) → holds todo number ≡ true → marked marks number ≡ true
   pub closed : (one callee : ℕ) → marked marks one ≡ true → holds (calls_of calls one) callee ≡ true
-    → (marked marks callee ≡ true) ⊎ (holds todo one ≡ true)
+      → (marked marks callee ≡ true) ⊎ (holds todo one ≡ true)
 
 -- whoever is called is defined
 abbrev pub AreDefined : List (List ℕ) → Type 0

@@ -39,17 +39,17 @@ pub record IsSearching (calls : List (List ℕ)) (marks : List Mark) (stack : Li
   pub opened : (place number : ℕ) → slice_get stack place ≡ Some number → mark_of marks number ≡ Open place
   pub stacked : (place number : ℕ) → mark_of marks number ≡ Open place → slice_get stack place ≡ Some number
   pub rising : (i j : ℕ) (entry later : Entry) → i < j → slice_get entries i ≡ Some entry → slice_get entries j ≡ Some later →
-    (entry.first < later.first) × (entry.todo ≤ later.todo)
+      (entry.first < later.first) × (entry.todo ≤ later.todo)
   pub within : (i : ℕ) (entry : Entry) → slice_get entries i ≡ Some entry → (entry.first < length stack) × (entry.todo ≤ length todo)
   pub bottom : 0 < length stack → (entry : Entry) × (slice_get entries 0 ≡ Some entry) × (entry.first ≡ 0)
   pub edges : (i place number callee : ℕ) (entry : Entry) → slice_get entries i ≡ Some entry → entry.first ≤ place →
-    slice_get stack place ≡ Some number → holds (calls_of calls number) callee ≡ true → IsSeen marks entry todo callee
+      slice_get stack place ≡ Some number → holds (calls_of calls number) callee ≡ true → IsSeen marks entry todo callee
   pub reach : (one other number reached_number : ℕ) → slice_get stack one ≡ Some number → slice_get stack other ≡ Some reached_number →
       ((i : ℕ) (entry : Entry) → slice_get entries i ≡ Some entry → entry.first ≤ one → entry.first ≤ other) →
       Reaches calls number reached_number
   pub called : (turn callee : ℕ) → slice_get todo turn ≡ Some callee → IsCalled calls stack entries turn callee
   pub closed : (number callee class : ℕ) → mark_of marks number ≡ Done class → holds (calls_of calls number) callee ≡ true →
-    (other : ℕ) × (mark_of marks callee ≡ Done other) × (other ≤ class)
+      (other : ℕ) × (mark_of marks callee ≡ Done other) × (other ≤ class)
   pub classes : (number other class : ℕ) → mark_of marks number ≡ Done class → mark_of marks other ≡ Done class → Reaches calls number other
   pub counted : (number class : ℕ) → mark_of marks number ≡ Done class → class < count
 

@@ -39,7 +39,7 @@ pub data IsHeld (all : List (List ℕ)) (marks : List Bool) (wakes rest : List �
   IsReady : holds ready place ≡ true → IsHeld all marks wakes rest needs waits ready place
   IsLeft : holds rest place ≡ true → IsHeld all marks wakes rest needs waits ready place
   IsWaiting : (number : ℕ) → holds (calls_of needs place) number ≡ true → holds (calls_of waits number) place ≡ true →
-    (marked marks number ≡ false) ⊎ (holds wakes number ≡ true) →
+      (marked marks number ≡ false) ⊎ (holds wakes number ≡ true) →
       IsHeld all marks wakes rest needs waits ready place
 
 -- each class is held; whom it calls outside is listed or needed, and once it is ready all of them are listed
@@ -47,7 +47,7 @@ pub record AreHeld (all outs : List (List ℕ)) (marks : List Bool) (wakes rest 
     (ready : List ℕ) : Type 0 where
   pub own : (place number : ℕ) → holds (calls_of needs place) number ≡ true → holds (calls_of outs place) number ≡ true
   pub needed : (place number : ℕ) → holds (calls_of outs place) number ≡ true →
-    (marked marks number ≡ true) ⊎ (holds (calls_of needs place) number ≡ true)
+      (marked marks number ≡ true) ⊎ (holds (calls_of needs place) number ≡ true)
   pub listed : (place number : ℕ) → holds ready place ≡ true → holds (calls_of outs place) number ≡ true → marked marks number ≡ true
   pub each : (place : ℕ) → place < length all → IsHeld all marks wakes rest needs waits ready place
 

@@ -31,8 +31,12 @@ calling flow callees =
 -- the analysis of a procedure that calls itself, while it is known by these specs
 abbrev pub known_by : Flow → List Spec → Task
 known_by flow specs =
-    record { flow = flow; structs = node_struct ∷ [];
-    table = record { own = callee flow.name flow.params specs ∷ []; outer = []; cut = true }; recursive = true }
+    record {
+      flow = flow;
+      structs = node_struct ∷ [];
+      table = record { own = callee flow.name flow.params specs ∷ []; outer = []; cut = true };
+      recursive = true;
+    }
 
 -- these candidates, and no drop
 abbrev pub found : List SymHeap → Found

@@ -89,7 +89,7 @@ placed proc spec gap = record { proc = proc; spec = spec; line = gap.line; fault
 abbrev pub summary_gap : Task → ℕ → ProcSummary → Option Gap
 summary_gap task proc summary =
     first_found (λ place (both : Spec × Cert). option_map (placed proc place) (spec_gap task both.0 both.1)) 0
-      (zip summary.specs summary.certs)
+    (zip summary.specs summary.certs)
 
 -- THE FIRST GAP of an answer, by procedure
 abbrev pub first_gap : Key → Answer → Option Gap

@@ -96,4 +96,4 @@ pub record Inductive (key : Key) (answer : Answer) : Type 0 where
   pub is_key : IsKey widest key
   pub is_answer : IsAnswer widest key answer
   pub specs : (flow : Flow) (summary : ProcSummary) → Summarizes key answer flow summary
-    → IsInductiveSummary (task_of key answer flow) summary
+      → IsInductiveSummary (task_of key answer flow) summary

@@ -25,7 +25,7 @@ pub record IsOut (world : World) (component : ℕ) : Type 0 where
 pub data IsAboveOut (world : World) : ℕ → Type 0 where
   Itself : {component : ℕ} → IsOut world component → IsAboveOut world component
   Above : {component : ℕ} (standing : Standing) (place : ℕ) (outer : Outer) → standing_at world component ≡ Some standing →
-    standing.settled ≡ None → slice_get standing.part.outer place ≡ Some outer →
+      standing.settled ≡ None → slice_get standing.part.outer place ≡ Some outer →
       IsAboveOut world outer.component → IsAboveOut world component
 
 -- the aim reaches whom its components call

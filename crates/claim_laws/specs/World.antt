@@ -89,8 +89,11 @@ settled_by (Some slot) (Some key) = if key_test.0 slot.key key then Some slot el
 
 abbrev pub standing_of : List StructDef → List Slot → List Standing → Component → Standing
 standing_of structs slots before part =
-    record { part = part; due = due_over structs before part;
-      settled = settled_by (slot_of slots (names_of part.flows)) (due_over structs before part) }
+    record {
+      part = part;
+      due = due_over structs before part;
+      settled = settled_by (slot_of slots (names_of part.flows)) (due_over structs before part);
+    }
 
 -- each component over those before it
 abbrev pub standings_from : List StructDef → List Slot → List Component → List Standing → List Standing

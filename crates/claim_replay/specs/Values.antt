@@ -35,8 +35,13 @@ out_value claim =
 
 abbrev pub world_value : WorldRow → World
 world_value world =
-    record { revision = world.revision; program = world.program.value; slots = map slot_value world.slots; out = map out_value world.out;
-      made = world.made }
+    record {
+      revision = world.revision;
+      program = world.program.value;
+      slots = map slot_value world.slots;
+      out = map out_value world.out;
+      made = world.made;
+    }
 
 -- the program of a revision is well formed
 abbrev pub IsFormed : Told → Type 0
@@ -76,9 +81,9 @@ given_rows flows slots known (outer ∷ others) = both (given_row flows slots kn
 -- what is known of the first components is how they stand
 pub record AreKnown (world : World) (known : List Known) : Type 0 where
   pub due : (place : ℕ) (one : Known) (standing : Standing) → slice_get known place ≡ Some one → standing_at world place ≡ Some standing
-    → one.due ≡ standing.due
+      → one.due ≡ standing.due
   pub settled : (place : ℕ) (one : Known) (standing : Standing) → slice_get known place ≡ Some one → standing_at world place ≡ Some standing
-    → at_place world.slots one.settled ≡ standing.settled
+      → at_place world.slots one.settled ≡ standing.settled
 
 -- in every world of this program and these slots
 abbrev pub AreKnownFor : Program → List Slot → List Known → Type 0
@@ -104,5 +109,8 @@ due_is due key = is_due due key
 abbrev pub outcome_by : WorldRow → OutRow → Row → Known → Published
 outcome_by world claim row known =
     outcome_at (world.revision) (map slot_value world.slots) (out_value claim)
-    (Some (record { part = component_value (flows_of world.program.value) row; due = known.due;
-    settled = at_place (map slot_value world.slots) known.settled }))
+    (Some (record {
+      part = component_value (flows_of world.program.value) row;
+      due = known.due;
+      settled = at_place (map slot_value world.slots) known.settled;
+    }))

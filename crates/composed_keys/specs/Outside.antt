@@ -53,4 +53,4 @@ pub record ArePlaced (all : List (List ℕ)) (count : ℕ) (places : List ℕ) :
   pub lengths : length places ≡ count
   pub within : All (λ place. place < length all) places
   pub own : (number place : ℕ) → number < count → place < length all
-    → holds (slice_index_or all place []) number ≡ (slice_index_or places number 0 == place)
+      → holds (slice_index_or all place []) number ≡ (slice_index_or places number 0 == place)

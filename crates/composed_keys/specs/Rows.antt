@@ -45,4 +45,4 @@ pub record AreRowsOf (names calls : List (List ℕ)) (made : List Row) : Type 0 
   pub places : List ℕ
   pub placing : ArePlaces (length calls) (components names calls) 0 places
   pub outer : map (λ (row : Row). row.outer.items) made
-    ≡ map (outer_in calls places (by_name names (length names))) (components names calls)
+      ≡ map (outer_in calls places (by_name names (length names))) (components names calls)

@@ -26,7 +26,7 @@ q_struct = record {
   name = q_name;
   fields =
       record { name = 104 ∷ []; ty = Ptr node_name } ∷ record { name = 116 ∷ []; ty = Ptr q_name } ∷ record { name = 115 ∷ []; ty = Int }
-        ∷ [];
+      ∷ [];
 }
 
 -- both structures

@@ -129,7 +129,7 @@ AnswersAreWellFormed =
     IsState (with_parts parts) structs (length flow.params) (length flow.slots) state →
     exec flow structs at state table ≡ step.Next nexts exits →
     All (λ (next : ℕ × SymState). (next.0 < length flow.nodes)
-      × IsState (with_parts (parts + 3)) structs (length flow.params) (length flow.slots) next.1) nexts
+    × IsState (with_parts (parts + 3)) structs (length flow.params) (length flow.slots) next.1) nexts
     × All (IsPost (with_parts (parts + 3)) structs (length flow.params)) exits
 
 -- the specs of a table's callees are well formed, with at most so many parts in each heap
@@ -148,7 +148,7 @@ AllAnswersAreWellFormed =
     IsState (with_parts parts) structs (length flow.params) (length flow.slots) state →
     exec flow structs at state table ≡ step.Next nexts exits →
     All (λ (next : ℕ × SymState). (next.0 < length flow.nodes)
-      × IsState (with_parts (parts + most)) structs (length flow.params) (length flow.slots) next.1) nexts
+    × IsState (with_parts (parts + most)) structs (length flow.params) (length flow.slots) next.1) nexts
     × All (IsPost (with_parts (parts + most)) structs (length flow.params)) exits
 
 -- in both modes: the cases of a command other than a call are well formed where the pair is, with at most three parts more

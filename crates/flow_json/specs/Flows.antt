@@ -31,8 +31,8 @@ node_data node = tuple (count_data node.line ∷ option_data mark_data node.head
 abbrev pub node_parts : List Data → Option Node
 node_parts (line ∷ head ∷ cmd ∷ []) =
     go_on (read_count line)
-      (λ line. go_on (read_option read_mark head)
-      (λ head. go_on (read_cmd cmd) (λ cmd. Some (record { line = line; cmd = cmd; head = head }))))
+    (λ line. go_on (read_option read_mark head)
+    (λ head. go_on (read_cmd cmd) (λ cmd. Some (record { line = line; cmd = cmd; head = head }))))
 node_parts _ = None
 
 abbrev pub read_node : Data → Option Node

@@ -18,7 +18,7 @@ pub record StopsExactly (form : Form) (words at : List ℕ) : Type 0 where
   pub more : List ℕ
   pub begins : (rest : List ℕ) → begins_in (lacks form) rest ≡ false → Derives form (words ++ more) rest
   pub stops : (word : ℕ) (left others derived rest : List ℕ) → at ≡ word ∷ left → Derives form derived rest
-    → begins_in (continues form) rest ≡ false
+      → begins_in (continues form) rest ≡ false
       → derived ++ rest ≡ words ++ word ∷ others → ⊥
 
 abbrev pub StopsWhereItMust : Type 0

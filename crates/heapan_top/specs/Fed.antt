@@ -27,7 +27,7 @@ use Rattle.heapan_top.specs.Stores.{Opens, SavesNext, Store, given_last, last_of
 pub data AreFedEach : List Entry → List Known → List Known → Type 0 where
   none : (all : List Known) → AreFedEach [] all all
   more : (entry : Entry) (entries : List Entry) (olds mids news : List Known) → AreFed entry olds mids → AreFedEach entries mids news →
-    AreFedEach (entry ∷ entries) olds news
+      AreFedEach (entry ∷ entries) olds news
 
 -- one that stays has taken the entries behind its old ones
 pub record HasTaken (fed : List Entry) (old new : Known) : Type 0 where
@@ -40,7 +40,7 @@ pub record HasTaken (fed : List Entry) (old new : Known) : Type 0 where
 pub data StayBehind (fed : List Entry) : List Known → List Known → Type 0 where
   nobody : StayBehind fed [] []
   stays : (old new : Known) (olds news : List Known) → HasTaken fed old new → StayBehind fed olds news →
-    StayBehind fed (old ∷ olds) (new ∷ news)
+      StayBehind fed (old ∷ olds) (new ∷ news)
   goes : (old : Known) (olds news : List Known) → old.steady ≡ false → StayBehind fed olds news → StayBehind fed (old ∷ olds) news
 
 -- reporters were fed these entries: each that stays has taken all of them; where there are none, they are as they came
@@ -57,7 +57,7 @@ pub record WereFed (as_they_came : Type 0) (fed : List Entry) (olds news : List 
 pub data FeedsTo : Course → List ℕ → List ℕ → List Entry → Option (List ℕ) → Course → List ℕ → Type 0 where
   here : (course : Course) (stream : List ℕ) → FeedsTo course stream [] [] None course stream
   behind : (course : Course) (stream rest : List ℕ) (asked : Command) (text others : List ℕ) (after : Present) (fed more : List Entry)
-    (own saved : Option (List ℕ)) (later : Course) (left : List ℕ) →
+      (own saved : Option (List ℕ)) (later : Course) (left : List ℕ) →
       course.taken < MOST_COMMANDS → IsFirst stream asked rest → Answers course.present asked text after → Feeds course.present asked fed →
       Saves course.present asked own →
       FeedsTo (one_behind course (length stream - length rest) after) rest others more saved later left →
@@ -83,7 +83,7 @@ IsWhole status.NoMemory = ⊥
 pub data IsFrontOfNext (course : Course) (stream : List ℕ) : List ℕ → Type 0 where
   nothing : IsFrontOfNext course stream []
   reply : (rest : List ℕ) (asked : Command) (text : List ℕ) (after : Present) (count : ℕ) → course.taken < MOST_COMMANDS →
-    IsFirst stream asked rest → Answers course.present asked text after →
+      IsFirst stream asked rest → Answers course.present asked text after →
       count < length text → IsFrontOfNext course stream (take count text)
   refusal : (bytes : List ℕ) → IsOver course stream → IsFrontOfNext course stream bytes
 

@@ -51,7 +51,7 @@ abbrev pub FedIsFront : Type 0
 FedIsFront =
     (course later over : Course) (stream text text' left rest : List ℕ) (fed all : List Entry) (saved saved' : Option (List ℕ)) →
     FeedsTo course stream text fed saved later left → FeedsTo course stream text' all saved' over rest → IsOver over rest →
-      (more : List Entry) × (all ≡ fed ++ more)
+    (more : List Entry) × (all ≡ fed ++ more)
 
 -- and there is one: which, is decided
 abbrev pub SomeFed : Type 0

@@ -99,7 +99,7 @@ pub record GoesOn (course : Course) (stream : List ℕ) (old : Option (List ℕ)
   pub is_left : left ≡ Some rest
   pub appends : Appends old new text
   pub carries : (written : List ℕ) (solves : ℕ) → seen ≤ solves → AreCounted after rest written solves
-    → AreCounted course stream (text ++ written) solves
+      → AreCounted course stream (text ++ written) solves
 
 -- this was written last
 abbrev pub EndsCounted : Course → List ℕ → Option (List ℕ) → Option (List ℕ) → ℕ → Type 0
@@ -193,7 +193,7 @@ pub record IsLed (setting : Setting) (path : Option (List ℕ)) (told left old n
   pub answers : IfSome told (λ stream. Answers (beginning setting) stream old new ended)
   pub work : IfSome told (λ stream. AppendsCounted setting stream old new seen)
   pub fed : IfSome told
-    (λ stream. IsFed (beginning setting) stream old new (path_told kept path) (path_told kept' path) as_they_came olds news ended)
+      (λ stream. IsFed (beginning setting) stream old new (path_told kept path) (path_told kept' path) as_they_came olds news ended)
   pub steady : steady_count news ≡ steady_count olds
   pub reads : ReadsFront told left
   pub others : KeepsOthers path kept kept'

@@ -55,7 +55,7 @@ pub data Opens : Store → Setting → List ℕ → Type 0 where
   absent : Opens (Some None) nothing_loaded []
   too_long : (bytes : List ℕ) → MOST_HELD < length bytes → Opens (Some (Some bytes)) nothing_loaded unread_line
   unread : (bytes : List ℕ) (why : Unread) → length bytes ≤ MOST_HELD → IsLoaded bytes (Err why) →
-    Opens (Some (Some bytes)) nothing_loaded unread_line
+      Opens (Some (Some bytes)) nothing_loaded unread_line
   -- the entries that are inductive were loaded, whoever wrote them
   loaded : (bytes : List ℕ) (contents : Contents) → length bytes ≤ MOST_HELD → IsLoaded bytes (Ok contents) →
       Opens (Some (Some bytes)) (record { loaded = contents.entries; saves = true }) []

@@ -19,7 +19,7 @@ use Rattle.heapan_top.specs.Stores.{Opens, Store}
 -- on this course over the stream the replies begin with this text, which ends within or behind a reply that tells of so many components
 pub data Prints : Course → List ℕ → List ℕ → ℕ → Type 0 where
   here : (course : Course) (stream rest : List ℕ) (asked : Command) (front back : List ℕ) (after : Present) (program : Program)
-    (aim : Aim) →
+      (aim : Aim) →
       course.taken < MOST_COMMANDS → IsFirst stream asked rest → Answers course.present asked (front ++ back) after → front ≢ [] →
       Tells course.present asked program aim →
       Prints course stream front (count_reached program aim)
@@ -50,7 +50,7 @@ pub record CountsSession (store : Store) (stream : List ℕ) (old new : Option (
   pub opens : Opens store setting front
   pub appends : Appends old new written
   pub counted : (text : List ℕ) (count : ℕ) → Prints (beginning setting) stream text count → BeginsWith written (front ++ text) →
-    count ≤ solves
+      count ≤ solves
 
 -- no component was claimed twice within a revision, unless the first claim was given back in between
 abbrev pub IsClaimedOnce : List Event → Type 0

@@ -27,5 +27,5 @@ AnswersHaveSizes = (files : List SourceFile) (program : Program) → Reads files
 pub record KeepLimits : Type 0 where
   pub none : AreFiles []
   pub put : (name bytes : List ℕ) (files : List SourceFile) → AreFiles files → put_refusal name bytes files ≡ None
-    → AreFiles (with_file name bytes files)
+      → AreFiles (with_file name bytes files)
   pub dropped : (name : List ℕ) (files : List SourceFile) → AreFiles files → AreFiles (without_file name files)

@@ -63,29 +63,29 @@ pub data Answers (present : Present) : Command → List ℕ → Present → Type
   -- an empty line
   blank : Answers present command.Blank [] present
   put : (name bytes : List ℕ) →
-    Answers present (command.Put name bytes) (put_line (put_refusal name bytes present.files)) (with_put name bytes present)
+      Answers present (command.Put name bytes) (put_line (put_refusal name bytes present.files)) (with_put name bytes present)
   -- a file of more than 1,048,576 bytes
   put_too_long : (name : List ℕ) (size : ℕ) → Answers present (command.PutTooLong name size) (error_line 143) present
   drop_file : (name : List ℕ) → Answers present (command.DropFile name) (drop_line (has_file name present.files)) (with_drop name present)
   start : (answer : Result Program Refused) → Reads present.files answer →
-    Answers present command.Start (text_of (λ program. ok_line) answer) present
+      Answers present command.Start (text_of (λ program. ok_line) answer) present
   show : (name : List ℕ) (answer : Result Program Refused) → Reads present.files answer →
-    Answers present (command.Show name) (text_of (block_named present.setting.loaded name) answer) present
+      Answers present (command.Show name) (text_of (block_named present.setting.loaded name) answer) present
   report : (answer : Result Program Refused) → Reads present.files answer →
       Answers present command.Report (text_of (program_report present.setting.loaded) answer)
-        (record present { missing = missing_by present.setting.loaded present.missing answer })
+      (record present { missing = missing_by present.setting.loaded present.missing answer })
   -- the generated file is put, and the total line of the whole project is written
   gen : (n : ℕ) (answer : Result Program Refused) → put_refusal GENERATED (generated n) present.files ≡ None →
       Reads (with_file GENERATED (generated n) present.files) answer →
       Answers present (command.Gen n) (text_of (program_total present.setting.loaded) answer)
-        (record present { files = with_file GENERATED (generated n) present.files })
+      (record present { files = with_file GENERATED (generated n) present.files })
   -- what is known of the whole program is stored
   save : (answer : Result Program Refused) → present.setting.saves ≡ true → Reads present.files answer →
       Answers present command.Save (text_of (program_stored_line present.setting.loaded) answer) present
   -- there is no store to save to
   save_nowhere : present.setting.saves ≡ false → Answers present command.Save (error_line 147) present
   gen_refused : (n code : ℕ) → put_refusal GENERATED (generated n) present.files ≡ Some code →
-    Answers present (command.Gen n) (error_line code) present
+      Answers present (command.Gen n) (error_line code) present
 
 -- the command is answered so
 abbrev pub IsAnswered : Command → Type 0

@@ -37,6 +37,6 @@ program_entries loaded program = entries_over program.procs (program_summaries l
 -- behind the reply to the command these are fed: the entries of a report on a program, and none behind another reply
 pub data Feeds (present : Present) : Command → List Entry → Type 0 where
   report : (program : Program) → Reads present.files (Ok program)
-    → Feeds present command.Report (program_entries present.setting.loaded program)
+      → Feeds present command.Report (program_entries present.setting.loaded program)
   report_refused : (refused : Refused) → Reads present.files (Err refused) → Feeds present command.Report []
   other : (asked : Command) → asked ≢ command.Report → Feeds present asked []

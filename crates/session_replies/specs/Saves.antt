@@ -11,7 +11,7 @@ use Rattle.session_replies.specs.Texts.{stored_program}
 -- the store has these bytes; none where it is as it was
 pub data Saves (present : Present) : Command → Option (List ℕ) → Type 0 where
   save : (program : Program) → present.setting.saves ≡ true → Reads present.files (Ok program)
-    → Saves present command.Save (stored_program present.setting.loaded program)
+      → Saves present command.Save (stored_program present.setting.loaded program)
   save_refused : (refused : Refused) → present.setting.saves ≡ true → Reads present.files (Err refused) → Saves present command.Save None
   save_nowhere : present.setting.saves ≡ false → Saves present command.Save None
   other : (asked : Command) → asked ≢ command.Save → Saves present asked None

@@ -148,7 +148,7 @@ pub record IsProgram (program : Program) : Type 0 where
   pub lines : All HasLines program.procs
   pub different : HaveDifferentNames (λ (proc : Proc). proc.flow.name) program.procs
   pub calls : All
-    (λ (proc : Proc). FitCalls (λ (one : Proc). one.flow.name) (λ (one : Proc). one.flow.params) program.procs proc.flow) program.procs
+      (λ (proc : Proc). FitCalls (λ (one : Proc). one.flow.name) (λ (one : Proc). one.flow.params) program.procs proc.flow) program.procs
 
 -- CONFIGURATIONS
 

@@ -65,7 +65,7 @@ pub record IsSlotAt (log : List Told) (slots : List Slot) (program : Program) (p
   pub key_is : key_at log row.claimed ≡ Some key
   pub answer_is : answer_at log row.published ≡ Some answer
   pub slot : slot_of slots (names_of part.flows)
-    ≡ Some (record { members = names_of part.flows; claim = row.claim; key = key; answer = answer })
+      ≡ Some (record { members = names_of part.flows; claim = row.claim; key = key; answer = answer })
   pub fits : row.fits ≡ is_fit program (Some part) key
 
 -- the slot of a component, by its row
@@ -76,7 +76,7 @@ IsSlot log slots program part (Some row) = IsSlotAt log slots program part row
 pub record AreSlots (log : List Told) (slots : List Slot) (program : Program) (rows : List (Option SlotRow)) : Type 0 where
   pub lengths : length rows ≡ length (program_components program)
   pub each : (place : ℕ) (part : Component) → slice_get (program_components program) place ≡ Some part
-    → IsSlot log slots program part (slice_index_or rows place None)
+      → IsSlot log slots program part (slice_index_or rows place None)
 
 -- ---- marks
 

@@ -141,7 +141,7 @@ SubtractGivesBeside =
     (structs : List StructDef) (a b : SymHeap) (bound : List (ℕ × Exp)) (flexible avoid : List ℕ) (frame : SymHeap)
     (binding : List (ℕ × Exp)) → All (FitsAtom structs) b.spatial →
     subtract_avoiding a b bound flexible avoid ≡ sub.Match frame binding → (s : ℕ → ℤ) (heap : List Cell) → Holds structs s heap a →
-      GivesBeside structs s heap a b bound flexible avoid binding frame
+    GivesBeside structs s heap a b bound flexible avoid binding frame
 
 -- abduction: what holds a beside the missing part holds the bound b beside the frame. The assignment agrees on the variables of
 -- both
@@ -150,7 +150,7 @@ BiabduceGivesBeside =
     (structs : List StructDef) (a b : SymHeap) (bound : List (ℕ × Exp)) (flexible : List ℕ) (next : ℕ) (avoid : List ℕ)
     (missing frame : SymHeap) (binding : List (ℕ × Exp)) → All (FitsAtom structs) b.spatial →
     biabduce_avoiding a b bound flexible next avoid ≡ abd.Found missing frame binding → (s : ℕ → ℤ) (heap : List Cell) →
-      Holds structs s heap (beside a missing) →
+    Holds structs s heap (beside a missing) →
     GivesBeside structs s heap (beside a missing) b bound flexible avoid binding frame
 
 -- what meets a state meets each state that covers it

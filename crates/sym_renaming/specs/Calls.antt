@@ -43,8 +43,12 @@ others_flexible apart params = map (number_of apart) (filter (λ x. leb params x
 -- the precondition for a match in the caller, with as many parameters as arguments
 abbrev pub called_by : Numbers → List Exp → SymHeap → CalledPre
 called_by apart args pre =
-    record { numbers = apart; pre = pre_apart apart pre; bound = parameters_bound apart 0 args;
-    flexible = others_flexible apart (length args) }
+    record {
+      numbers = apart;
+      pre = pre_apart apart pre;
+      bound = parameters_bound apart 0 args;
+      flexible = others_flexible apart (length args);
+    }
 
 abbrev pub called_with : List ℕ → List Exp → SymHeap → CalledPre
 called_with used args pre = called_by (pre_numbers used (length args) pre) args pre
