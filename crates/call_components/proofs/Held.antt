@@ -1,10 +1,9 @@
 -- The classes that wait, and those that are ready.
-use Rattle.std.proofs.Common.{◌≡◌, ◌≢◌, ℕ, zero, suc, ◌+◌, ◌<◌, ◌≤◌, ◌==◌, Bool, true, false, ◌&&◌, ◌||◌, not, List, [], ◌∷◌, ◌++◌, length, map, filter, find, replicate, slice_get, get_or, set, Some, None, Option, ◌⊎◌, inl, inr, ⊎_elim, true≢false, refl, sym, ap, ◌∙◌, subst, arith}
-use Rattle.std.specs.List.{list_any, list_all, flat_map}
+use Rattle.std.proofs.Common.{◌≡◌, ◌≢◌, ℕ, ◌+◌, ◌<◌, ◌≤◌, ◌==◌, Bool, true, false, ◌&&◌, ◌||◌, not, List, [], ◌∷◌, ◌++◌, length, map, filter, find, replicate, slice_get, get_or, set, None, ◌⊎◌, inl, inr, ⊎_elim, true≢false, refl, sym, ap, ◌∙◌, subst, arith}
+use Rattle.std.specs.List.{list_any, list_all}
 use Rattle.std.proofs.lemmas.Bool.Decides.{Decides-eqb}
 use Rattle.std.proofs.lemmas.List.{get_or-set_same, get_or-set_other, get_or-map}
 use Rattle.std.proofs.lemmas.List.Folds.{list_all-append}
-use Rattle.std.proofs.lemmas.Option.{slice_get-get_or}
 use Rattle.component_keys.specs.Components.{holds, calls_of}
 use Rattle.component_keys.proofs.Basics.{both_true, one_true, not_true}
 use Rattle.component_keys.proofs.Ordered.{held_at, each_passes}

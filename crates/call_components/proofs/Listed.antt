@@ -13,7 +13,7 @@ use Rattle.component_keys.proofs.Basics.{not_none, at_push}
 use Rattle.component_keys.proofs.Apart.{names_same}
 use Rattle.component_keys.proofs.Ordered.{some_passes, held_at}
 use Rattle.component_keys.proofs.Reach.{any_passes, holds_at}
-use Rattle.component_keys.proofs.Whole.{same_answers, left_or, reach_self, reach_through, reach_call, mutual_parts, mutual_of, in_class, same_class, in_listed, class_from}
+use Rattle.component_keys.proofs.Whole.{same_answers, reach_self, reach_through, reach_call, mutual_parts, mutual_of, in_class, same_class, in_listed, class_from}
 use Rattle.component_keys.proofs.Whole as Whole
 use Rattle.call_components.specs.Reaching.{marked, rows}
 use Rattle.call_components.specs.Tables.{AreKinds, same_kind, class_in, classes_in, is_next_in, AreAllMarked}

@@ -1,8 +1,7 @@
 -- The classes that wait, in the words of the code.
-use Rattle.std.proofs.Common.{◌≡◌, ℕ, zero, suc, ◌+◌, ◌<◌, ◌==◌, Bool, true, false, not, List, [], ◌∷◌, ◌++◌, length, map, filter, replicate, get_or, set, Result, Ok, Err, OnOk, ⊎_elim, refl, sym, ap, ◌∙◌, subst, arith, All}
-use Rattle.std.specs.List.{flat_map}
+use Rattle.std.proofs.Common.{◌≡◌, ℕ, zero, suc, ◌+◌, ◌<◌, ◌==◌, Bool, true, false, not, List, [], ◌∷◌, ◌++◌, length, map, replicate, get_or, set, Result, Ok, Err, OnOk, ⊎_elim, sym, ap, ◌∙◌, subst, arith, All}
 use Rattle.std.specs.Global.{Vec}
-use Rattle.std.proofs.lemmas.List.{length-map, length-set, length-replicate, map-set}
+use Rattle.std.proofs.lemmas.List.{length-map, map-set}
 use Rattle.std.proofs.lemmas.List.Folds.{list_any-append}
 use Rattle.std.proofs.lemmas.Option.{slice_get-get_or}
 use Rattle.component_keys.specs.Components.{holds, calls_of}

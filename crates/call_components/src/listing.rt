@@ -1,9 +1,8 @@
 //! The order of the classes: next is always the first one, by its least name, whose callees are all listed.
-ghost use Rattle.std.specs.Prelude.{◌≡◌, ◌<◌, ◌||◌, length, All, IfOk, IfSome};
-ghost use Rattle.std.specs.List.{find, list_all, list_any};
+ghost use Rattle.std.specs.Prelude.{◌≡◌, ◌<◌, length, All, IfOk};
 ghost use Rattle.call_components.specs.Reaching.{marked, rows};
-ghost use Rattle.call_components.specs.Tables.{AreAllMarked, AreKinds, AreListed, at_place, classes_in, is_next_in, same_kind};
-ghost use Rattle.component_keys.specs.Components.{by_name, calls_of, components};
+ghost use Rattle.call_components.specs.Tables.{AreAllMarked, AreKinds, classes_in};
+ghost use Rattle.component_keys.specs.Components.{by_name, components};
 ghost use Rattle.component_keys.specs.Laws.{IsCallGraph};
 
 use crate::classes::classes_of_kinds;

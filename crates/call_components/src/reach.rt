@@ -1,5 +1,5 @@
 //! Who is reached by calls: a walk with a list of what is still to do.
-ghost use Rattle.std.specs.Prelude.{◌≡◌, ℕ, ◌<◌, length, All, OnOk, IfOk, slice_get};
+ghost use Rattle.std.specs.Prelude.{◌≡◌, ◌<◌, length, All, OnOk, IfOk};
 ghost use Rattle.call_components.specs.Reaching.{AreDefined, AreMarked, AreReached, marked, rows};
 
 use std::alloc::{AllocError, Global};

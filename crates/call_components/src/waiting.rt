@@ -2,7 +2,7 @@
 //! itself, and is looked at again when that one is listed; so each call is looked at once.
 ghost use Rattle.std.specs.Prelude.{◌≡◌, ◌∷◌, ◌++◌, [], List, ℕ, ◌<◌, true, false, map, length, All, IfNone, IfOk, IfSome, OnOk};
 ghost use Rattle.std.specs.List.{list_any};
-ghost use Rattle.component_keys.specs.Components.{calls_of, holds};
+ghost use Rattle.component_keys.specs.Components.{holds};
 ghost use Rattle.call_components.specs.Reaching.{AreDefined, marked, rows};
 ghost use Rattle.call_components.specs.Sorting.{below};
 ghost use Rattle.call_components.specs.Waiting.{

@@ -1,9 +1,9 @@
 //! Certificates by hand, each by computation; and so with one thing spoiled, and the gap that it leaves.
-ghost use Rattle.std.specs.Prelude.{◌≡◌, [], ◌∷◌, pos};
+ghost use Rattle.std.specs.Prelude.{◌≡◌, [], ◌∷◌};
 ghost use Rattle.std.specs.declared.option.Option.TheVariants.{None, Some};
 ghost use Rattle.shape_data.specs.declared.answer.Fault.TheVariants as fault;
 ghost use Rattle.shape_data.specs.declared.symbolic.Exp.TheVariants.{Var};
-ghost use Rattle.shape_data.specs.declared.symbolic.Fact.TheVariants.{Eq, Ne};
+ghost use Rattle.shape_data.specs.declared.symbolic.Fact.TheVariants.{Ne};
 ghost use Rattle.sym_matching.specs.Examples.{any, cell, heap, list, null, state};
 ghost use Rattle.exec_laws.specs.Examples.{post, spec};
 ghost use Rattle.certificate_laws.specs.Examples.{
@@ -22,11 +22,9 @@ ghost use Rattle.certificate_laws.specs.Examples.{
   length_nodes,
   length_spec,
   one_node,
-  read_called,
   read_cert,
   read_flow,
   read_key,
-  read_start,
   walk_body,
   walk_cert,
   walk_end,

@@ -1,5 +1,5 @@
 //! What stands of the attempts: the specs, their certificates, and how many there are.
-ghost use Rattle.std.specs.Prelude.{◌≡◌, ◌<◌, ◌≤◌, ◌↔◌, filter_map, length, All, IfOk, IsTrue};
+ghost use Rattle.std.specs.Prelude.{◌≡◌, ◌<◌, ◌≤◌, filter_map, length, All, IfOk};
 ghost use Rattle.solve_laws.specs.declared.parts.Attempt.{Attempt as AnyAttempt};
 ghost use Rattle.solve_laws.specs.Attempts.{cert_of, count_of as count_of_all, specs_in as specs_in_one, specs_of as specs_of_all};
 ghost use Rattle.solve_laws.specs.Tables.{same_specs as same_specs_of};

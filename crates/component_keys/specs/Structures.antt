@@ -1,6 +1,6 @@
 -- Which structures the analysis of some procedures depends on: those that the procedures or their callees' specs name, and those that
 -- the fields of such structures point to, again and again.
-use Rattle.std.specs.Prelude.{ℕ, nat_eq, List, [], ◌∷◌, ◌++◌, map, slice_get, length}
+use Rattle.std.specs.Prelude.{ℕ, nat_eq, List, ◌++◌, map, slice_get, length}
 use Rattle.std.specs.List.{filter, filter_map, flat_map, position}
 use Rattle.std.specs.Cmp.Lexicographic.{pointwise}
 use Rattle.std.specs.Option.{option_to_list}

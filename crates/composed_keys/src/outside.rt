@@ -4,10 +4,7 @@ ghost use Rattle.std.specs.Prelude.{
   ◌≡◌,
   ◌≢◌,
   [],
-  ◌∷◌,
-  ℕ,
   ◌<◌,
-  ◌++◌,
   ◌==◌,
   if◌then◌else◌,
   map,
@@ -21,9 +18,8 @@ ghost use Rattle.std.specs.Prelude.{
   slice_set,
 };
 ghost use Rattle.call_components.specs.Reaching.{AreDefined, rows};
-ghost use Rattle.component_keys.specs.Components.{calls_of, holds};
 ghost use Rattle.composed_keys.specs.Outside.{AreAhead, AreCallers, AreNoted, ArePlaced, ArePutBy, noted_once, outers};
-ghost use Rattle.composed_keys.specs.Rows.{outer_in, outer_row};
+ghost use Rattle.composed_keys.specs.Rows.{outer_in};
 
 use crate::rows::{Component, Outer};
 use call_components::calls::{callees_of, empty_rows};

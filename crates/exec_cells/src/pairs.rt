@@ -1,5 +1,5 @@
 //! Pairs of a missing heap and a state, as execution changes them: slots, new variables, forms and facts.
-ghost use Rattle.std.specs.Prelude.{◌≡◌, ◌≤◌, ℕ, IfOk, IfSome, filter, ltb};
+ghost use Rattle.std.specs.Prelude.{◌≡◌, ◌≤◌, IfOk, IfSome, filter, ltb};
 ghost use Rattle.sym_matching.specs.Covers.{above};
 ghost use Rattle.sym_matching.specs.NewVariables.{HasRoom};
 ghost use Rattle.exec_laws.specs.Pairs.{

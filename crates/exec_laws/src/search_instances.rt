@@ -7,13 +7,12 @@ ghost use Rattle.shape_data.specs.declared.program.ArithOp.TheVariants as arith;
 ghost use Rattle.shape_data.specs.declared.program.Cmd.TheVariants as cmd;
 ghost use Rattle.shape_data.specs.declared.program.Operand.TheVariants.{Slot, Num};
 ghost use Rattle.shape_data.specs.declared.program.TestOp.TheVariants as test;
-ghost use Rattle.shape_data.specs.declared.program.Ty.TheVariants.{Int};
 ghost use Rattle.shape_data.specs.declared.symbolic.Atom.TheVariants.{Junk};
 ghost use Rattle.shape_data.specs.declared.symbolic.Exp.TheVariants.{Var, Const};
 ghost use Rattle.shape_data.specs.declared.symbolic.Fact.TheVariants.{Eq, Ne};
 ghost use Rattle.shape_laws.specs.Examples.{node_name};
 ghost use Rattle.sym_matching.specs.Examples.{cell, heap, list, null, state};
-ghost use Rattle.exec_laws.specs.declared.parts.Case.TheVariants.{On, Leaves, Drops};
+ghost use Rattle.exec_laws.specs.declared.parts.Case.TheVariants.{On, Drops};
 ghost use Rattle.exec_laws.specs.declared.parts.Step.TheVariants as step;
 ghost use Rattle.exec_laws.specs.Examples.{
   callee,
@@ -33,7 +32,7 @@ ghost use Rattle.exec_laws.specs.Examples.{
   tails,
   two,
 };
-ghost use Rattle.exec_laws.specs.Execution.{exec, search_cases};
+ghost use Rattle.exec_laws.specs.Execution.{search_cases};
 
 /// Load.
 #[tactic(auto, unfolding(sym_matching::specs::Steps::contradicts))]

@@ -16,7 +16,7 @@ use Rattle.shape_data.specs.declared.program.TestOp.{TestOp}
 use Rattle.shape_data.specs.declared.program.TestOp.TheVariants as test
 use Rattle.shape_data.specs.declared.program.Ty.{Ty}
 use Rattle.flow_json.specs.Commands.{any_parts, arith_data, arith_of, arith_parts, branch_parts, call_parts, cell_cmd, cmd_data, cmd_of, cmd_parts, copy_parts, free_parts, load_parts, new_parts, operand_data, operand_of, operand_parts, read_arith, read_cmd, read_operand, read_test, return_parts, slot_cmd, store_parts, test_data, test_of}
-use Rattle.flow_json.specs.Forms.{count_data, flag_data, go_on, int_data, list_data, option_data, read_count, read_int, read_list, read_name, read_option, tuple}
+use Rattle.flow_json.specs.Forms.{count_data, flag_data, go_on, list_data, option_data, read_count, read_int, read_list, read_name, read_option, tuple}
 use Rattle.flow_json.specs.Laws.{CmdFits, IsCount, IsInverse, OperandFits}
 use Rattle.flow_json.specs.Types.{read_ty, ty_data}
 use Rattle.flow_json.proofs.InverseLemmas.{cons_is, last_is, count_inverse, flag_inverse, go_on_is, go_on_some, int_inverse, list_inverse, name_inverse, on_word, option_inverse, some_is, string_only}

@@ -1,5 +1,5 @@
 -- Numbers, names, lists and options are read as they were written, and only so.
-use Rattle.std.specs.Prelude.{◌≡◌, ◌⊎◌, ℕ, zero, suc, ◌<◌, ◌≤◌, ℤ, pos, negsuc, Bool, true, false, if◌then◌else◌, ◌&&◌, int_le, int_lt, nat_le, nat_lt, List, [], ◌∷◌, map, length, option_map, All, IfSome}
+use Rattle.std.specs.Prelude.{◌≡◌, ℕ, ◌<◌, ◌≤◌, ℤ, pos, negsuc, Bool, true, false, if◌then◌else◌, ◌&&◌, int_le, int_lt, nat_le, nat_lt, List, [], ◌∷◌, map, length, All, IfSome}
 use Rattle.std.specs.Str.{bytes_eq}
 use Rattle.std.specs.declared.option.Option.{Option}
 use Rattle.std.specs.declared.option.Option.TheVariants.{None, Some}
@@ -7,8 +7,8 @@ use Rattle.std.proofs.Common.{refl, sym, ap, ◌∙◌, subst, arith}
 use Rattle.std.proofs.lemmas.Bool.{and_parts, le-leb, leb-true, lt-ltb, ltb-true}
 use Rattle.std.proofs.lemmas.List.Elements.{All-cons, All-head, All-nil, All-tail}
 use Rattle.std.proofs.lemmas.Slice.Eq.{bytes_eq-Decides}
-use Rattle.serde_json.specs.Data.{Num, unsigned, negative, float, Data, null, boolean, number, string, array, object, Items, no_items, item}
-use Rattle.serde_json.specs.Find.{as_array, as_bool, as_null, as_str}
+use Rattle.serde_json.specs.Data.{unsigned, negative, float, Data, null, boolean, number, string, array, object, Items, no_items, item}
+use Rattle.serde_json.specs.Find.{as_bool, as_null, as_str}
 use Rattle.serde_json.specs.View.{items_of}
 use Rattle.flow_json.specs.Forms.{as_list, count_data, flag_data, name_of, go_on, int_data, list_data, list_of, option_data, read_count, read_each, read_int, read_list, read_name, read_option, tuple}
 use Rattle.flow_json.specs.Laws.{IsCount, IsInt, IsInverse, IsName}

@@ -1,32 +1,29 @@
 -- C names are texts, and so what is well formed can be written.
-use Rattle.std.specs.Prelude.{◌≡◌, ◌⊎◌, ℕ, zero, suc, ◌<◌, ◌≤◌, Bool, true, false, ◌||◌, ◌==◌, if◌then◌else◌, List, [], ◌∷◌, slice_index, length, is_some, nat_le, All, IsUtf8}
+use Rattle.std.specs.Prelude.{◌≡◌, ◌⊎◌, ℕ, zero, suc, ◌<◌, ◌≤◌, Bool, true, false, ◌==◌, if◌then◌else◌, List, [], ◌∷◌, slice_index, length, is_some, nat_le, All, IsUtf8}
 use Rattle.std.specs.Char.{is_ascii_alphabetic, is_ascii_digit}
 use Rattle.std.specs.Int.{is_in_range}
 use Rattle.std.specs.List.{list_all}
 use Rattle.std.specs.Option.{IsSomeAnd}
-use Rattle.std.specs.Str.{bytes_eq, IsAscii}
+use Rattle.std.specs.Str.{bytes_eq}
 use Rattle.std.specs.declared.option.Option.{Option}
 use Rattle.std.specs.declared.option.Option.TheVariants.{None, Some}
-use Rattle.std.proofs.Common.{refl, sym, ap, ◌∙◌, subst, inl, inr, arith, lit<}
+use Rattle.std.proofs.Common.{refl, subst, inl, inr, arith, lit<}
 use Rattle.std.proofs.lemmas.Bool.{and_parts, eqb-true, leb-true, or_cases}
-use Rattle.std.proofs.lemmas.List.Elements.{All-contains, All-head, All-tail, All-weaker}
+use Rattle.std.proofs.lemmas.List.Elements.{All-head, All-tail, All-weaker}
 use Rattle.std.proofs.lemmas.Slice.Eq.{bytes_eq-Decides}
 use Rattle.std.proofs.lemmas.Str.{IsUtf8-from_ascii}
 use Rattle.shape_data.specs.declared.program.Cmd.{Cmd}
 use Rattle.shape_data.specs.declared.program.Cmd.TheVariants as cmd
 use Rattle.shape_data.specs.declared.program.Field.{Field}
-use Rattle.shape_data.specs.declared.program.Flow.{Flow}
-use Rattle.shape_data.specs.declared.program.Node.{Node}
 use Rattle.shape_data.specs.declared.program.StructDef.{StructDef}
 use Rattle.shape_data.specs.declared.program.Ty.{Ty}
 use Rattle.shape_data.specs.declared.program.Ty.TheVariants.{Int, Ptr, Void}
 use Rattle.shape_data.specs.Heap.{struct_named}
 use Rattle.shape_data.specs.Names.{is_name_byte, is_name_start, IsCName}
-use Rattle.shape_data.specs.WellFormed.{AreStructs, IsCmd, IsField, IsFlow, IsKind, IsNode, IsStruct, IsTy}
+use Rattle.shape_data.specs.WellFormed.{IsCmd, IsStruct, IsTy}
 use Rattle.flow_json.specs.Commands.{CmdIsText}
-use Rattle.flow_json.specs.Flows.{FlowIsText, NodeIsText}
 use Rattle.flow_json.specs.Texts.{FlowsAreTexts, StructsAreTexts}
-use Rattle.flow_json.specs.Types.{FieldIsText, StructIsText, TyIsText}
+use Rattle.flow_json.specs.Types.{TyIsText}
 
 range_is_small : (low high byte : ℕ) → high < 128 → is_in_range low high byte ≡ true → byte < 128
 range_is_small low high byte small is =

@@ -10,10 +10,10 @@ use Rattle.shape_data.specs.declared.program.Field.{Field}
 use Rattle.shape_data.specs.declared.program.StructDef.{StructDef}
 use Rattle.shape_data.specs.declared.program.Ty.{Ty}
 use Rattle.shape_data.specs.declared.program.Ty.TheVariants.{Int, Ptr, Void}
-use Rattle.flow_json.specs.Forms.{as_list, go_on, list_data, list_of, read_list, read_name, tuple}
+use Rattle.flow_json.specs.Forms.{as_list, go_on, list_data, read_list, read_name, tuple}
 use Rattle.flow_json.specs.Laws.{FieldFits, IsInverse, StructFits, TyFits}
 use Rattle.flow_json.specs.Types.{field_data, field_parts, pointer_of, pointer_parts, read_field, read_struct, read_ty, struct_data, struct_parts, ty_data, ty_of_word}
-use Rattle.flow_json.proofs.InverseLemmas.{cons_is, last_is, go_on_is, go_on_some, list_back, list_inverse, list_only, name_inverse, on_word, some_is, string_only}
+use Rattle.flow_json.proofs.InverseLemmas.{cons_is, last_is, go_on_is, go_on_some, list_inverse, list_only, name_inverse, on_word, some_is, string_only}
 
 -- a field, and a structure, of its parts
 abbrev field_of : List ℕ → Ty → Field

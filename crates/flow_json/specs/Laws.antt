@@ -1,7 +1,7 @@
 -- Reading is the inverse of writing, for all things whose numbers and names fit their types.
 use Rattle.std.specs.Prelude.{◌≡◌, ℕ, ◌<◌, ◌≤◌, ℤ, pos, negsuc, List, length, All, IfSome}
 use Rattle.std.specs.declared.option.Option.{Option}
-use Rattle.std.specs.declared.option.Option.TheVariants.{None, Some}
+use Rattle.std.specs.declared.option.Option.TheVariants.{Some}
 use Rattle.serde_json.specs.Data.{Data}
 use Rattle.shape_data.specs.declared.program.Cmd.{Cmd}
 use Rattle.shape_data.specs.declared.program.Cmd.TheVariants as cmd

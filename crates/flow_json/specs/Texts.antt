@@ -1,5 +1,5 @@
 -- What is well formed can be written: its names are C names, and so texts.
-use Rattle.std.specs.Prelude.{List, All}
+use Rattle.std.specs.Prelude.{List}
 use Rattle.shape_data.specs.declared.program.Flow.{Flow}
 use Rattle.shape_data.specs.declared.program.StructDef.{StructDef}
 use Rattle.shape_data.specs.WellFormed.{AreStructs, IsFlow, IsStruct}

@@ -21,7 +21,7 @@ ghost use Rattle.std.specs.Prelude.{
   IsErr,
   Contains,
 };
-ghost use Rattle.std.specs.declared.option.Option.TheVariants.{Some, None};
+ghost use Rattle.std.specs.declared.option.Option.TheVariants.{Some};
 ghost use Rattle.std.specs.Option.{option_map};
 ghost use Rattle.io_ports.specs.Counts.{next_count};
 ghost use Rattle.io_ports.specs.Places.{found, IsHeld, IsWithin};

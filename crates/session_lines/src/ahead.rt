@@ -1,6 +1,6 @@
 //! Bytes that were read from a source and not taken yet. What stands ahead and what the source has left are together
 //! the stream that is left, so that reading changes nothing of it.
-ghost use Rattle.std.specs.Prelude.{◌≡◌, ◌+◌, ◌<◌, ◌≤◌, [], ◌++◌, length, take, drop, IfOk, IfErr, OnErr};
+ghost use Rattle.std.specs.Prelude.{◌≡◌, ◌+◌, ◌<◌, ◌≤◌, [], length, drop, IfOk};
 ghost use Rattle.io_ports.specs.Bytes.{before_left, IsNothingLeft};
 ghost use Rattle.io_ports.specs.Counts.{Rose};
 

@@ -1,6 +1,6 @@
 //! The parts of a command as they stand in the stream: its first line, and the bytes that belong to it. Each part is read
 //! as far as it goes and no further; what else came in the last piece stays ahead.
-ghost use Rattle.std.specs.Prelude.{◌≡◌, ℕ, List, ◌≤◌, ◌<◌, ◌∷◌, length, IfOk};
+ghost use Rattle.std.specs.Prelude.{◌≡◌, ℕ, List, ◌≤◌, ◌<◌, length, IfOk};
 ghost use Rattle.io_ports.specs.Bytes.{before_left, IsNothingLeft};
 ghost use Rattle.io_ports.specs.Counts.{Rose};
 ghost use Rattle.session_lines.specs.Lines.{body_size};

@@ -1,6 +1,6 @@
 -- Answers by hand: of a procedure that reads a field, of some that have no spec, and of one that calls itself.
 use Rattle.std.specs.Prelude.{false, List, [], ◌∷◌, map}
-use Rattle.std.specs.declared.option.Option.TheVariants.{None, Some}
+use Rattle.std.specs.declared.option.Option.TheVariants.{Some}
 use Rattle.shape_data.specs.declared.answer.Answer.{Answer}
 use Rattle.shape_data.specs.declared.answer.ProcSummary.{ProcSummary}
 use Rattle.shape_data.specs.declared.answer.Reason.{Reason}

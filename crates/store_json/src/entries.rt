@@ -1,5 +1,5 @@
 //! The reading of entries.
-ghost use Rattle.std.specs.Prelude.{◌≡◌, map, option_map, IfOk};
+ghost use Rattle.std.specs.Prelude.{map, option_map, IfOk};
 ghost use Rattle.serde_json.specs.View.{view};
 ghost use Rattle.shape_data.specs.WellFormed.{IsStorableKey};
 ghost use Rattle.summary_json.specs.Fits.{KeyFits};

@@ -1,5 +1,5 @@
 //! The reading of stores.
-ghost use Rattle.std.specs.Prelude.{◌≡◌, map, option_map, IfOk};
+ghost use Rattle.std.specs.Prelude.{map, option_map, IfOk};
 ghost use Rattle.serde_json.specs.View.{view};
 ghost use Rattle.claim_core.specs.Views.{solution_of};
 ghost use Rattle.store_json.specs.Reading.{all_read, AreValuesOf, IsJsonOf, IsRead, IsStoreOf};

@@ -1,25 +1,21 @@
 -- What is known of the callees of a component, by its row.
-use Rattle.std.proofs.Common.{◌≡◌, ℕ, zero, suc, ◌<◌, Bool, true, false, ◌&&◌, List, [], ◌∷◌, map, length, slice_get, slice_index_or, is_some, Some, None, Option, refl, sym, ap, ◌∙◌, subst, arith, All, option_map}
+use Rattle.std.proofs.Common.{◌≡◌, ℕ, zero, suc, ◌<◌, Bool, true, false, ◌&&◌, List, [], ◌∷◌, map, length, slice_get, slice_index_or, Some, None, Option, refl, sym, ap, ◌∙◌, subst, All, option_map}
 use Rattle.std.specs.List.{filter_map, cons_option, list_all}
 use Rattle.std.proofs.lemmas.List.{length-map}
 use Rattle.std.proofs.lemmas.List.Elements.{All-head, All-tail}
-use Rattle.shape_data.specs.declared.answer.Answer.{Answer}
 use Rattle.shape_data.specs.declared.answer.Callee.{Callee}
-use Rattle.shape_data.specs.declared.answer.Key.{Key}
 use Rattle.shape_data.specs.declared.program.Flow.{Flow}
 use Rattle.shape_data.specs.declared.program.Proc.{Proc}
 use Rattle.shape_data.specs.declared.program.Program.{Program}
-use Rattle.call_components.specs.Reaching.{marked}
 use Rattle.shape_laws.proofs.StepsStacks.{within-some}
-use Rattle.component_keys.specs.Components.{same_names}
-use Rattle.component_keys.specs.Keys.{Component, Outer, flows_of, names_of, specs_in, program_components}
-use Rattle.component_keys.proofs.Basics.{both_true, not_none, some_same, mapped_some, at_map}
+use Rattle.component_keys.specs.Keys.{Component, Outer, flows_of, names_of}
+use Rattle.component_keys.proofs.Basics.{both_true, not_none, some_same}
 use Rattle.composed_keys.specs.declared.rows.Component.{Component as ComponentRow}
 use Rattle.composed_keys.specs.declared.rows.Outer.{Outer as OuterRow}
 use Rattle.composed_keys.specs.Callees.{known_as}
-use Rattle.composed_keys.specs.Rows.{component_value, outer_value}
+use Rattle.composed_keys.specs.Rows.{outer_value}
 use Rattle.claim_core.specs.declared.event.Event.{Event as Told}
-use Rattle.claim_laws.specs.World.{World, Slot, Standing, both, given_by, given, settled_in, slot_of, standings, standing_at}
+use Rattle.claim_laws.specs.World.{World, Slot, both, given_by, given, slot_of, standings}
 use Rattle.claim_laws.specs.Logs.{settled_at}
 use Rattle.claim_laws.proofs.Still.{standings_known, part_at}
 use Rattle.claim_laws.proofs.Steps.{settled_slot}

@@ -1,5 +1,5 @@
 -- The components of a program and whom they call, by their rows; and what an aim reaches.
-use Rattle.std.proofs.Common.{◌≡◌, ℕ, zero, suc, ◌<◌, ◌≤◌, true, List, [], ◌∷◌, map, length, slice_get, Some, None, Option, refl, sym, ap, ◌∙◌, ⊎_elim, arith, All, option_map}
+use Rattle.std.proofs.Common.{◌≡◌, ℕ, suc, ◌<◌, ◌≤◌, true, List, [], ◌∷◌, map, length, slice_get, Some, None, Option, refl, sym, ap, ◌∙◌, ⊎_elim, arith, All, option_map}
 use Rattle.std.specs.List.{filter_map, cons_option}
 use Rattle.std.proofs.lemmas.Bool.Decides.{Decides-ltb}
 use Rattle.std.proofs.lemmas.Bool.{cases_lt}
@@ -10,7 +10,7 @@ use Rattle.shape_data.specs.declared.program.Proc.{Proc}
 use Rattle.shape_data.specs.declared.program.Program.{Program}
 use Rattle.call_components.specs.Reaching.{AreDefined, rows}
 use Rattle.shape_laws.proofs.StepsStacks.{within-some}
-use Rattle.component_keys.specs.Components.{calls_of, components, holds, reached}
+use Rattle.component_keys.specs.Components.{calls_of, components, holds}
 use Rattle.component_keys.specs.Keys.{Component, Outer, calls_in, component_of, flows_of, names_of, program_components}
 use Rattle.component_keys.proofs.Basics.{at_map, mapped_some}
 use Rattle.component_keys.proofs.Ordered.{callees_before, held_at}
@@ -20,7 +20,7 @@ use Rattle.composed_keys.specs.declared.rows.Outer.{Outer as OuterRow}
 use Rattle.composed_keys.specs.Rows.{component_value, outer_value}
 use Rattle.composed_keys.proofs.Components.{components_few}
 use Rattle.claim_laws.specs.Waits.{IsAim}
-use Rattle.claim_laws.specs.World.{Standing, World}
+use Rattle.claim_laws.specs.World.{World}
 use Rattle.claim_laws.proofs.Still.{part_at}
 use Rattle.summary_book.specs.declared.aims.Aim.{Aim}
 use Rattle.summary_book.specs.declared.aims.Aim.TheVariants as aim

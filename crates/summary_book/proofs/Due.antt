@@ -1,6 +1,6 @@
 -- Whether a component is settled, and whether a key is what it is due, by the rows of the book.
-use Rattle.std.proofs.Common.{◌≡◌, ℕ, ◌<◌, Bool, true, false, cond, List, map, length, slice_get, slice_index_or, is_some, Some, None, Option, refl, sym, ap, ◌∙◌, subst, option_map, get_or, All, IsSome}
-use Rattle.std.specs.List.{filter_map, list_all}
+use Rattle.std.proofs.Common.{◌≡◌, ℕ, Bool, true, false, cond, List, map, length, slice_get, slice_index_or, is_some, Some, None, Option, refl, sym, ap, ◌∙◌, subst, option_map, get_or, All, IsSome}
+use Rattle.std.specs.List.{list_all}
 use Rattle.std.proofs.lemmas.Option.{slice_get-get_or}
 use Rattle.shape_data.specs.declared.answer.Callee.{Callee}
 use Rattle.shape_data.specs.declared.answer.Key.{Key}
@@ -8,23 +8,23 @@ use Rattle.shape_data.specs.declared.program.Program.{Program}
 use Rattle.call_components.specs.Reaching.{marked}
 use Rattle.component_keys.specs.Keys.{Component, Outer, flows_of, names_of, key_over, program_components}
 use Rattle.component_keys.specs.Tests.{key_test}
-use Rattle.component_keys.proofs.Basics.{not_none, some_same, mapped_some, at_map}
+use Rattle.component_keys.proofs.Basics.{not_none, some_same, at_map}
 use Rattle.composed_keys.specs.declared.rows.Component.{Component as ComponentRow}
 use Rattle.composed_keys.specs.declared.rows.Outer.{Outer as OuterRow}
-use Rattle.composed_keys.specs.Rows.{IsWithin, component_value, outer_value}
+use Rattle.composed_keys.specs.Rows.{IsWithin, component_value}
 use Rattle.claim_core.specs.declared.event.Event.{Event as Told}
 use Rattle.claim_core.specs.Told.{events_of}
 use Rattle.claim_laws.specs.Invariant.{IsDueAt}
-use Rattle.claim_laws.specs.World.{World, Slot, Standing, Out, given, slot_of, settled_by, due_over, standings, standing_at}
+use Rattle.claim_laws.specs.World.{World, Slot, Standing, Out, slot_of, settled_by, due_over, standings}
 use Rattle.claim_laws.specs.Logs.{replay, settled_at}
 use Rattle.claim_laws.proofs.Defined.{standings_as_defined}
 use Rattle.summary_book.specs.declared.rows.OutRow.{OutRow}
 use Rattle.summary_book.specs.declared.rows.Parts.{Parts}
 use Rattle.summary_book.specs.declared.rows.SlotRow.{SlotRow}
 use Rattle.summary_book.specs.Places.{key_at}
-use Rattle.summary_book.specs.Rows.{AreMarks, AreSlots, IsOutRow, IsSight, IsSlot, IsSlotAt, is_fit, is_fit_at, known_row, place_named, row_answer}
+use Rattle.summary_book.specs.Rows.{AreMarks, IsOutRow, IsSight, IsSlot, IsSlotAt, is_fit, is_fit_at, known_row, row_answer}
 use Rattle.summary_book.specs.Settled.{HasKnown, IsBlocked, IsExactAt}
-use Rattle.summary_book.proofs.Here.{StandsAt, stands_at, settled_of, some_settled, not_settled, own_place, place_is}
+use Rattle.summary_book.proofs.Here.{StandsAt, stands_at, settled_of, some_settled, not_settled, own_place}
 use Rattle.summary_book.proofs.Callees.{given_all, given_none, somes_same, all_at_place, not_all, row_of, value_at}
 
 pub bool_cases : (b : Bool) → (b ≡ false → b ≡ true) → b ≡ true

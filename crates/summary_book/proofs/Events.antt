@@ -1,7 +1,7 @@
 -- What the book's rows are after each event.
 use Rattle.std.proofs.Common.{◌≡◌, ℕ, zero, suc, ◌+◌, ◌<◌, ◌≤◌, ◌==◌, Bool, true, false, ◌&&◌, not, List, [], ◌∷◌, ◌++◌, length, slice_get, slice_index_or, slice_set, is_some, Some, None, Option, refl, sym, ap, ◌∙◌, subst, arith}
 use Rattle.std.specs.List.{AllZip, filter, remove}
-use Rattle.std.proofs.lemmas.List.{map_push, length_push, length-set, get_or-set_same, get_or-set_other}
+use Rattle.std.proofs.lemmas.List.{map_push, length-set, get_or-set_same, get_or-set_other}
 use Rattle.std.proofs.lemmas.Bool.Decides.{Decides-eqb}
 use Rattle.std.proofs.lemmas.Option.{slice_get_within}
 use Rattle.shape_data.specs.declared.answer.Answer.{Answer}
@@ -16,8 +16,7 @@ use Rattle.component_keys.proofs.Basics.{at_left, at_end, both_true, found, is_f
 use Rattle.key_laws.proofs.Elements.{zipped_weaker}
 use Rattle.claim_core.specs.declared.event.Event.{Event as Told}
 use Rattle.claim_core.specs.Told.{event_of, events_of}
-use Rattle.claim_laws.specs.Invariant.{IsEarlier, IsWorld}
-use Rattle.claim_laws.specs.World.{World, Event, Slot, Out, Standing, but, happened, after, is_present, may_happen, out_of, put_slot, slot_for, slot_of, slots_with, without, is_kept, may_publish}
+use Rattle.claim_laws.specs.World.{World, Event, Slot, Out, but, happened, after, is_present, may_happen, out_of, put_slot, slot_for, slot_of, slots_with, without, is_kept, may_publish}
 use Rattle.claim_laws.specs.Logs.{IsLegal, IsSolved, first_world, replay, replay_from, settled_at}
 use Rattle.claim_laws.proofs.Invariant.{replayed_world}
 use Rattle.claim_laws.proofs.Once.{after_is, claim_needs}
@@ -30,8 +29,8 @@ use Rattle.summary_book.specs.declared.rows.SlotRow.{SlotRow}
 use Rattle.summary_book.specs.Book.{AreRows}
 use Rattle.summary_book.specs.Moved.{IsMoved, with_slot, with_slot_at}
 use Rattle.summary_book.specs.Places.{answer_at, answer_in, key_at, key_in}
-use Rattle.summary_book.specs.Rows.{AreMarks, AreOut, AreParts, AreSlots, IsOutRow, IsSight, IsSlot, IsSlotAt, is_fit, is_fit_at, place_named}
-use Rattle.summary_book.proofs.Here.{own_place, place_is, some_settled}
+use Rattle.summary_book.specs.Rows.{AreMarks, AreOut, AreParts, AreSlots, IsOutRow, IsSight, IsSlot, IsSlotAt, is_fit, is_fit_at}
+use Rattle.summary_book.proofs.Here.{own_place, place_is}
 use Rattle.summary_book.proofs.Lists.{rising_differ, without_place, zipped_at_end, zipped_through, zipped_without}
 
 pub not_both : {A : Type 0} {b : Bool} → b ≡ true → b ≡ false → A

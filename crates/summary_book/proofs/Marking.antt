@@ -1,5 +1,5 @@
 -- A component whose due key is answered is settled, and what it calls is marked already.
-use Rattle.std.proofs.Common.{◌≡◌, ℕ, zero, suc, ◌<◌, ◌==◌, Bool, true, false, cond, not, List, [], ◌∷◌, length, slice_get, slice_index_or, is_some, Some, None, Option, refl, sym, ap, ◌∙◌, subst, inr, ⊎_elim, arith}
+use Rattle.std.proofs.Common.{◌≡◌, ℕ, zero, suc, ◌<◌, ◌==◌, Bool, true, false, cond, not, List, [], ◌∷◌, slice_get, slice_index_or, is_some, Some, None, Option, refl, sym, ap, ◌∙◌, subst, inr, ⊎_elim, arith}
 use Rattle.shape_data.specs.declared.answer.Answer.{Answer}
 use Rattle.shape_data.specs.declared.answer.Callee.{Callee}
 use Rattle.shape_data.specs.declared.answer.Key.{Key}
@@ -9,7 +9,7 @@ use Rattle.component_keys.proofs.Basics.{mapped_some, not_none, some_same}
 use Rattle.component_keys.proofs.Ordered.{callees_before}
 use Rattle.claim_laws.specs.Invariant.{IsDueAt}
 use Rattle.claim_laws.specs.Logs.{settled_at}
-use Rattle.claim_laws.specs.World.{Event, Out, Slot, Standing, World, both, given, given_by, happened, is_kept, may_happen, outcome_at, is_kept_outcome, out_of, settled_in, standing_at, standings, without}
+use Rattle.claim_laws.specs.World.{Event, Out, Slot, Standing, World, both, given, given_by, happened, is_kept, may_happen, outcome_at, is_kept_outcome, out_of, settled_in, standings, without}
 use Rattle.claim_laws.proofs.Defined.{standings_as_defined}
 use Rattle.claim_laws.proofs.Once.{after_is, held_through}
 use Rattle.claim_laws.proofs.Steps.{kept_at}

@@ -8,7 +8,6 @@ use Rattle.component_keys.proofs.Basics.{some_same}
 use Rattle.component_keys.proofs.Ordered.{callees_before}
 use Rattle.claim_laws.specs.Logs.{settled_at}
 use Rattle.claim_laws.specs.World.{Slot, World}
-use Rattle.summary_book.specs.Rows.{AreMarks}
 use Rattle.summary_book.specs.Settled.{AreExact, IsExactAt}
 use Rattle.summary_book.proofs.Search.{marks_more}
 

@@ -1,5 +1,5 @@
 -- Procedures by their places and names.
-use Rattle.std.proofs.Common.{◌≡◌, ℕ, ◌+◌, ◌<◌, Bool, true, false, ◌||◌, nat_eq, List, [], ◌∷◌, ◌++◌, map, length, take, slice_get, get_or, Some, None, Option, refl, sym, ap, ◌∙◌, subst, All, option_map}
+use Rattle.std.proofs.Common.{◌≡◌, ℕ, ◌+◌, ◌<◌, Bool, true, false, ◌||◌, nat_eq, List, [], ◌∷◌, ◌++◌, map, length, take, slice_get, get_or, Some, Option, refl, sym, ap, ◌∙◌, All, option_map}
 use Rattle.std.specs.List.{filter_map, list_any}
 use Rattle.std.specs.Cmp.Lexicographic.{pointwise}
 use Rattle.std.proofs.lemmas.List.{length-map, map_push, take_more}

@@ -10,7 +10,7 @@ use Rattle.component_keys.proofs.Apart.{names_same}
 use Rattle.component_keys.proofs.Basics.{found}
 use Rattle.component_keys.proofs.Ordered.{some_passes}
 use Rattle.component_keys.proofs.Reach.{any_passes}
-use Rattle.claim_laws.specs.World.{World, Event, Slot, Out, Standing, after, but, happened, is_kept, is_present, may_happen, may_publish, out_of, put_slot, slot_for, slots_with, standing_named, standings}
+use Rattle.claim_laws.specs.World.{World, Event, Slot, Out, Standing, after, but, happened, is_kept, is_present, may_happen, may_publish, out_of, slot_for, slots_with, standing_named, standings}
 use Rattle.claim_laws.specs.Logs.{first_world, replay, replay_from}
 use Rattle.claim_laws.proofs.Invariant.{All-put}
 use Rattle.claim_laws.proofs.Steps.{by_may, kept_at}

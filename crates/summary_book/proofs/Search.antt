@@ -1,29 +1,26 @@
 -- The components up to a place, as the search for the first that may be claimed has seen them.
-use Rattle.std.proofs.Common.{◌≡◌, ℕ, suc, ◌+◌, ◌<◌, ◌≤◌, Bool, true, false, min, List, length, slice_get, get_or, is_some, Some, None, Option, refl, sym, ap, ◌∙◌, subst, ⊎_elim, ◌⊎◌, inl, inr, arith, le_refl}
-use Rattle.std.specs.List.{list_any}
+use Rattle.std.proofs.Common.{◌≡◌, ℕ, ◌+◌, ◌<◌, ◌≤◌, Bool, true, false, min, List, length, slice_get, get_or, is_some, Some, None, Option, refl, sym, ap, ◌∙◌, subst, ⊎_elim, ◌⊎◌, inl, inr, arith}
 use Rattle.std.specs.Prelude.{slice_set}
 use Rattle.std.proofs.lemmas.Bool.{cases_eq, cases_lt}
 use Rattle.std.proofs.lemmas.List.{length-set, get_or-set_same, get_or-set_other}
 use Rattle.std.proofs.lemmas.Option.{slice_get_within, get_or_from_slice_get}
 use Rattle.shape_data.specs.declared.answer.Key.{Key}
 use Rattle.call_components.specs.Reaching.{marked}
-use Rattle.component_keys.specs.Keys.{Component, Outer, program_components}
+use Rattle.component_keys.specs.Keys.{Component}
 use Rattle.component_keys.specs.Tests.{key_test}
 use Rattle.component_keys.proofs.Basics.{none_passes, not_none, some_same}
 use Rattle.component_keys.proofs.Ordered.{callees_before}
-use Rattle.claim_laws.specs.Invariant.{HaveOtherKeys}
 use Rattle.claim_laws.specs.Logs.{replay, settled_at}
 use Rattle.claim_laws.specs.Waits.{IsAboveOut, IsAim, IsOut, IsUnsettled}
-use Rattle.claim_laws.specs.World.{Event, Out, Slot, Standing, World, standing_at, standings}
+use Rattle.claim_laws.specs.World.{Event, Out, Standing, World, standing_at, standings}
 use Rattle.claim_laws.proofs.Invariant.{replayed_world}
-use Rattle.claim_laws.proofs.Still.{part_at}
 use Rattle.claim_laws.proofs.Waits.{waits_on_out}
 use Rattle.summary_book.specs.Found.{lesser}
 use Rattle.summary_book.specs.Next.{IsFirstFree, IsFree, IsOutBy, IsSettled, IsWaiting}
 use Rattle.summary_book.specs.Rows.{AreMarks}
 use Rattle.summary_book.specs.Settled.{IsBlocked, IsExactAt}
 use Rattle.summary_book.proofs.Events.{not_both}
-use Rattle.summary_book.proofs.Here.{StandsAt, stands_at, settled_of}
+use Rattle.summary_book.proofs.Here.{stands_at, settled_of}
 
 -- it is marked, or due nothing, or out
 abbrev pub IsSeen : World → List Bool → ℕ → Type 0

@@ -1,5 +1,5 @@
 -- What is collected is right for its keys.
-use Rattle.std.proofs.Common.{◌≡◌, ℕ, zero, suc, All, List, [], ◌∷◌, length, map, slice_get, Bool, cond, true, false, Some, None, Option, refl, sym, ap, ◌∙◌, subst}
+use Rattle.std.proofs.Common.{◌≡◌, ℕ, All, List, [], ◌∷◌, length, map, Bool, Some, None, Option, refl, sym, ◌∙◌, subst}
 use Rattle.std.specs.List.{cons_option, filter, filter_map, range_with_len}
 use Rattle.std.proofs.lemmas.List.Elements.{All-cons, All-head, All-map, All-nil, All-tail}
 use Rattle.shape_data.specs.declared.answer.Answer.{Answer}
@@ -7,7 +7,7 @@ use Rattle.shape_data.specs.declared.answer.Kept.{Kept}
 use Rattle.shape_data.specs.declared.answer.Key.{Key}
 use Rattle.component_keys.specs.Components.{same_names}
 use Rattle.component_keys.specs.Keys.{names_of}
-use Rattle.component_keys.proofs.Basics.{found, not_none, some_same}
+use Rattle.component_keys.proofs.Basics.{found}
 use Rattle.claim_core.specs.Views.{Solution, solution_of}
 use Rattle.claim_laws.specs.Logs.{IsLegal, replay, settled_at}
 use Rattle.claim_laws.specs.World.{Event, Slot, World, slot_of, standings}

@@ -1,5 +1,5 @@
 -- What the search for the first component that may be claimed finds.
-use Rattle.std.specs.Prelude.{◌≡◌, ℕ, ◌<◌, Bool, true, min}
+use Rattle.std.specs.Prelude.{ℕ, Bool, min}
 use Rattle.std.specs.declared.option.Option.{Option}
 use Rattle.std.specs.declared.option.Option.TheVariants.{None, Some}
 use Rattle.shape_data.specs.declared.answer.Key.{Key}

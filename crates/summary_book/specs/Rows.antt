@@ -1,5 +1,5 @@
 -- What a book keeps in rows: the parts of the present program, slots and outstanding claims.
-use Rattle.std.specs.Prelude.{◌≡◌, ℕ, ◌<◌, Bool, true, false, List, map, length, slice_get, slice_index_or, is_some}
+use Rattle.std.specs.Prelude.{◌≡◌, ℕ, Bool, true, false, List, map, length, slice_get, slice_index_or, is_some}
 use Rattle.std.specs.List.{AllZip, position}
 use Rattle.std.specs.declared.option.Option.{Option}
 use Rattle.std.specs.declared.option.Option.TheVariants.{None, Some}

@@ -1,6 +1,6 @@
 //! What a book keeps of slots and outstanding claims where another program is present. Where both programs have the same structures, the
 //! key of a slot that fitted is compared by its procedures alone, and the structures that it uses are not looked up again.
-ghost use Rattle.std.specs.Prelude.{◌≡◌, ℕ, ◌<◌, ◌↔◌, IsTrue, Some, None, IfOk, IfSome, All, length, map, slice_get};
+ghost use Rattle.std.specs.Prelude.{◌≡◌, ◌<◌, ◌↔◌, IsTrue, Some, None, IfOk, IfSome, All, length, slice_get};
 ghost use Rattle.std.specs.List.{AllZip, filter, filter_map};
 ghost use Rattle.claim_core.specs.Told.{events_of};
 ghost use Rattle.claim_laws.specs.Logs.{replay};

@@ -1,11 +1,11 @@
 //! The search for the first component that may be claimed: once through the components that an aim reaches, callees first.
-ghost use Rattle.std.specs.Prelude.{◌≡◌, ℕ, ◌+◌, ◌<◌, Some, None, IfSome, All, length, true};
+ghost use Rattle.std.specs.Prelude.{◌≡◌, ℕ, ◌<◌, Some, None, All, length, true};
 ghost use Rattle.std.specs.List.{find};
 ghost use Rattle.std.specs.Option.{option_map};
 ghost use Rattle.call_components.specs.Reaching.{marked};
 ghost use Rattle.claim_core.specs.Told.{events_of};
 ghost use Rattle.claim_laws.specs.Invariant.{IsDueAt};
-ghost use Rattle.claim_laws.specs.Logs.{replay, settled_at};
+ghost use Rattle.claim_laws.specs.Logs.{replay};
 ghost use Rattle.claim_laws.specs.Waits.{IsAim};
 ghost use Rattle.claim_laws.specs.World.{Out};
 ghost use Rattle.component_keys.specs.Tests.{key_test};

@@ -1,5 +1,5 @@
 //! What has a JSON form over structures and parameters, and rows of such things.
-ghost use Rattle.std.specs.Prelude.{◌≡◌, Some, map, All, IfOk, IfErr};
+ghost use Rattle.std.specs.Prelude.{◌≡◌, Some, All, IfOk, IfErr};
 ghost use Rattle.serde_json.specs.View.{view};
 ghost use Rattle.shape_data.specs.WellFormed.{AreParams, AreStructs};
 ghost use Rattle.flow_json.specs.Forms.{list_data, read_list};

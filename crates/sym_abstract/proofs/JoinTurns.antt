@@ -1,8 +1,8 @@
 -- The search for a join, place by place.
-use Rattle.std.specs.Prelude.{◌≡◌, ℕ, zero, suc, ◌+◌, ◌-◌, ◌<◌, Bool, true, false, is_some, option_map}
+use Rattle.std.specs.Prelude.{◌≡◌, ℕ, suc, ◌+◌, ◌-◌, ◌<◌, Bool, is_some, option_map}
 use Rattle.std.specs.declared.option.Option.{Option}
 use Rattle.std.specs.declared.option.Option.TheVariants.{None, Some}
-use Rattle.std.proofs.Common.{refl, sym, ap, ◌∙◌, arith, List}
+use Rattle.std.proofs.Common.{refl, ap, ◌∙◌, arith, List}
 use Rattle.shape_data.specs.declared.symbolic.Atom.{Atom}
 use Rattle.abstraction_laws.specs.Joining.{IsJoin, Join, find_join, first_join, or_else}
 use Rattle.abstraction_laws.proofs.JoinLaws.{found-is}

@@ -1,19 +1,16 @@
 -- The steps on pairs, by counts.
 use Rattle.std.specs.Prelude.{◌≡◌, ℕ, ◌+◌, min, Bool, true, false, not, ◌||◌, List, [], ◌∷◌, ◌++◌, is_some, option_map, leb, ◌==◌}
 use Rattle.std.specs.declared.option.Option.{Option}
-use Rattle.std.specs.declared.option.Option.TheVariants.{None, Some}
-use Rattle.std.proofs.Common.{refl, sym, ap, ap₂, subst, ◌∙◌, arith, append_assoc}
+use Rattle.std.proofs.Common.{refl, sym, ap, subst, ◌∙◌, arith, append_assoc}
 use Rattle.shape_data.specs.declared.symbolic.Atom.{Atom}
 use Rattle.shape_data.specs.declared.symbolic.Exp.{Exp}
 use Rattle.shape_data.specs.declared.symbolic.Exp.TheVariants.{Var}
 use Rattle.shape_data.specs.declared.symbolic.SymHeap.{SymHeap}
 use Rattle.shape_data.specs.declared.symbolic.SymState.{SymState}
-use Rattle.sym_laws.specs.Expressions.{is_among}
 use Rattle.sym_laws.specs.Mapped.{on_state}
 use Rattle.sym_canon.specs.declared.parts.Pair.{Pair}
 use Rattle.sym_canon.specs.Placing.{exps_of}
-use Rattle.abstraction_laws.specs.Forgetting.{first_new}
-use Rattle.abstraction_laws.specs.Joining.{Join, find_join}
+use Rattle.abstraction_laws.specs.Joining.{find_join}
 use Rattle.abstraction_laws.specs.Occurrences.{exps_of_atoms, exps_of_heap, times_in}
 use Rattle.abstraction_laws.specs.Pairs.{exps_beside_facts, is_absent_or_joint, made_existential}
 use Rattle.sym_abstract.specs.declared.joining.Place.{Place}

@@ -9,7 +9,7 @@ use Rattle.shape_data.specs.declared.symbolic.Atom.TheVariants.{Junk}
 use Rattle.shape_data.specs.declared.symbolic.Exp.{Exp}
 use Rattle.shape_data.specs.declared.symbolic.Exp.TheVariants.{Var}
 use Rattle.sym_canon.specs.Placing.{all_lead_to}
-use Rattle.abstraction_laws.specs.Reaching.{is_kept, is_left, keep_reached, keep_seen, see_from, seen_from}
+use Rattle.abstraction_laws.specs.Reaching.{is_kept, is_left, keep_reached, see_from, seen_from}
 use Rattle.sym_abstract.specs.Counted.{Adds, Counts, Times, counted, is_kept_by}
 use Rattle.sym_abstract.proofs.Adding.{times-append}
 use Rattle.sym_abstract.proofs.CountedLaws.{all-alike, filter-alike, kept-same}

@@ -1,5 +1,5 @@
 //! Third rule: two atoms that meet at a variable, which stands nowhere else, are joined into one segment.
-ghost use Rattle.std.specs.Prelude.{◌≡◌, ℕ, ◌^◌, ◌<◌, ◌≤◌, Bool, [], ◌∷◌, List, IfOk, IfSome, is_some, length, option_map, position};
+ghost use Rattle.std.specs.Prelude.{◌≡◌, ℕ, ◌^◌, ◌<◌, ◌≤◌, Bool, List, IfOk, IfSome, is_some, length, option_map, position};
 ghost use Rattle.std.specs.Str.{bytes_eq};
 ghost use Rattle.std.specs.declared.option.Option.TheVariants.{Some};
 ghost use Rattle.shape_data.specs.declared.symbolic.Atom.{Atom as AnyAtom};

@@ -1,5 +1,5 @@
 //! Tests of what abstraction needs of sizes. They are true of each well-formed state, post and heap.
-ghost use Rattle.std.specs.Prelude.{◌≡◌, ◌+◌, ◌≤◌, ◌↔◌, length, All, IsTrue, min};
+ghost use Rattle.std.specs.Prelude.{◌≡◌, ◌+◌, ◌↔◌, IsTrue, min};
 ghost use Rattle.sym_forms.specs.Sizes.{fields_in, fields_of as fields_of_atom};
 ghost use Rattle.abstraction_laws.specs.Rooms.{HasRoom, HaveFewFields, IsWithinRoom};
 

@@ -1,6 +1,5 @@
 //! Execution of a node: the cases of its command, each in normal and canonical form, and what strict execution answers to them.
 ghost use Rattle.std.specs.Prelude.{◌≡◌, IfOk, filter_map, length, slice_get};
-ghost use Rattle.std.specs.Option.{option_copied};
 ghost use Rattle.shape_data.specs.declared.answer.Callee.{Callee as AnyCallee};
 ghost use Rattle.shape_data.specs.WellFormed.{AreStructs, FitCalls, IsFlow, IsState, IsSymHeap, widest};
 ghost use Rattle.exec_laws.specs.Execution.{

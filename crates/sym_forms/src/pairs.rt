@@ -8,7 +8,6 @@ ghost use Rattle.sym_forms.specs.PairForms.{
   pair_form as pair_form_of,
   pair_of as pair_of_parts,
   with_missing as with_missing_of,
-  without_facts,
 };
 
 use shape_data::Row;

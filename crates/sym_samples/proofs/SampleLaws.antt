@@ -1,5 +1,5 @@
 -- A normal heap whose sources are pairwise distinct variables is met by the cells of its atoms.
-use Rattle.std.specs.Prelude.{◌≡◌, ◌≢◌, ℕ, ◌+◌, ◌<◌, ℤ, pos, ◌<ℤ◌, Bool, true, false, not, ◌&&◌, ◌||◌, ◌==◌, List, [], ◌∷◌, length, map, All, slice_set, slice_index_or}
+use Rattle.std.specs.Prelude.{◌≡◌, ℕ, ◌+◌, ◌<◌, ℤ, pos, ◌<ℤ◌, Bool, true, false, not, ◌&&◌, List, [], ◌∷◌, length, map, All, slice_set, slice_index_or}
 use Rattle.std.proofs.Common.{refl, sym, ap, subst, ◌∙◌, arith}
 use Rattle.std.specs.List.{list_all, list_any}
 use Rattle.std.specs.Option.{IsSomeAnd}
@@ -35,7 +35,7 @@ use Rattle.sym_pure.specs.Contradictions.{do_sources_clash, has_clash, has_same_
 use Rattle.sym_pure.specs.IsNormal.{are_in_order, are_normal_atoms, are_normal_facts, has_redundant, has_two_junk, is_normal_heap, is_read, is_read_atom, is_read_fact}
 use Rattle.sym_pure.specs.Emptying.{is_empty}
 use Rattle.sym_samples.specs.Laws.{IsLow, IsShaped, NormalIsMet, WellFormedIsShaped}
-use Rattle.sym_samples.specs.Samples.{cell_of, has_sample, heap_of, is_variable, number_of, plain, starts, with_cell, zeros}
+use Rattle.sym_samples.specs.Samples.{has_sample, heap_of, is_variable, number_of, plain, starts, zeros}
 use Rattle.sym_samples.proofs.NumberLaws.{both_true, not_true, plain-same, read_value, true_facts}
 
 -- ---- shapes of the cells

@@ -1,5 +1,5 @@
 //! The numbers of variables and of expressions.
-ghost use Rattle.std.specs.Prelude.{◌≡◌, ◌+◌, ◌<◌, ◌≤◌, All, IfOk, map};
+ghost use Rattle.std.specs.Prelude.{◌≡◌, ◌+◌, ◌<◌, All, IfOk, map};
 ghost use Rattle.shape_data.specs.Meaning.{value};
 ghost use Rattle.sym_laws.specs.Each.{EachInFact};
 ghost use Rattle.sym_samples.specs.Laws.{IsLow};

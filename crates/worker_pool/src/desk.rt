@@ -5,7 +5,7 @@
 //! wait, so a change comes either before the look, which sees it, or after the wait has begun; and each change that can give others
 //! something to do is followed by a ring that wakes all who wait: another program (`start`, `Locked::turn`), an answer or a give-back,
 //! and the closing. A claim gives nobody else anything to do, so it does not ring. Who is woken looks again.
-ghost use Rattle.std.specs.Prelude.{◌≡◌, ◌≤◌, IfOk, vec_len};
+ghost use Rattle.std.specs.Prelude.{◌≤◌, IfOk, vec_len};
 ghost use Rattle.shape_data.specs.Sizes.{HasProgramSizes};
 ghost use Rattle.shape_data.specs.WellFormed.{IsProgram};
 ghost use Rattle.worker_pool.specs.Entries.{AreEntries};

@@ -1,5 +1,5 @@
 -- Each turn lists the class that the definition lists.
-use Rattle.std.proofs.Common.{◌≡◌, ◌<◌, ◌≤◌, ◌-◌, ◌∙◌, [], List, ℕ, All, None, find, length, map, slice_get, sym, ap, subst, arith}
+use Rattle.std.proofs.Common.{◌≡◌, ◌<◌, ◌≤◌, ◌-◌, ◌∙◌, [], List, ℕ, All, None, find, length, map, slice_get, sym, subst, arith}
 use Rattle.std.proofs.lemmas.List.{length-map}
 use Rattle.call_components.specs.Reaching.{rows}
 use Rattle.call_components.specs.Tables.{AreAllMarked, is_next_in}

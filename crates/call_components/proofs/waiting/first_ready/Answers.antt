@@ -1,6 +1,5 @@
 -- The least of those that are kept is taken, until one is not listed.
-use Rattle.std.proofs.Common.{rules, ◌≡◌, ◌<◌, ◌∙◌, ◌∷◌, ℕ, true, length, refl, sym}
-use Rattle.component_keys.specs.Components.{holds}
+use Rattle.std.proofs.Common.{rules, ◌<◌, ◌∙◌, length, refl}
 use Rattle.call_components.specs.Waiting.{places_in}
 use Rattle.call_components.proofs.Held.{is_first_held}
 use Rattle.call_components.proofs.waiting.first_ready.Goals as goal

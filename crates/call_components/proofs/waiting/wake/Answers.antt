@@ -1,5 +1,5 @@
 -- Those that wait for the number are still to be looked at.
-use Rattle.std.proofs.Common.{◌≡◌, ◌<◌, ◌∙◌, [], All, length, set, refl, sym, ap, subst}
+use Rattle.std.proofs.Common.{◌≡◌, ◌<◌, ◌∙◌, All, length, set, refl, sym, ap, subst}
 use Rattle.std.proofs.lemmas.List.{length-set}
 use Rattle.component_keys.specs.Components.{calls_of}
 use Rattle.call_components.specs.Reaching.{rows}

@@ -1,5 +1,5 @@
 -- One row is the claim's, or none is.
-use Rattle.std.proofs.Common.{◌≡◌, ◌<◌, ◌∙◌, sym, arith}
+use Rattle.std.proofs.Common.{◌∙◌, sym, arith}
 use Rattle.std.proofs.lemmas.Option.{slice_get-get_or}
 use Rattle.summary_book.specs.Views.{is_claim}
 use Rattle.summary_book.proofs.Looked.{any_found, none_any_found, none_more}

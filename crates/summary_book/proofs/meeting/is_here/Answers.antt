@@ -1,5 +1,5 @@
 -- The component at the place has the names.
-use Rattle.std.proofs.Common.{◌≡◌, ◌<◌, ◌∙◌, length, slice_get, sym, ap, subst, Some, refl, rules}
+use Rattle.std.proofs.Common.{◌<◌, ◌∙◌, length, slice_get, sym, ap, refl, rules}
 use Rattle.std.specs.List.{filter_map}
 use Rattle.component_keys.specs.Keys.{flows_of, names_of}
 use Rattle.summary_book.proofs.Rowed.{named_here, row_at}

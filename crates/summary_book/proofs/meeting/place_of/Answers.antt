@@ -1,5 +1,5 @@
 -- The first component with the names is the one of its members.
-use Rattle.std.proofs.Common.{◌≡◌, ◌<◌, ◌∙◌, length, slice_get, sym, ap, Some, arith}
+use Rattle.std.proofs.Common.{◌∙◌, length, slice_get, sym, ap, arith}
 use Rattle.std.specs.List.{filter_map}
 use Rattle.component_keys.specs.Keys.{flows_of, names_of}
 use Rattle.summary_book.proofs.Events.{not_both}

@@ -1,5 +1,5 @@
 -- The first component with a procedure of the name is the one.
-use Rattle.std.proofs.Common.{◌≡◌, ◌<◌, ◌∙◌, length, slice_get, sym, ap, arith}
+use Rattle.std.proofs.Common.{◌∙◌, length, slice_get, sym, ap, arith}
 use Rattle.std.specs.List.{filter_map}
 use Rattle.component_keys.specs.Keys.{flows_of}
 use Rattle.summary_book.specs.Aims.{has_name}

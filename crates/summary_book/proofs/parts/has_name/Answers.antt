@@ -1,5 +1,5 @@
 -- One after the other is looked at.
-use Rattle.std.proofs.Common.{◌≡◌, true, sym}
+use Rattle.std.proofs.Common.{true, sym}
 use Rattle.summary_book.proofs.Events.{not_both}
 use Rattle.summary_book.proofs.Named.{named_more, named_there}
 use Rattle.summary_book.proofs.parts.has_name.Goals as goal

@@ -1,5 +1,5 @@
 -- Settled or not by the row of the slot, where all that the component calls are settled.
-use Rattle.std.proofs.Common.{◌≡◌, ◌<◌, ◌∙◌, false, true, All, length, sym, ap, subst, Some, None, slice_get, slice_index_or, option_map}
+use Rattle.std.proofs.Common.{◌≡◌, ◌<◌, ◌∙◌, false, true, All, length, sym, ap, subst, Some, slice_get, option_map}
 use Rattle.std.specs.List.{list_all}
 use Rattle.std.proofs.lemmas.Option.{slice_get-get_or}
 use Rattle.call_components.specs.Reaching.{marked}

@@ -1,5 +1,5 @@
 -- The first row whose claim holds the due key is that of the first such claim.
-use Rattle.std.proofs.Common.{◌≡◌, ◌<◌, ◌+◌, ◌∙◌, sym, Some, length, arith}
+use Rattle.std.proofs.Common.{◌∙◌, sym, arith}
 use Rattle.std.proofs.lemmas.Option.{slice_get-get_or}
 use Rattle.component_keys.specs.Tests.{key_test}
 use Rattle.claim_core.specs.Told.{events_of}

@@ -1,6 +1,5 @@
 -- The row's bit and place, and the callees, tell whether its key is the due one.
-use Rattle.std.proofs.Common.{◌≡◌, ◌<◌, ◌∙◌, Bool, All, length, slice_get, sym, ap, subst, refl, arith}
-use Rattle.shape_data.specs.declared.answer.Key.{Key}
+use Rattle.std.proofs.Common.{◌<◌, All, length, sym, subst, refl, arith}
 use Rattle.component_keys.specs.Tests.{key_test}
 use Rattle.component_keys.proofs.Whole.{same_answers}
 use Rattle.composed_keys.specs.declared.rows.Outer.{Outer as OuterRow}

@@ -1,6 +1,4 @@
-use Rattle.std.specs.Prelude.{◌++◌}
 use Rattle.abstraction_laws.specs.Occurrences.{exps_of_atoms, exps_of_facts}
-use Rattle.sym_abstract.specs.Counted.{Adds}
 use Rattle.sym_abstract.proofs.Adding.{adds-both, counts-all, empty-counts}
 use Rattle.sym_abstract.proofs.occurrences.times_of_heap.Goals as goal
 

@@ -1,4 +1,4 @@
-use Rattle.std.proofs.Common.{◌≤◌, ◌+◌, ◌∙◌, ap, ap₂, subst, sym}
+use Rattle.std.proofs.Common.{◌≤◌, ◌+◌, ◌∙◌, ap, subst, sym}
 use Rattle.sym_canon.specs.declared.parts.Pair.{Pair}
 use Rattle.abstraction_laws.specs.Forgetting.{first_new}
 use Rattle.abstraction_laws.specs.Pairs.{join_pair}

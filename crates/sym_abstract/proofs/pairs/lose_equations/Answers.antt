@@ -1,7 +1,6 @@
 use Rattle.std.proofs.Common.{◌≡◌, ◌∙◌, ap, List, filter, not}
 use Rattle.shape_data.specs.declared.symbolic.Fact.{Fact}
 use Rattle.sym_canon.specs.declared.parts.Pair.{Pair}
-use Rattle.abstraction_laws.specs.Pairs.{is_lost_equation}
 use Rattle.sym_abstract.specs.Counted.{is_lost_equation_by}
 use Rattle.sym_abstract.proofs.CountedLaws.{equations-same}
 use Rattle.sym_abstract.proofs.pairs.lose_equations.Goals as goal

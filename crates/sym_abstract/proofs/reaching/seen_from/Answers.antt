@@ -1,4 +1,4 @@
-use Rattle.std.proofs.Common.{◌≡◌, ◌<◌, ◌-◌, ◌+◌, ◌∙◌, suc, [], arith, length, subst, sym}
+use Rattle.std.proofs.Common.{◌≡◌, ◌<◌, ◌-◌, ◌+◌, ◌∙◌, suc, arith, length, subst, sym}
 use Rattle.abstraction_laws.specs.Reaching.{seen_from}
 use Rattle.sym_abstract.proofs.SeenTurns.{HasSeen, no-items, seen-first, seen-last, seen-out, seen-turn}
 use Rattle.sym_abstract.proofs.reaching.seen_from.Goals as goal

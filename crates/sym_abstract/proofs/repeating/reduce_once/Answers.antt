@@ -1,5 +1,4 @@
-use Rattle.std.proofs.Common.{List, subst, sym}
-use Rattle.shape_data.specs.declared.symbolic.Atom.{Atom}
+use Rattle.std.proofs.Common.{subst, sym}
 use Rattle.abstraction_laws.specs.Rooms.{HaveFewFields}
 use Rattle.abstraction_laws.proofs.FewLaws.{kept-few}
 use Rattle.sym_abstract.proofs.repeating.reduce_once.Goals as goal

@@ -1,6 +1,5 @@
 -- The answer is what the search found.
 use Rattle.std.proofs.Common.{◌≡◌, ◌+◌, ◌≤◌, ◌∙◌, ◌++◌, ◌∷◌, [], length, true, refl, sym, ap, subst, arith}
-use Rattle.claim_core.specs.Sizes.{IsJobKey}
 use Rattle.claim_core.specs.Views.{IsSolution}
 use Rattle.shape_data.specs.declared.answer.Key.{Key}
 use Rattle.call_components.specs.Reaching.{marked}

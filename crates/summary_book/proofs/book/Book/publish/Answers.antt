@@ -1,5 +1,5 @@
 -- The answer becomes its component's by the order of cases.
-use Rattle.std.proofs.Common.{◌≡◌, ◌∙◌, ◌++◌, ◌∷◌, [], true, is_some, IfSome, Some, refl, sym, ap, subst}
+use Rattle.std.proofs.Common.{◌≡◌, ◌∙◌, ◌++◌, ◌∷◌, [], true, is_some, Some, refl, sym, ap, subst}
 use Rattle.call_components.specs.Reaching.{marked}
 use Rattle.claim_core.specs.Views.{IsSolution}
 use Rattle.claim_core.specs.declared.event.Event.TheVariants as told

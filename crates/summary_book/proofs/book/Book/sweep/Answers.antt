@@ -1,5 +1,5 @@
 -- One claim less is to be given back.
-use Rattle.std.proofs.Common.{◌≡◌, ◌<◌, ◌∙◌, length, sym, refl, arith}
+use Rattle.std.proofs.Common.{◌<◌, ◌∙◌, length, sym, refl, arith}
 use Rattle.claim_core.specs.Views.{IsSolution}
 use Rattle.summary_book.proofs.Rowed.{row_at}
 use Rattle.summary_book.proofs.Sweeping.{positive, swept_more}
