@@ -1,4 +1,4 @@
-pub mod ExposeTurns
-pub mod Listed
-pub mod LowForms
+mod ExposeTurns
+mod Listed
+mod LowForms
 pub mod LowVariables

@@ -1,4 +1,4 @@
-//! The rows of the commands on cells: Load, Store, New, Free.
+//! The rows of the commands on cells: Load, Store, New, Free; and that of a pair which may be a contradiction (`goes_on`), for branches too.
 ghost use Rattle.std.specs.Prelude.{◌≡◌, ◌<◌, ◌≤◌, IfOk, IfSome, List, Some, length, slice_get, slice_set};
 ghost use Rattle.shape_data.specs.declared.symbolic.Atom.TheVariants.{Points};
 ghost use Rattle.std.specs.Option.{option_copied};
@@ -56,9 +56,9 @@ fn cell_place(slot: u32, pair: &Pair) -> Option<usize>
 
 /// A cell's address and fields.
 #[derive(Clone, Copy)]
-pub struct CellFields<'a> {
-    pub at: Exp,
-    pub fields: &'a [Exp],
+struct CellFields<'a> {
+    at: Exp,
+    fields: &'a [Exp],
 }
 
 /// The address and the fields of a cell of the kind; or why there is none.
@@ -175,7 +175,7 @@ fn without_cell(next: u32, place: usize, pair: Pair) -> Case
 
 /// What a command does with a cell.
 #[derive(Clone, Copy)]
-pub enum Access<'a> {
+enum Access<'a> {
     Load {
         to: u32,
         kind: &'a Name,

@@ -375,7 +375,7 @@ fn emptied(
 
 /// What comes of one turn: a pair that is exposed again, or the last cases.
 #[derive(Drop)]
-pub enum Turn {
+enum Turn {
     Again(Pair),
     Last(Vec<Exposed>),
 }

@@ -1,6 +1,7 @@
-//! Symbolic execution of what touches no other procedure, over a pair of a missing heap and a state: values put into slots, and cells
-//! that are exposed (unfolded from a segment or, in the search, added to the missing heap), read, written, made and freed. Each call
-//! answers the value of its definition in `exec_laws`. Branches, calls and the execution of a node as a whole are in `sym_exec`.
+//! Symbolic execution of a command as far as it neither branches nor calls, over a pair of a missing heap and a state: values are put into
+//! slots or returned, and cells exposed (unfolded from a segment or, in the search, added to the missing heap), read, written, made and
+//! freed. Beside these, what all commands share: forms of pairs, new variables, facts. Whatever has a definition in `exec_laws` answers its
+//! value. Branches, calls and the execution of a node as a whole are in `sym_exec`.
 #![tactic(auto)]
 
 pub mod cells;

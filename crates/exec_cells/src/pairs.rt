@@ -33,14 +33,14 @@ use sym_forms::pair_form;
 use sym_pure::{Normal, normal};
 
 /// What a slot holds.
-pub fn in_slot(pair: &Pair, slot: u32) -> Exp
+pub(crate) fn in_slot(pair: &Pair, slot: u32) -> Exp
     ensures { result ≡ in_slot_of pair.now slot }
 {
     exp_at(pair.state.locals.as_slice(), slot)
 }
 
 /// The pair with an expression in a slot.
-pub fn with_slot(slot: u32, e: Exp, pair: Pair) -> Pair
+pub(crate) fn with_slot(slot: u32, e: Exp, pair: Pair) -> Pair
     ensures { result ≡ with_slot_of slot e pair }
 {
     let mut pair = pair;
@@ -61,7 +61,11 @@ pub fn pair_variables(alloc: Global, pair: &Pair) -> Result<Vec<u32>, AllocError
 }
 
 /// So many new existential variables, which stand nowhere in the pair.
-pub fn new_existentials(alloc: Global, count: usize, pair: &Pair) -> Result<Vec<u32>, AllocError>
+pub(crate) fn new_existentials(
+    alloc: Global,
+    count: usize,
+    pair: &Pair,
+) -> Result<Vec<u32>, AllocError>
     requires { HasRoom count (pair_variables_of pair.now) }
     ensures { IfOk result (λ names. names.items ≡ new_existentials_of count pair.now) }
 {
@@ -84,7 +88,7 @@ pub fn above_logical(first: u32, names: &[u32]) -> u32
 }
 
 /// The number from which on logical variables are new in the pair of a procedure with so many parameters.
-pub fn new_logical(alloc: Global, params: u32, pair: &Pair) -> Result<u32, AllocError>
+pub(crate) fn new_logical(alloc: Global, params: u32, pair: &Pair) -> Result<u32, AllocError>
     ensures value { IfOk result (λ first. first ≡ new_logical_of params pair.now) }
     ensures low { params ≤ 65536 → IfOk result (λ first. first ≤ 65536) }
 {

@@ -1,4 +1,5 @@
-//! The rows of the commands that touch no cell: Copy, Arith, Any, Return.
+//! The rows of the commands that give a value without a cell: Copy, Arith, Any, Return; and what an operand is, and rows of one case, for
+//! branches and calls too.
 ghost use Rattle.std.specs.Prelude.{◌≡◌, ◌∷◌, [], IfOk};
 ghost use Rattle.shape_data.specs.Machine.{arith_value};
 ghost use Rattle.exec_laws.specs.declared.parts.Case.TheVariants.{On};

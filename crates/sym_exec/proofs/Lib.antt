@@ -1,4 +1,4 @@
-pub mod CalledSpecs
-pub mod Collected
-pub mod FoundCallees
-pub mod GivenPairs
+mod CalledSpecs
+mod Collected
+mod FoundCallees
+mod GivenPairs

@@ -86,22 +86,22 @@ fn arguments(alloc: Global, pair: &Pair, args: &[Operand]) -> Result<Vec<Exp>, A
 
 /// What a call is made with: the arguments, the pair, the pair's variables, and the number from which on logical variables are new.
 #[derive(Clone, Copy)]
-pub struct Caller<'a> {
-    pub args: &'a [Exp],
-    pub pair: &'a Pair,
-    pub used: &'a [u32],
-    pub first: u32,
+struct Caller<'a> {
+    args: &'a [Exp],
+    pair: &'a Pair,
+    used: &'a [u32],
+    first: u32,
 }
 
 /// How a spec fits: the missing heap with what is missing for the precondition, what is left beside it, the new numbers of its variables,
 /// what these are bound to, and the posts.
 #[derive(Drop)]
-pub struct Fit<'a> {
-    pub missing: SymHeap,
-    pub frame: SymHeap,
-    pub apart: Numbers,
-    pub binding: Row<(u32, Exp)>,
-    pub posts: &'a [Post],
+struct Fit<'a> {
+    missing: SymHeap,
+    frame: SymHeap,
+    apart: Numbers,
+    binding: Row<(u32, Exp)>,
+    posts: &'a [Post],
 }
 
 /// One symbolic heap beside another.
