@@ -1,4 +1,5 @@
-//! The rows of the commands on cells: Load, Store, New, Free; and that of a pair which may be a contradiction (`goes_on`), for branches too.
+//! The rows of the commands on cells: Load, Store, New, Free; and that of a pair which may be a contradiction (`goes_on`), which branches
+//! need too.
 ghost use Rattle.std.specs.Prelude.{◌≡◌, ◌<◌, ◌≤◌, IfOk, IfSome, List, Some, length, slice_get, slice_set};
 ghost use Rattle.shape_data.specs.declared.symbolic.Atom.TheVariants.{Points};
 ghost use Rattle.std.specs.Option.{option_copied};
