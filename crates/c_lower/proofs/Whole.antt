@@ -21,7 +21,7 @@ use Rattle.c_lower_emit.specs.Drafts.{at_start, resolve, laid, next_at}
 use Rattle.c_lower_emit.specs.Emitting.{Out, HasRoom, led_out, EmitsCode}
 use Rattle.c_lower_emit.proofs.Joining.{behind_nodes, code_then}
 use Rattle.c_lower_exprs.specs.Contexts.{on_line}
-use Rattle.c_lower_stmts.specs.Standing.{HasSlots}
+use Rattle.c_lower_stmts.specs.Declaring.{HasSlots}
 use Rattle.c_lower.specs.declared.body.Body.{Body}
 use Rattle.c_lower.specs.Bodies.{IsBodyOf}
 use Rattle.c_lower.specs.Closing.{opening, closed_body, closed_of, behind_opening, no_out, Closes, IsFinished}
