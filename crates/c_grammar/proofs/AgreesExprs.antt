@@ -10,7 +10,7 @@ use Rattle.c_grammar.specs.Classes.{number_of, numbered}
 use Rattle.c_grammar.specs.Words.{Word, classes}
 use Rattle.c_grammar.specs.Forms
 use Rattle.c_grammar.specs.Trees.{Name, BinaryOp, PrefixOp, Expr, Links, Args}
-use Rattle.c_grammar.specs.Spelling.{Rule, word, word_at, open_paren, name, number, each, maybe, specifier, size_of, malloc, class_of_binary, level_of, expr_at, links_at, call_args, more_args}
+use Rattle.c_grammar.specs.Spelling.{Rule, word, word_at, open_paren, name, each, specifier, size_of, class_of_binary, level_of, expr_at, links_at, call_args, more_args}
 use Rattle.c_grammar.specs.Readers.{Got, ◌>>=◌, wrong, too_deep, class_at, behind, is_class, name_here, read_name, is_open, read_specifier, begins_expr, read_more_args, read_args, read_call, read_member, read_members, with_members, read_size_of, read_malloc, read_cast, read_paren, closed_by, named_by, primary_by, read_postfix, read_prefix, unary_by, op_at, link_by, read_links, chained, read_chain, read_unary, read_expr, read_below}
 use Rattle.c_grammar.proofs.Numbers.{numbered-number_of}
 use Rattle.c_grammar.proofs.Found.{tighter}

@@ -7,7 +7,7 @@ use Rattle.c_tokens.specs.declared.places.Place.{Place}
 use Rattle.c_grammar.specs.Classes
 use Rattle.c_grammar.specs.declared.class.Class.{Class}
 use Rattle.c_grammar.specs.declared.class.Class.TheVariants as class
-use Rattle.c_grammar.specs.Classes.{number_of, numbered}
+use Rattle.c_grammar.specs.Classes.{number_of}
 use Rattle.c_grammar.specs.Words.{Word, classes}
 use Rattle.c_grammar.specs.Forms
 use Rattle.c_grammar.specs.Trees.{Name, Specifier, Head, Item, File}

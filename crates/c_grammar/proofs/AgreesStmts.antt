@@ -8,13 +8,13 @@ use Rattle.c_tokens.specs.declared.places.Place.{Place}
 use Rattle.c_grammar.specs.Classes
 use Rattle.c_grammar.specs.declared.class.Class.{Class}
 use Rattle.c_grammar.specs.declared.class.Class.TheVariants as class
-use Rattle.c_grammar.specs.Classes.{number_of, numbered}
+use Rattle.c_grammar.specs.Classes.{number_of}
 use Rattle.c_grammar.specs.Words.{Word, classes}
 use Rattle.c_grammar.specs.Forms
 use Rattle.c_grammar.specs.Trees.{Expr, Stmt, Stmts}
 use Rattle.c_grammar.specs.Spelling.{Rule, word, word_at, open_paren, maybe, expr_at, simple, for_init, NoElse, stmt, stmts}
 use Rattle.c_grammar.specs.Readers.{Got, ◌>>=◌, too_deep, class_at, place_at, is_class, take, read_maybe, begins_expr, read_expr, read_simple, begins_simple, Clause, Declares, Does, clause_by, read_clause, begins_clause, stmt_of, init_of, flat_by, read_test, begins_stmt, read_stmts, Body, read_body, if_of, read_else, read_if, read_while, read_do, read_for, nested_by, opens_level, read_stmt}
-use Rattle.c_grammar.proofs.Agreeing.{AreProper, IsBehind, itself, one_behind, further, proper_behind, Agrees, AgreesAs, AgreesOn, ReadsAs, ReadsWhere, agree_then, agree_behind, agree_as, agree_map, agree_skip, test_class, test_classes, take_agrees, AgreesBy, by_class, wrong_agrees, deep_agrees, open_agrees, maybe_agrees, step, over, over_open, at_word, at_last, at_end}
+use Rattle.c_grammar.proofs.Agreeing.{AreProper, IsBehind, itself, one_behind, proper_behind, AgreesAs, ReadsAs, agree_then, agree_behind, agree_map, test_class, test_classes, AgreesBy, by_class, deep_agrees, maybe_agrees, step, over, over_open, at_word, at_last}
 use Rattle.c_grammar.proofs.AgreesExprs.{proper_first, begins_expr_same, expr_agrees}
 use Rattle.c_grammar.proofs.AgreesClauses.{simple_agrees, begins_simple_same, clause_rule, clause_by_agrees, clause_agrees, begins_clause_same}
 use Rattle.c_grammar.proofs.Parts.{length-classes}

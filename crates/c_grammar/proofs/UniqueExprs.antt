@@ -2,7 +2,7 @@
 use Rattle.std.proofs.Common.{◌≡◌, ◌⊎◌, inl, inr, ℕ, zero, suc, ◌≤◌, ◌<◌, true, false, List, [], ◌∷◌, ◌++◌, length, refl, sym, ap, ap₂, ◌∙◌, subst, arith, rules}
 use Rattle.std.specs.Prelude.{Option, Some, None, ◌==◌, if◌then◌else◌}
 use Rattle.std.proofs.lemmas.Bool.{eq-eqb}
-use Rattle.grammar_laws.specs.Form.{Form, Word as AWord, Nothing, Both, Either, Many, Nearest, Known, begins_in, is_in, starts, continues, IsGood}
+use Rattle.grammar_laws.specs.Form.{Form, Word as AWord, Nothing, Both, begins_in, is_in, starts, continues, IsGood}
 use Rattle.grammar_laws.proofs.Derived.{begins}
 use Rattle.grammar_laws.proofs.Classes.{begins_not_left, begins_not_right, begins_without}
 use Rattle.c_tokens.specs.declared.places.Place.{Place}

@@ -25,8 +25,8 @@ use Rattle.c_lower_emit.specs.Emitting.{Out, HasRoom, with_draft, led_out, Emits
 use Rattle.c_lower_emit.proofs.Joining.{behind_nodes, room_first, room_then, straight_none, code_one, code_behind, same_code, code_then}
 use Rattle.c_lower_exprs.specs.Contexts.{on_line, IsWithin}
 use Rattle.c_lower_stmts.specs.declared.laid.Laid.{Laid}
-use Rattle.c_lower_stmts.specs.Laying.{state, Lays, EmitsLowered}
-use Rattle.c_lower_stmts.specs.Declaring.{HasSlots}
+use Rattle.c_lower_stmts.specs.Laying.{Lays, EmitsLowered}
+use Rattle.c_lower_stmts.specs.Standing.{state, HasSlots}
 use Rattle.c_lower.specs.Closing.{value_closing, closing, closed_body, Closes}
 
 -- WHAT CLOSES A BODY

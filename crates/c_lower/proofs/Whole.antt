@@ -14,14 +14,13 @@ use Rattle.c_tree.specs.declared.stmts.Block.{Block}
 use Rattle.c_tree.specs.declared.stmts.Stmt.TheFolds.{fold_out-Block}
 use Rattle.c_tree.specs.Syntax.{BlockTree, stmt_level, block_level, block_tree, stmts_tree}
 use Rattle.c_grammar.specs.Trees as tree
-use Rattle.c_tokens.specs.declared.places.Place.{Place}
 use Rattle.c_lower_emit.specs.declared.drafts.Label.{Label}
 use Rattle.c_lower_emit.specs.declared.drafts.Label.TheVariants.{At}
 use Rattle.c_lower_emit.specs.Drafts.{at_start, resolve, laid, next_at}
 use Rattle.c_lower_emit.specs.Emitting.{Out, HasRoom, led_out, EmitsCode}
 use Rattle.c_lower_emit.proofs.Joining.{behind_nodes, code_then}
 use Rattle.c_lower_exprs.specs.Contexts.{on_line}
-use Rattle.c_lower_stmts.specs.Declaring.{HasSlots}
+use Rattle.c_lower_stmts.specs.Standing.{HasSlots}
 use Rattle.c_lower.specs.declared.body.Body.{Body}
 use Rattle.c_lower.specs.Bodies.{IsBodyOf}
 use Rattle.c_lower.specs.Closing.{opening, closed_body, closed_of, behind_opening, no_out, Closes, IsFinished}

@@ -19,7 +19,7 @@ use Rattle.c_tree.specs.Syntax.{BlockTree}
 use Rattle.c_lower_emit.specs.declared.drafts.Label.{Label}
 use Rattle.c_lower_emit.specs.Drafts.{at_start, laid}
 use Rattle.c_lower_emit.specs.Emitting.{Out, EmitsCode}
-use Rattle.c_lower_stmts.specs.Laying.{state}
+use Rattle.c_lower_stmts.specs.Standing.{state}
 use Rattle.c_lower.specs.declared.body.Body.{Body}
 
 -- any value of the type is returned

@@ -8,7 +8,7 @@ ghost use Rattle.c_types_names.specs.Seen.{type_seen};
 ghost use Rattle.c_lower_emit.specs.declared.drafts.Label.TheVariants.{At};
 ghost use Rattle.c_lower_emit.specs.Emitting.{HasRoom, EmitsCode};
 ghost use Rattle.c_lower_exprs.specs.Contexts.{on_line};
-ghost use Rattle.c_lower_stmts.specs.Declaring.{HasSlots};
+ghost use Rattle.c_lower_stmts.specs.Standing.{HasSlots};
 ghost use Rattle.c_lower.specs.Closing.{value_closing, closing, closed_body, Closes};
 
 use c_lower_emit::drafts::{AS_THEY_ARE, Label, Ways};

@@ -1,7 +1,6 @@
 //! What was emitted, as the body of a procedure.
 ghost use Rattle.std.specs.Prelude.{◌≡◌, IfOk, map};
 ghost use Rattle.c_lower_rules.specs.Programs.{temp_kind};
-ghost use Rattle.c_lower_emit.specs.Seen.{loop_seen};
 ghost use Rattle.c_types_names.specs.Seen.{type_seen};
 ghost use Rattle.c_lower_emit.specs.Seen.{temp_seen};
 ghost use Rattle.c_lower.specs.Closing.{IsFinished};

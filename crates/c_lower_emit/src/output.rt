@@ -1,5 +1,5 @@
 //! What was emitted so far.
-ghost use Rattle.std.specs.Prelude.{◌≡◌, ◌<◌, ◌≤◌, ◌++◌, ◌∷◌, [], OnOk, IfOk, length, map, take, drop};
+ghost use Rattle.std.specs.Prelude.{◌≡◌, ◌<◌, ◌≤◌, [], OnOk, IfOk, length, map, take};
 ghost use Rattle.c_lower_rules.specs.Temporaries.{is_free, take_temp, released};
 ghost use Rattle.c_types_names.specs.Seen.{type_seen};
 ghost use Rattle.c_lower_emit.specs.Seen.{loop_seen, temp_seen};

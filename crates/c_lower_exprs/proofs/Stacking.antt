@@ -2,7 +2,7 @@
 use Rattle.std.proofs.Common.{◌≡◌, ℕ, zero, suc, ◌+◌, ◌-◌, ◌<◌, ◌≤◌, List, [], ◌∷◌, ◌++◌, length, map, take, drop, reverse, get_or, refl, sym, ap, ◌∙◌, arith}
 use Rattle.std.proofs.lemmas.List.{map-append, reverse-append, take_more, take-append-drop, length-reverse, length-map, length-append, length-take-le, length-drop, drop_at}
 use Rattle.c_types_rules.specs.Scopes as scopes
-use Rattle.c_types_rules.specs.Scopes.{Env, entered, with_variable}
+use Rattle.c_types_rules.specs.Scopes.{Env, with_variable}
 use Rattle.c_types_rules.specs.Types.{Kind}
 use Rattle.c_types_rules.specs.Tables.{Tables}
 use Rattle.c_lower_rules.specs.Contexts.{Context, slot_of_bound, within_scope}

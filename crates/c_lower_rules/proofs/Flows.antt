@@ -21,7 +21,7 @@ use Rattle.c_types_rules.specs.Types.{unless}
 use Rattle.c_types_rules.specs.Tables.{Tables, param_kind, kind_of_result}
 use Rattle.c_types_rules.specs.Scopes.{Variable, Env}
 use Rattle.c_types_rules.specs.Items as typing
-use Rattle.c_types_rules.specs.Items.{listed, param_names, with_name, has_name, unnamed_refusals, twice, each_param_refusals, head_refusals, procedure_refusals, definitions, is_defined_before, param_variable, param_variables, item}
+use Rattle.c_types_rules.specs.Items.{listed, param_names, with_name, has_name, unnamed_refusals, twice, each_param_refusals, head_refusals, param_variable, param_variables}
 use Rattle.c_types_rules.specs.Programs.{known}
 use Rattle.c_types_rules.proofs.KnownTables.{nil_left, nil_right, holds, all_append, SoundTables, object_sound, head_sound}
 use Rattle.c_types_rules.proofs.KnownExprs.{IsVariableSound}

@@ -8,7 +8,7 @@ use Rattle.c_types_rules.specs.Types.{Kind}
 use Rattle.c_types_rules.specs.Tables.{Tables, specifier_refusals, object_kind}
 use Rattle.c_types_rules.specs.Scopes.{Env, entered}
 use Rattle.c_types_rules.specs.Statements as typing
-use Rattle.c_types_rules.specs.Statements.{behind_local, behind_locals, behind_declaration, behind_init, behind_stmt}
+use Rattle.c_types_rules.specs.Statements.{behind_local, behind_locals, behind_init, behind_stmt}
 use Rattle.c_types_rules.specs.Programs.{known}
 use Rattle.c_types_rules.proofs.KnownTables.{nil_left, nil_right, holds, all_append, IsSound, AreAliasesDefined, object_sound}
 use Rattle.c_types_rules.proofs.KnownStmts.{accepted_specifier, accepted_locals}

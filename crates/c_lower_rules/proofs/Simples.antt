@@ -29,7 +29,7 @@ use Rattle.c_lower_rules.specs.Contexts.{Context, tag_of}
 use Rattle.c_lower_rules.specs.Values.{Value, Lowering, is_pointer, at_hand}
 use Rattle.c_lower_rules.specs.Expressions.{slot_read, Field, field_behind, member, arguments, no_arguments, called, new, lowering, lowerings, wanted}
 use Rattle.c_lower_rules.specs.Statements as lowered
-use Rattle.c_lower_rules.specs.Statements.{Target, member_target, target, store, field_at_hand, store_back, value_before, is_call, update, step_by, call, free_by, free, return_value, returned, initial}
+use Rattle.c_lower_rules.specs.Statements.{Target, member_target, target, store, field_at_hand, store_back, value_before, is_call, update, step_by, call, free_by, returned, initial}
 use Rattle.c_lower_rules.proofs.Pieces.{operand_more, straight_more, straight_none, straight_append, code_command, code_before}
 use Rattle.c_lower_rules.proofs.Uses.{behind_self, behind_both, taken_good, world, IsLined, GoodPiece, GoodValue, GoodLowering, at_hand_good, made_value_good, made_good}
 use Rattle.c_lower_rules.proofs.Operators.{arith_both_good, arithmetic_good, IsFieldThere, load_good, member_good, GoodArguments, none_good, arguments_good, arguments_count, IsCallable, call_by_good, new_by_good}

@@ -1,6 +1,6 @@
 //! How many nodes statements have (C11 6.8). The calls nest as deep as the blocks, branches and loops do.
 ghost use Rattle.std.specs.Prelude.{◌≡◌, option_map};
-ghost use Rattle.c_tree.specs.Syntax.{expr_tree, simple_tree, for_step_tree, init_tree, stmt_tree, stmts_tree, block_tree};
+ghost use Rattle.c_tree.specs.Syntax.{expr_tree, for_step_tree, init_tree, stmt_tree, stmts_tree, block_tree};
 ghost use Rattle.c_lower_sizes.specs.Sizes.{init_size, condition_size, step_size, return_size, stmt_size, stmts_size};
 ghost use Rattle.c_lower_sizes.specs.Counts.{capped};
 

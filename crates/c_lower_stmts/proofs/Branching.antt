@@ -13,10 +13,10 @@ use Rattle.c_lower_emit.specs.Drafts.{Places, exits, resolve}
 use Rattle.c_lower_emit.specs.Emitting.{Out, HasRoom, Grows, EmitsTest, EmitsCode, EmitsTested}
 use Rattle.c_lower_emit.proofs.Joining.{behind_nodes, code_none}
 use Rattle.c_lower_exprs.specs.Contexts.{on_line}
-use Rattle.c_lower_stmts.specs.Declaring.{HasSlots, IsDeclared, Declares}
-use Rattle.c_lower_stmts.specs.Declaring as declaring
+use Rattle.c_lower_stmts.specs.Declaring.{Declares}
+use Rattle.c_lower_stmts.specs.Standing.{state}
 use Rattle.c_lower_stmts.specs.declared.laid.Laid.{Laid}
-use Rattle.c_lower_stmts.specs.Laying.{state, EmitsLowered, EmitsWithin}
+use Rattle.c_lower_stmts.specs.Laying.{EmitsLowered, EmitsWithin}
 use Rattle.c_lower_stmts.specs.Parts.{EmitsReleased}
 use Rattle.c_lower_stmts.proofs.Releasing.{released_out, room_released, same_count}
 
@@ -60,11 +60,11 @@ piece_laid c line locals piece begin old new at h room slots =
 
 pub declared_laid : (c after : Context) (line line' locals then : ℕ) (place : Place) (l : Local) (begin : Label) (old new : Out) → line' ≡ place.line - c.first_line
     → (length old.nodes < 4294967296 → begin ≡ At (length old.nodes))
-    → Declares (declaration l (declaring.state c line' locals (released_out old))) c line' locals after then (released_out old) new
+    → Declares (declaration l (state (on_line c line') locals (released_out old))) c line' locals after then (released_out old) new
     → EmitsLowered (declaration l (from_place (state (on_line c line) locals old) place)) c locals after (record { begin = begin; locals = then }) old new
 declared_laid c after line line' locals then place l begin old new is at h room slots =
     let dl = declaration l (from_place (state (on_line c line) locals old) place) in
-    let h' = subst (λ n. Declares (declaration l (declaring.state c n locals (released_out old))) c n locals after then (released_out old) new) is h in
+    let h' = subst (λ n. Declares (declaration l (state (on_line c n) locals (released_out old))) c n locals after then (released_out old) new) is h in
     let d = h' (room_released c.first_temp dl.code.size old room) slots in
     let nodes = room.nodes in
     let grown = d.emits.grows.grown in

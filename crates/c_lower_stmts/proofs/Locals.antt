@@ -22,7 +22,8 @@ use Rattle.c_lower_emit.specs.Emitting.{Out, led_out, HasRoom, EmitsCode}
 use Rattle.c_lower_emit.proofs.Joining.{behind_nodes, room_first, room_then, code_then, SameCode, same_code, same_back, same_both, same_behind, same_nothing_behind, same_nothing_before, same_groups}
 use Rattle.c_lower_exprs.specs.Contexts.{on_line}
 use Rattle.c_lower_stmts.specs.Simples.{EmitsPiece}
-use Rattle.c_lower_stmts.specs.Declaring.{state, HasSlots, IsDeclared, Declares}
+use Rattle.c_lower_stmts.specs.Declaring.{IsDeclared, Declares}
+use Rattle.c_lower_stmts.specs.Standing.{state, HasSlots}
 
 -- EACH LOCAL HAS A NODE
 
@@ -75,7 +76,7 @@ pub local_declared : (c c' : Context) (line count to then : ℕ) (specifier : Sp
     → kind ≡ object_kind c.env.tables specifier one.declarator.stars → to ≡ min (c.first_local + count) 4294967295
     → c' ≡ record c { env = with_variable c.env one.declarator.name.text kind; bound = record { name = one.declarator.name.text; slot = to } ∷ c.bound }
     → EmitsPiece (initial (on_line c' line) to (known kind) one.value) c'.first_temp old new → then ≡ min (count + 1) 4294967295
-    → Declares (local specifier one (state c line count old)) c line count c' then old new
+    → Declares (local specifier one (state (on_line c line) count old)) c line count c' then old new
 local_declared c c' line count to then specifier one kind old new kinds sat adds emits sat' room slots =
     let name = one.declarator.name.text in
     let kind' = object_kind c.env.tables specifier one.declarator.stars in
@@ -145,32 +146,32 @@ same_declared l l' c line count c' count' old new same h room slots =
     }
 
 pub locals_one : (specifier : Specifier) (one : Initialized) (c : Context) (line count : ℕ) (c' : Context) (count' : ℕ) (old new : Out)
-    → Declares (local specifier one (state c line count old)) c line count c' count' old new
-    → Declares (locals specifier (one ∷ []) (state c line count old)) c line count c' count' old new
+    → Declares (local specifier one (state (on_line c line) count old)) c line count c' count' old new
+    → Declares (locals specifier (one ∷ []) (state (on_line c line) count old)) c line count c' count' old new
 locals_one specifier one c line count c' count' old new h =
-    same_declared (locals specifier (one ∷ []) (state c line count old)) (local specifier one (state c line count old)) c line count c' count' old new
-    (record { code = same_nothing_behind (local specifier one (state c line count old)).code; behind = refl }) h
+    same_declared (locals specifier (one ∷ []) (state (on_line c line) count old)) (local specifier one (state (on_line c line) count old)) c line count c' count' old new
+    (record { code = same_nothing_behind (local specifier one (state (on_line c line) count old)).code; behind = refl }) h
 
 pub local_behind_declared : (specifier : Specifier) (done : List Initialized) (one : Initialized) (first c c' : Context) (line start count then : ℕ)
     (old now new led : Out) (from past here : ℕ)
-    → Declares (locals specifier done (state first line start old)) first line start c count old now
-    → Declares (local specifier one (state c line count now)) c line count c' then now new
+    → Declares (locals specifier done (state (on_line first line) start old)) first line start c count old now
+    → Declares (local specifier one (state (on_line c line) count now)) c line count c' then now new
     → from ≡ length old.nodes → past ≡ length now.nodes → (length now.nodes < 4294967296 → here ≡ length now.nodes)
     → (from ≤ past → past ≤ length new.nodes → led ≡ led_out from past (next_at (At here)) new)
-    → Declares (locals specifier (done ++ one ∷ []) (state first line start old)) first line start c' then old led
+    → Declares (locals specifier (done ++ one ∷ []) (state (on_line first line) start old)) first line start c' then old led
 local_behind_declared specifier done one first c c' line start count then old now new led from past here h k begin there at leads =
     same_declared (locals specifier (done ++ one ∷ []) before) (joined a (local specifier one a.behind)) first line start c' then old led
     (locals_more specifier done one before) (λ room slots.
     let b = local specifier one a.behind in
     let d = h (room_first first.first_temp a.code.size b.code.size old room) (omega (arith, slots)) in
     let temps = d.emits.grows.temps in
-    let is : state c line count now ≡ a.behind =
+    let is : state (on_line c line) count now ≡ a.behind =
     ap (λ t. record { temps = t; locals = count; context = on_line c line }) temps
     ∙ ap (λ n. record { temps = a.behind.temps; locals = n; context = on_line c line }) d.locals_then
     ∙ ap (λ x. record { temps = a.behind.temps; locals = a.behind.locals; context = x }) d.context in
     let first_temp : c.first_temp ≡ first.first_temp = ap (λ (x : Context). x.first_temp) d.context ∙ locals_first_temp specifier done before in
     let first_local : c.first_local ≡ first.first_local = ap (λ (x : Context). x.first_local) d.context ∙ locals_first_local specifier done before in
-    let size : (local specifier one (state c line count now)).code.size ≡ b.code.size = ap (λ s. (local specifier one s).code.size) is in
+    let size : (local specifier one (state (on_line c line) count now)).code.size ≡ b.code.size = ap (λ s. (local specifier one s).code.size) is in
     let grown = d.grown in
     let room' = room_then first.first_temp a.code.size b.code.size old now room d.emits.grows in
     let nodes = room'.nodes in
@@ -195,7 +196,7 @@ local_behind_declared specifier done one first c c' line start count then old no
     })
   where
     before : State
-    before = state first line start old
+    before = state (on_line first line) start old
 
     a : Lowered
     a = locals specifier done before
@@ -207,12 +208,12 @@ pub record LocalsSoFar (specifier : Specifier) (first : Context) (line start : �
     (now : Out) : Type 0 where
   pub done : List Initialized
   pub parts : done ++ left ≡ all
-  pub declares : Declares (locals specifier done (state first line start old)) first line start c count old now
+  pub declares : Declares (locals specifier done (state (on_line first line) start old)) first line start c count old now
   pub numbers : All InitializedHasIntNumbers left
 
 pub locals_begun : (specifier : Specifier) (first : Context) (line start : ℕ) (one : Initialized) (others left : List Initialized) (old : Out) (c : Context)
     (count : ℕ) (now : Out) → others ≡ left
-    → All InitializedHasIntNumbers others → Declares (local specifier one (state first line start old)) first line start c count old now
+    → All InitializedHasIntNumbers others → Declares (local specifier one (state (on_line first line) start old)) first line start c count old now
     → LocalsSoFar specifier first line start (one ∷ others) left old c count now
 locals_begun specifier first line start one others left old c count now same numbers h = record {
   done = one ∷ [];
@@ -225,8 +226,8 @@ pub locals_turned : (specifier : Specifier) (first : Context) (line start : ℕ)
     (c c' : Context) (count then : ℕ) (now new : Out) (begin : ℕ)
     → left ≡ one ∷ others → begin ≡ length old.nodes → LocalsSoFar specifier first line start all left old c count now
     → (InitializedHasIntNumbers one → (done : List Initialized) → (first : Context) → (start : ℕ) → (old : Out) → begin ≡ length old.nodes
-    → Declares (locals specifier done (state first line start old)) first line start c count old now
-    → Declares (locals specifier (done ++ one ∷ []) (state first line start old)) first line start c' then old new)
+    → Declares (locals specifier done (state (on_line first line) start old)) first line start c count old now
+    → Declares (locals specifier (done ++ one ∷ []) (state (on_line first line) start old)) first line start c' then old new)
     → LocalsSoFar specifier first line start all others old c' then new
 locals_turned specifier first line start all left others one old c c' count then now new begin same at h declares =
     let numbers = subst (All InitializedHasIntNumbers) same h.numbers in
@@ -239,8 +240,8 @@ locals_turned specifier first line start all left others one old c c' count then
 
 pub locals_ended : (specifier : Specifier) (first : Context) (line start : ℕ) (all left : List Initialized) (old : Out) (c : Context) (count : ℕ)
     (now : Out) → left ≡ []
-    → LocalsSoFar specifier first line start all left old c count now → Declares (locals specifier all (state first line start old)) first line start c
+    → LocalsSoFar specifier first line start all left old c count now → Declares (locals specifier all (state (on_line first line) start old)) first line start c
     count old now
 locals_ended specifier first line start all left old c count now none h =
-    subst (λ xs. Declares (locals specifier xs (state first line start old)) first line start c count old now)
+    subst (λ xs. Declares (locals specifier xs (state (on_line first line) start old)) first line start c count old now)
     (sym (append-nil h.done) ∙ ap (λ xs. h.done ++ xs) (sym none) ∙ h.parts) h.declares

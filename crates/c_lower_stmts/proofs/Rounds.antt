@@ -14,7 +14,8 @@ use Rattle.c_lower_emit.specs.Emitting.{Out, led_out, HasRoom, EmitsTest, EmitsC
 use Rattle.c_lower_emit.proofs.Joining.{behind_nodes, code_none, code_then}
 use Rattle.c_lower_exprs.specs.Contexts.{on_line, IsWithin}
 use Rattle.c_lower_stmts.specs.declared.laid.Laid.{Laid}
-use Rattle.c_lower_stmts.specs.Laying.{state, EmitsLowered, EmitsWithin}
+use Rattle.c_lower_stmts.specs.Laying.{EmitsLowered, EmitsWithin}
+use Rattle.c_lower_stmts.specs.Standing.{state}
 use Rattle.c_lower_stmts.proofs.Branching.{room_part, room_behind}
 
 -- what the functions that put loops together say

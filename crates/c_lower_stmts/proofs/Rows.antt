@@ -11,7 +11,8 @@ use Rattle.c_lower_emit.specs.Emitting.{Out, led_out, HasRoom, EmitsCode}
 use Rattle.c_lower_emit.proofs.Joining.{behind_nodes, code_none, code_then, SameCode, same_code, same_back, same_both, same_behind, same_nothing_behind, same_nothing_before, same_groups}
 use Rattle.c_lower_exprs.specs.Contexts.{on_line, IsWithin}
 use Rattle.c_lower_stmts.specs.declared.laid.Laid.{Laid}
-use Rattle.c_lower_stmts.specs.Laying.{state, EmitsLowered}
+use Rattle.c_lower_stmts.specs.Laying.{EmitsLowered}
+use Rattle.c_lower_stmts.specs.Standing.{state}
 use Rattle.c_lower_stmts.proofs.Branching.{room_part, room_behind}
 use Rattle.std.proofs.Common.{zero, suc, take, get_or}
 use Rattle.std.proofs.lemmas.List.{map-append, take_more}

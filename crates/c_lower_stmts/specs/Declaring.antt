@@ -1,19 +1,12 @@
 -- What the functions on declarations answer.
-use Rattle.std.specs.Prelude.{◌≡◌, ℕ, ◌+◌, ◌<◌, ◌≤◌, List, [], ◌∷◌, ◌++◌, length}
+use Rattle.std.specs.Prelude.{◌≡◌, ℕ, ◌+◌, ◌≤◌, List, [], ◌∷◌, ◌++◌, length}
 use Rattle.c_grammar.specs.Trees.{Specifier, Initialized}
 use Rattle.c_lower_rules.specs.Contexts.{Context}
-use Rattle.c_lower_rules.specs.Statements.{State, Lowered, locals as locals_of}
+use Rattle.c_lower_rules.specs.Statements.{Lowered, locals as locals_of}
 use Rattle.c_lower_emit.specs.declared.drafts.Label.TheVariants.{At}
 use Rattle.c_lower_emit.specs.Emitting.{Out, HasRoom, EmitsCode}
 use Rattle.c_lower_exprs.specs.Contexts.{on_line}
-
--- where a declaration stands
-abbrev pub state : Context → ℕ → ℕ → Out → State
-state c line locals out = record { temps = out.temps; locals = locals; context = on_line c line }
-
--- 32-bit numbers suffice for the slots of so many more locals
-abbrev pub HasSlots : Context → ℕ → ℕ → Type 0
-HasSlots c locals size = c.first_local + locals + size < 4294967296
+use Rattle.c_lower_stmts.specs.Standing.{state, HasSlots}
 
 -- locals were declared
 pub record IsDeclared (l : Lowered) (line locals : ℕ) (after : Context) (then : ℕ) (old new : Out) : Type 0 where
@@ -31,5 +24,5 @@ Declares l c line locals after then old new =
 abbrev pub DeclaresMore : Specifier → Initialized → ℕ → ℕ → Context → ℕ → Context → ℕ → Out → Out → Type 0
 DeclaresMore specifier one start line c locals after then old new =
     (done : List Initialized) → (first : Context) → (count : ℕ) → (before : Out) → start ≡ length before.nodes
-    → Declares (locals_of specifier done (state first line count before)) first line count c locals before old
-    → Declares (locals_of specifier (done ++ one ∷ []) (state first line count before)) first line count after then before new
+    → Declares (locals_of specifier done (state (on_line first line) count before)) first line count c locals before old
+    → Declares (locals_of specifier (done ++ one ∷ []) (state (on_line first line) count before)) first line count after then before new

@@ -3,15 +3,11 @@ use Rattle.std.specs.Prelude.{◌≡◌, ℕ, ◌+◌, ◌≤◌}
 use Rattle.c_grammar.specs.Trees.{Stmt}
 use Rattle.c_lower_rules.specs.Contexts.{Context}
 use Rattle.c_lower_rules.specs.Numbers.{StmtHasIntNumbers}
-use Rattle.c_lower_rules.specs.Statements.{State, Lowered, stmt}
+use Rattle.c_lower_rules.specs.Statements.{Lowered, stmt}
 use Rattle.c_lower_emit.specs.Emitting.{Out, HasRoom, EmitsCode}
 use Rattle.c_lower_exprs.specs.Contexts.{on_line}
-use Rattle.c_lower_stmts.specs.Declaring.{HasSlots}
+use Rattle.c_lower_stmts.specs.Standing.{state, HasSlots}
 use Rattle.c_lower_stmts.specs.declared.laid.Laid.{Laid}
-
--- where a statement stands
-abbrev pub state : Context → ℕ → Out → State
-state c locals out = record { temps = out.temps; locals = locals; context = c }
 
 -- the code was emitted, and these are the locals then
 pub record LaysCode (l : Lowered) (locals : ℕ) (laid : Laid) (old new : Out) : Type 0 where

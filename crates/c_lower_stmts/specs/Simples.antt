@@ -1,4 +1,4 @@
--- What the functions on statements answer.
+-- What the functions on simple statements answer.
 use Rattle.std.specs.Prelude.{ℕ, List, length}
 use Rattle.c_lower_rules.specs.Temporaries.{Temp}
 use Rattle.c_lower_rules.specs.Values.{Piece}

@@ -9,9 +9,10 @@ ghost use Rattle.c_lower_rules.specs.Statements as statements;
 ghost use Rattle.c_lower_rules.specs.Numbers.{HasIntNumbers, InitializedHasIntNumbers, LocalHasIntNumbers};
 ghost use Rattle.c_lower_emit.specs.declared.drafts.Label.TheVariants.{At};
 ghost use Rattle.c_lower_emit.specs.Emitting.{EmitsCode};
-ghost use Rattle.c_lower_exprs.specs.Contexts.{IsWithin};
+ghost use Rattle.c_lower_exprs.specs.Contexts.{on_line, IsWithin};
 ghost use Rattle.c_lower_stmts.specs.Simples.{EmitsPiece};
-ghost use Rattle.c_lower_stmts.specs.Declaring.{state, Declares, DeclaresMore};
+ghost use Rattle.c_lower_stmts.specs.Declaring.{Declares, DeclaresMore};
+ghost use Rattle.c_lower_stmts.specs.Standing.{state};
 
 use c_lower_emit::drafts::Label;
 use c_lower_emit::output::Output;
@@ -76,7 +77,8 @@ fn local<'a>(
 ) -> Result<u32, AllocError>
     ensures within { OnOk result (IsWithin c.old c.new) }
     ensures declared { IfOk result (λ then. InitializedHasIntNumbers (initialized_tree one.now)
-        → Declares (statements.local (specifier_tree specifier.now) (initialized_tree one.now) (state c.old line locals out.old))
+        → Declares (statements.local (specifier_tree specifier.now) (initialized_tree one.now)
+        (state (on_line c.old line) locals out.old))
         c.old line locals c.new then out.old out.new) }
 {
     let kind = object_kind(c.tables(), specifier, one.declarator.stars);
@@ -117,7 +119,7 @@ pub fn declaration<'a>(
 ) -> Result<u32, AllocError>
     ensures within { OnOk result (IsWithin c.old c.new) }
     ensures declared { IfOk result (λ then. LocalHasIntNumbers (local_tree one.now)
-        → Declares (statements.declaration (local_tree one.now) (state c.old line locals out.old))
+        → Declares (statements.declaration (local_tree one.now) (state (on_line c.old line) locals out.old))
         c.old line locals c.new then out.old out.new) }
 {
     let start = out.len();

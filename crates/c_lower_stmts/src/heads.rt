@@ -14,7 +14,8 @@ ghost use Rattle.c_lower_rules.specs.Statements.{
 ghost use Rattle.c_lower_rules.specs.Numbers.{HasIntNumbers, SimpleHasIntNumbers, LocalHasIntNumbers, InitHasIntNumbers};
 ghost use Rattle.c_lower_emit.specs.Emitting.{EmitsTested};
 ghost use Rattle.c_lower_exprs.specs.Contexts.{on_line, IsWithin};
-ghost use Rattle.c_lower_stmts.specs.Laying.{state, EmitsLowered, EmitsWithin};
+ghost use Rattle.c_lower_stmts.specs.Laying.{EmitsLowered, EmitsWithin};
+ghost use Rattle.c_lower_stmts.specs.Standing.{state};
 
 use crate::declaring::declaration;
 use crate::laid::Laid;

@@ -1,4 +1,4 @@
-//! Loops: what stands before their first node, and what their pieces become when they stand.
+//! Loops: what stands before their first node, and what their pieces become when they stand; and a place as a label, for all statements.
 ghost use Rattle.std.specs.Prelude.{◌≡◌, ◌<◌, ◌≤◌, length, OnOk, IfOk};
 ghost use Rattle.c_lower_rules.specs.Contexts.{visible};
 ghost use Rattle.c_lower_emit.specs.declared.drafts.Label.TheVariants.{At};

@@ -6,7 +6,8 @@ ghost use Rattle.c_tree.specs.Syntax.{expr_tree, for_step_tree, init_tree, stmt_
 ghost use Rattle.c_lower_rules.specs.Statements.{inside, stmt, stmts};
 ghost use Rattle.c_lower_rules.specs.Numbers.{StmtHasIntNumbers, StmtsHaveIntNumbers};
 ghost use Rattle.c_lower_exprs.specs.Contexts.{on_line, IsWithin};
-ghost use Rattle.c_lower_stmts.specs.Laying.{state, EmitsLowered, EmitsStmt, EmitsWithin};
+ghost use Rattle.c_lower_stmts.specs.Laying.{EmitsLowered, EmitsStmt, EmitsWithin};
+ghost use Rattle.c_lower_stmts.specs.Standing.{state};
 
 use crate::declaring::place_of_local;
 use crate::heads::{declared, exit, init, once, step, tested, tested_for};

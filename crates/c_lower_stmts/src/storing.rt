@@ -1,4 +1,4 @@
-//! Commands that give no value: stores, calls and frees.
+//! Commands that give no value: stores, calls and frees; and 0 put into a temporary.
 ghost use Rattle.std.specs.Prelude.{◌+◌, length, OnOk, None, pos};
 ghost use Rattle.shape_data.specs.declared.program.Cmd.TheVariants as cmd;
 ghost use Rattle.shape_data.specs.declared.program.Operand.TheVariants.{Num};

@@ -1,11 +1,11 @@
 -- Readers that go by the class of the first word.
-use Rattle.std.proofs.Common.{◌≡◌, ℕ, Bool, true, false, List, [], ◌∷◌, refl, sym, ap, ◌∙◌, subst}
-use Rattle.std.specs.Prelude.{Result, Ok, Err}
+use Rattle.std.proofs.Common.{◌≡◌, ℕ, Bool, true, false, List, refl, sym, ap, ◌∙◌}
+use Rattle.std.specs.Prelude.{Ok}
 use Rattle.std.proofs.lemmas.Bool.{eqb-true}
 use Rattle.c_tokens.specs.declared.fault.ReadFault.{ReadFault}
 use Rattle.c_grammar.specs.declared.class.Class.{Class}
 use Rattle.c_grammar.specs.declared.class.Class.TheVariants as class
-use Rattle.c_grammar.specs.Trees.{Name, Expr, Simple, Stmt}
+use Rattle.c_grammar.specs.Trees.{Name, Expr, Stmt}
 use Rattle.c_grammar.specs.Words.{Word}
 use Rattle.c_grammar.specs.Readers.{Got, ◌>>=◌, wrong, class_at, behind, name_here, is_class, read_name, read_below, closed_by, assign_by, read_target, read_named, other_by, simple_by, read_simple, Does, clause_by, clause_named, read_typed, read_clause, begins_declarator, flat_by, stmt_of, take}
 use Rattle.c_grammar.proofs.Numbers.{same_class}

@@ -1,14 +1,11 @@
 -- What reading a whole file says of the words of a list of tokens.
-use Rattle.std.proofs.Common.{◌≡◌, ◌≤◌, List, refl, sym, ap, subst}
-use Rattle.std.specs.Prelude.{Result, Ok, Err}
-use Rattle.std.specs.Result.{IfErr}
-use Rattle.c_tokens.specs.declared.places.Refusal.{Refusal}
+use Rattle.std.proofs.Common.{◌≡◌, ◌≤◌, List, refl, sym, subst}
 use Rattle.c_tokens.specs.declared.token.Token.{Token}
 use Rattle.c_tokens.specs.TokenLists.{IsTokenList}
 use Rattle.c_tokens.specs.declared.fault.ReadFault.{ReadFault}
 use Rattle.c_tokens.specs.declared.fault.ReadFault.TheVariants.{Refused, OutOfMemory}
 use Rattle.c_grammar.specs.Nesting.{file_nesting}
-use Rattle.c_grammar.specs.Readers.{Halt, read_file}
+use Rattle.c_grammar.specs.Readers.{read_file}
 use Rattle.c_grammar.specs.Refusals.{MOST_LEVELS, RefusedAt}
 use Rattle.c_grammar.specs.Spelling.{Spells}
 use Rattle.c_grammar.specs.Trees.{File}

@@ -1,5 +1,5 @@
 //! Simple statements: assignments, steps, calls and `free` (C11 6.8.3).
-ghost use Rattle.std.specs.Prelude.{◌≡◌, ◌≤◌, length, map};
+ghost use Rattle.std.specs.Prelude.{◌≡◌, ◌≤◌, length};
 ghost use Rattle.c_grammar.specs.declared.class.Class.TheVariants as class;
 ghost use Rattle.c_grammar.specs.Readers as readers;
 ghost use Rattle.c_grammar.specs.Readers.{class_at};

@@ -1,5 +1,5 @@
 //! The classes of tokens: each in constant time, by its own text and by the two tokens behind it.
-ghost use Rattle.std.specs.Prelude.{◌≡◌, codes, drop, IfOk};
+ghost use Rattle.std.specs.Prelude.{◌≡◌, drop, IfOk};
 ghost use Rattle.std.specs.Str.{bytes_eq};
 ghost use Rattle.c_grammar.specs.declared.class.Class.TheVariants as class;
 ghost use Rattle.c_grammar.specs.Classes.{class_in, keys, signs};

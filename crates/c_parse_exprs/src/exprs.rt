@@ -1,6 +1,6 @@
 //! Expressions (C11 6.5). Their functions call one another once for each level of nesting (parentheses, the arguments of a
 //! call, a prefix); chains of operators, members and arguments are loops.
-ghost use Rattle.std.specs.Prelude.{◌≡◌, ◌≤◌, length, map, option_map};
+ghost use Rattle.std.specs.Prelude.{◌≡◌, ◌≤◌, length, option_map};
 ghost use Rattle.c_grammar.specs.Readers as readers;
 ghost use Rattle.c_grammar.specs.Readers.{class_at};
 ghost use Rattle.c_tree.specs.Syntax.{prefix_tree, expr_tree, args_tree, links_tree};

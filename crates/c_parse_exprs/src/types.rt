@@ -1,5 +1,5 @@
 //! Types, declarators, fields and parameters (C11 6.7).
-ghost use Rattle.std.specs.Prelude.{◌≡◌, ◌≤◌, ◌<◌, ◌+◌, length, map, option_map, IfOk};
+ghost use Rattle.std.specs.Prelude.{◌≡◌, ◌≤◌, ◌<◌, length, map, option_map, IfOk};
 ghost use Rattle.c_grammar.specs.declared.class.Class.TheVariants as class;
 ghost use Rattle.c_grammar.specs.Spelling.{is_void_alone};
 ghost use Rattle.c_grammar.specs.Readers as readers;

@@ -1,5 +1,5 @@
 //! Words: what each function here writes goes behind the text that is there. Where memory wants, what is left is not said.
-ghost use Rattle.std.specs.Prelude.{◌≡◌, ◌∷◌, OnOk, codes};
+ghost use Rattle.std.specs.Prelude.{◌∷◌, OnOk};
 ghost use Rattle.std.specs.Fmt.{decimal};
 ghost use Rattle.c_grammar.specs.Printing.{print_name, print_stars, print_maybe};
 ghost use Rattle.c_print.specs.Writing.{Prints, print_comma};

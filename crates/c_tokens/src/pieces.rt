@@ -1,5 +1,5 @@
 //! The pieces that a text is made of: blanks, comments, parts of directives and tokens.
-ghost use Rattle.std.specs.Prelude.{◌≡◌, ℕ, ◌+◌, ◌<◌, ◌≤◌, Bool, None, Some, length, take, slice_index, IfSome, IfNone, true, false, ◌^◌};
+ghost use Rattle.std.specs.Prelude.{◌≡◌, ℕ, ◌+◌, ◌<◌, ◌≤◌, Bool, None, Some, length, slice_index, IfSome, IfNone, true, false, ◌^◌};
 ghost use Rattle.std.specs.List.{prefix_len};
 ghost use Rattle.c_tokens.specs.Gaps.{is_blank};
 ghost use Rattle.c_tokens.specs.Headers.{is_header_byte};

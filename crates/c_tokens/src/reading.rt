@@ -1,6 +1,6 @@
 //! Reads a text piece by piece. `read` gives what `specs/Reading` computes, and `tokens` what `specs/Grammar` says: proofs/Texts
 //! shows that they are the same.
-ghost use Rattle.std.specs.Prelude.{◌≡◌, ◌+◌, ◌<◌, ◌≤◌, [], ◌∷◌, take, drop, IfOk, IfErr, length};
+ghost use Rattle.std.specs.Prelude.{◌≡◌, ◌<◌, ◌≤◌, [], ◌∷◌, take, drop, IfOk, IfErr, length};
 ghost use Rattle.c_tokens.specs.Grammar.{token_at, HasTokens, IsTokenFault};
 ghost use Rattle.c_tokens.specs.TokenLists.{IsTokenList};
 ghost use Rattle.c_tokens.specs.Reading.{Tokens, at_end, reading, IsFault};

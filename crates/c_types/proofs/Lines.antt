@@ -1,5 +1,5 @@
 -- Declarations of fields, one by one.
-use Rattle.std.proofs.Common.{◌≡◌, Option, Some, None, List, [], ◌∷◌, ◌++◌, map, option_map, append_assoc, refl, sym, ap, ◌∙◌}
+use Rattle.std.proofs.Common.{◌≡◌, Option, Some, None, List, [], map, option_map, append_assoc, refl, ap}
 use Rattle.std.proofs.lemmas.List.{append-nil}
 use Rattle.c_tokens.specs.declared.places.Refusal.{Refusal}
 use Rattle.c_grammar.specs.Trees.{Name, Fields}

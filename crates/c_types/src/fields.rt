@@ -4,7 +4,7 @@ ghost use Rattle.std.specs.Str.{bytes_eq};
 ghost use Rattle.c_types_rules.specs.Types.{may_agree};
 ghost use Rattle.c_types_rules.specs.Tables.{field_kind, field_kinds};
 ghost use Rattle.c_types_rules.specs.Items.{same_fields};
-ghost use Rattle.c_tree.specs.Syntax.{specifier_tree, declarator_tree, fields_tree};
+ghost use Rattle.c_tree.specs.Syntax.{fields_tree};
 ghost use Rattle.c_types_names.specs.Seen.{field_seen};
 ghost use Rattle.c_types_names.specs.StructFields.{declared_seen, kind_of_declared};
 

@@ -1,5 +1,5 @@
 //! Declarations of procedures (C11 6.7.6.3).
-ghost use Rattle.std.specs.Prelude.{◌≡◌, ◌&&◌, ◌++◌, ◌∷◌, [], not, IfOk, OnOk, List, map, option_map};
+ghost use Rattle.std.specs.Prelude.{◌≡◌, ◌&&◌, ◌++◌, [], not, OnOk, List, map, option_map};
 ghost use Rattle.c_grammar.specs.Trees.{Name as NameTree};
 ghost use Rattle.c_grammar.specs.FirstPlaces.{place_of_head};
 ghost use Rattle.c_types_rules.specs.Types.{may_agree, unless as unless_of, SECOND, CLASH};

@@ -1,8 +1,6 @@
 //! The types of all expressions, in the order of the text.
 ghost use Rattle.std.specs.Prelude.{◌≡◌, ◌∷◌, ◌++◌, [], OnOk, map};
 ghost use Rattle.c_types_rules.specs.Kinds.{link_kinds, member_kinds, first_kinds, later_kinds, operand_kinds, arg_kinds, kinds};
-ghost use Rattle.c_types_rules.specs.Tables.{procedure_in};
-ghost use Rattle.c_types_rules.specs.Expressions.{kind_of_call};
 ghost use Rattle.c_tree.specs.Syntax.{ident_tree, expr_tree, links_tree, args_tree};
 ghost use Rattle.c_types_names.specs.Seen.{kind_seen};
 

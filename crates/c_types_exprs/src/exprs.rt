@@ -1,5 +1,5 @@
 //! Which type an expression has. The calls nest as deep as the expression does.
-ghost use Rattle.std.specs.Prelude.{◌≡◌, map, option_map};
+ghost use Rattle.std.specs.Prelude.{◌≡◌, map};
 ghost use Rattle.c_types_rules.specs.Tables.{procedure_in};
 ghost use Rattle.c_types_rules.specs.Scopes.{variable};
 ghost use Rattle.c_types_rules.specs.Expressions.{

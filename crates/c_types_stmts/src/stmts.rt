@@ -1,5 +1,5 @@
 //! Statements (C11 6.8). The calls nest as deep as the blocks, branches and loops do.
-ghost use Rattle.std.specs.Prelude.{◌≡◌, ◌&&◌, not, OnOk, map, option_map};
+ghost use Rattle.std.specs.Prelude.{◌≡◌, ◌&&◌, not, OnOk, option_map};
 ghost use Rattle.c_types_rules.specs.Statements as rule;
 ghost use Rattle.c_types_rules.specs.Expressions.{fits};
 ghost use Rattle.c_types_rules.specs.Scopes.{entered};

@@ -1,5 +1,5 @@
 //! What a wanted cell is taken from: a cell, or a segment that is unfolded.
-ghost use Rattle.std.specs.Prelude.{◌≡◌, ◌&&◌, ◌+◌, ◌<◌, IfOk, IfSome, length, position, slice_get};
+ghost use Rattle.std.specs.Prelude.{◌≡◌, ◌&&◌, ◌<◌, IfOk, IfSome, length, position, slice_get};
 ghost use Rattle.std.specs.Str.{bytes_eq};
 ghost use Rattle.sym_laws.specs.Expressions.{same_exp};
 ghost use Rattle.sym_matching.specs.NewVariables.{HasRoom};

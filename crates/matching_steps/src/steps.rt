@@ -1,5 +1,5 @@
 //! The steps that the rules of matching are made of: binding, owing, taking, unfolding.
-ghost use Rattle.std.specs.Prelude.{◌≡◌, ◌+◌, ◌<◌, ◌≤◌, ◌++◌, ◌∷◌, [], IfOk, length, map, slice_index_or, pos};
+ghost use Rattle.std.specs.Prelude.{◌≡◌, ◌+◌, ◌<◌, ◌≤◌, ◌++◌, ◌∷◌, [], IfOk, length, slice_index_or, pos};
 ghost use Rattle.std.specs.List.{insert};
 ghost use Rattle.std.specs.Str.{bytes_eq};
 ghost use Rattle.shape_data.specs.declared.symbolic.Atom.TheVariants.{Points, Seg};

@@ -1,10 +1,8 @@
 -- What putting and dropping a file does to a list of files with marks, place by place, and to the files without their marks.
-use Rattle.std.proofs.Common.{◌≡◌, ℕ, suc, ◌+◌, ◌-◌, ◌<◌, ◌≤◌, Bool, true, false, ltb, leb, List, [], ◌∷◌, length, get_or, set, Option, Some, None, Result, Ok, Err, OnOk, OnErr, refl, sym, ap, ◌∙◌, subst, inl, inr, arith}
+use Rattle.std.proofs.Common.{◌≡◌, ℕ, ◌+◌, ◌-◌, ◌<◌, ◌≤◌, Bool, true, false, ltb, leb, List, [], ◌∷◌, length, get_or, set, Option, Some, None, Result, Ok, Err, OnOk, OnErr, refl, sym, ap, ◌∙◌, subst, inl, inr, arith}
 use Rattle.std.specs.List.{position_or_len, position, insert, remove, sum_by, list_any}
 use Rattle.std.specs.Prelude.{map, not, IfErr, IsErrAnd, ◌&&◌, ◌⊎◌, if◌then◌else◌}
 use Rattle.std.proofs.lemmas.Bool.{lt-ltb, le-ltb, le-leb, lt-leb, ltb-false, leb-false}
-use Rattle.std.proofs.lemmas.List.{length-map}
-use Rattle.std.proofs.lemmas.List.Edits.{length-insert}
 use Rattle.std.proofs.lemmas.List.Sums.{sum_by-cons, sum_by-set, sum_by-insert}
 use Rattle.project_form.specs.Files.{SourceFile, AreFiles, MOST_BYTES, MOST_FILES, MOST_FILE_BYTES, bytes_of, has_file, is_named, put_refusal, source, stands_before, text_length, with_file, with_text, without_file}
 use Rattle.project_form.specs.Kept.{KeptFile, is_kept_named, kept_length, new_file, source_of, sources_of, stands_before_kept, with_bytes, with_kept, without_kept}

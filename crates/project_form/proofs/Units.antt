@@ -1,12 +1,11 @@
 -- Files each of which has a tree, and files that are refused.
-use Rattle.std.proofs.Common.{◌≡◌, ℕ, zero, suc, ◌+◌, ◌<◌, ◌≤◌, Bool, true, false, List, [], ◌∷◌, ◌++◌, length, get_or, set, take, Option, Some, None, Result, Ok, Err, OnOk, refl, sym, ap, ap₂, ◌∙◌, subst, arith}
+use Rattle.std.proofs.Common.{◌≡◌, ℕ, zero, suc, ◌+◌, ◌<◌, Bool, true, false, List, [], ◌∷◌, ◌++◌, length, get_or, set, Option, Some, None, Result, Ok, Err, OnOk, refl, sym, ap, ap₂, ◌∙◌, subst, arith}
 use Rattle.std.specs.List.{AllZip}
 use Rattle.std.specs.Option.{option_map, option_or}
 use Rattle.std.specs.Prelude.{map, All, IfOk, IfErr, IfSome, is_some, ◌↔◌}
 use Rattle.std.proofs.lemmas.List.Elements.{All-nil, All-cons}
 use Rattle.shape_data.specs.declared.program.Program.{Program}
 use Rattle.c_tokens.specs.declared.places.Refusal.{Refusal}
-use Rattle.c_grammar.specs.Trees.{File}
 use Rattle.c_tree.specs.declared.items.Unit.{Unit as UnitValue}
 use Rattle.c_tree.specs.Syntax.{unit_tree}
 use Rattle.c_front.specs.Units.{IsUnitOf}
@@ -16,10 +15,9 @@ use Rattle.project_form.specs.declared.fault.ProgramFault.{ProgramFault}
 use Rattle.project_form.specs.declared.fault.ProgramFault.TheVariants as fault
 use Rattle.project_form.specs.declared.fault.Refused.{Refused}
 use Rattle.project_form.specs.declared.reading.Firsts.{Firsts}
-use Rattle.project_form.specs.Files.{SourceFile}
-use Rattle.project_form.specs.Kept.{KeptFile, AreAllKept, AreKeptWhereRead, Follows, HasUnit, source_of, sources_of}
-use Rattle.project_form.specs.Parts.{AreNoted, AreUnits, IsFirstFault, IsNoted, IsProgramFault, IsReadAs, IsRefused, IsWhole, KeepsWhatIsRead, is_tree, or_refused}
-use Rattle.project_form.specs.Reads.{Reading, NoTokens, NoFile, Tree, IsRead, AreReadings, Reads, answer_of, first_refused, names_of, refusal_of, refused_at, refused_in, syntax_refusal, token_refusal, trees_of, unless_refused, whole_refusal}
+use Rattle.project_form.specs.Kept.{KeptFile, AreAllKept, AreKeptWhereRead, Follows, HasUnit, sources_of}
+use Rattle.project_form.specs.Parts.{AreNoted, AreUnits, IsFirstFault, IsNoted, IsProgramFault, IsReadAs, IsRefused, IsWhole, KeepsWhatIsRead, or_refused}
+use Rattle.project_form.specs.Reads.{Reading, NoTokens, NoFile, Tree, IsRead, AreReadings, Reads, first_refused, names_of, refusal_of, refused_at, refused_in, syntax_refusal, token_refusal, trees_of, unless_refused, whole_refusal}
 use Rattle.project_form.proofs.Readings.{tree-HasUnit}
 
 -- ALL HAVE TREES

@@ -1,9 +1,8 @@
 -- Files as a whole: where they are refused is one of them, what lowering asks of them they have, and their program is well formed.
-use Rattle.std.proofs.Common.{◌≡◌, ℕ, suc, ◌+◌, ◌<◌, ◌≤◌, List, [], ◌∷◌, ◌++◌, length, Option, Some, None, Result, Ok, Err, ◌⊎◌, inl, inr, refl, sym, ap, ◌∙◌, subst, arith}
-use Rattle.std.specs.List.{AllZip, sum_by}
+use Rattle.std.proofs.Common.{◌≡◌, ℕ, suc, ◌+◌, ◌<◌, ◌≤◌, List, [], ◌∷◌, length, Option, Some, None, Ok, Err, ◌⊎◌, inl, inr, refl, sym, ap, ◌∙◌, subst, arith}
+use Rattle.std.specs.List.{sum_by}
 use Rattle.std.specs.Option.{option_map, option_or}
-use Rattle.std.specs.Prelude.{map, All, Contains, slice_get, get_or}
-use Rattle.std.proofs.lemmas.List.{length-map}
+use Rattle.std.specs.Prelude.{map, All, slice_get, get_or}
 use Rattle.std.proofs.lemmas.List.Elements.{All-nil, All-cons, All-append, All-map, All-contains, All-weaker}
 use Rattle.std.proofs.lemmas.List.Sums.{sum_by-cons}
 use Rattle.std.proofs.lemmas.Option.{slice_get_cases}
@@ -18,7 +17,6 @@ use Rattle.c_types_rules.specs.Laws.{HaveFirst}
 use Rattle.c_types_rules.specs.Tables.{Tables, joined, declared_by, no_tables}
 use Rattle.c_types_rules.specs.Programs as typing
 use Rattle.c_types_rules.specs.Programs.{IsWellTyped, first_refusal, in_unit, refusals_of, tables_of}
-use Rattle.c_front.specs.Units.{IsUnitOf}
 use Rattle.c_lower_rules.specs.Fields.{HasCountableFields}
 use Rattle.c_lower_rules.specs.Laws.{HaveWellFormed}
 use Rattle.c_lower_rules.specs.Numbers.{FileHasIntNumbers}
@@ -30,7 +28,7 @@ use Rattle.project_form.specs.declared.fault.Refused.{Refused}
 use Rattle.project_form.specs.Files.{SourceFile, AreFiles, MOST_BYTES, bytes_of, text_length}
 use Rattle.project_form.specs.Kept.{KeptFile, sources_of}
 use Rattle.project_form.specs.Parts.{AreUnits, IsLowerable}
-use Rattle.project_form.specs.Reads.{Reading, NoTokens, NoFile, Tree, IsRead, AreReadings, Reads, answer_of, first_refused, name_of, names_of, refusal_of, refused_at, refused_proc, syntax_refusal, token_refusal, trees_of, unless_refused, whole_refusal, MOST_PROCEDURES}
+use Rattle.project_form.specs.Reads.{Reading, NoTokens, NoFile, Tree, AreReadings, Reads, answer_of, first_refused, names_of, refusal_of, refused_at, refused_proc, syntax_refusal, token_refusal, trees_of, whole_refusal, MOST_PROCEDURES}
 use Rattle.project_form.proofs.Counting.{AreTrees, files_structs}
 
 -- WHICH FILE IS REFUSED

@@ -1,6 +1,5 @@
 -- The files of a project with marks on those whose parses are kept, and how putting, dropping and reading change the marks.
 use Rattle.std.specs.Prelude.{◌≡◌, ◌↔◌, ℕ, Bool, true, false, ◌&&◌, if◌then◌else◌, List, length, map, count_by, nat_eq, All}
-use Rattle.std.specs.List.{AllZip}
 use Rattle.std.specs.Cmp.Lexicographic.{pointwise}
 use Rattle.c_grammar.specs.Trees.{File}
 use Rattle.c_front.specs.Units.{IsUnitOf}

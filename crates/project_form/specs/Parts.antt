@@ -1,5 +1,5 @@
 -- What the parts of a project promise one another, and which faults there are.
-use Rattle.std.specs.Prelude.{◌≡◌, ℕ, Bool, true, false, Option, Some, None, Result, Ok, Err, List, All, length, ◌<◌, map}
+use Rattle.std.specs.Prelude.{◌≡◌, ℕ, Bool, true, false, Option, Some, None, Err, List}
 use Rattle.std.specs.List.{AllZip}
 use Rattle.std.specs.Option.{option_map, option_or}
 use Rattle.shape_data.specs.declared.program.Program.{Program}
@@ -7,7 +7,6 @@ use Rattle.c_tokens.specs.declared.places.Refusal.{Refusal}
 use Rattle.c_grammar.specs.Trees.{File}
 use Rattle.c_tree.specs.declared.items.Unit.{Unit as UnitValue}
 use Rattle.c_tree.specs.Syntax.{unit_tree}
-use Rattle.c_types_rules.specs.declared.at.At.{At}
 use Rattle.c_front.specs.Units.{IsUnitOf}
 use Rattle.c_lower_rules.specs.Numbers.{FileHasIntNumbers}
 use Rattle.c_lower_rules.specs.Fields.{HasCountableFields}
@@ -19,8 +18,8 @@ use Rattle.project_form.specs.declared.file.TextFault.{TextFault}
 use Rattle.project_form.specs.declared.file.TextFault.TheVariants as text
 use Rattle.project_form.specs.declared.reading.Firsts.{Firsts}
 use Rattle.project_form.specs.Files.{SourceFile}
-use Rattle.project_form.specs.Kept.{KeptFile, AreAllKept, AreKeptWhereRead, sources_of}
-use Rattle.project_form.specs.Reads.{Reading, NoTokens, NoFile, Tree, IsRead, Reads, first_refused, refused_at, refused_in, token_refusal}
+use Rattle.project_form.specs.Kept.{KeptFile, AreKeptWhereRead, sources_of}
+use Rattle.project_form.specs.Reads.{Reading, NoTokens, NoFile, Tree, IsRead, Reads, first_refused, refused_in, token_refusal}
 use Rattle.project_form.specs.Reads.{syntax_refusal, whole_refusal}
 
 -- FAULTS: want of memory says nothing

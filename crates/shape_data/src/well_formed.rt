@@ -1,7 +1,7 @@
 //! The three tests of well-formedness: of a program, of a key, and of an answer for a key. Each is true
 //! exactly where the definition holds, takes no memory and never fails. Keys and answers are tested within
 //! the limits of a store, from which they may come.
-ghost use Rattle.std.specs.Prelude.{◌≡◌, ◌≢◌, ◌↔◌, length, All, IsTrue};
+ghost use Rattle.std.specs.Prelude.{◌≢◌, ◌↔◌, All, IsTrue};
 ghost use Rattle.shape_data.specs.WellFormed.{
   storable as within,
   HasLines,

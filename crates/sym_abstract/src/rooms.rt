@@ -1,6 +1,6 @@
 //! Tests of what abstraction needs of sizes. They are true of each well-formed state, post and heap.
 ghost use Rattle.std.specs.Prelude.{◌≡◌, ◌+◌, ◌↔◌, IsTrue, min};
-ghost use Rattle.sym_forms.specs.Sizes.{fields_in, fields_of as fields_of_atom};
+ghost use Rattle.sym_forms.specs.Sizes.{fields_in};
 ghost use Rattle.abstraction_laws.specs.Rooms.{HasRoom, HaveFewFields, IsWithinRoom};
 
 use crate::forgetting::{fields_of, first_new};

@@ -1,6 +1,6 @@
 //! The canonical form of a pair: each part's atoms and existential variables by themselves, the logical variables that
 //! are no parameters together.
-ghost use Rattle.std.specs.Prelude.{◌≡◌, [], IfOk};
+ghost use Rattle.std.specs.Prelude.{◌≡◌, IfOk};
 ghost use Rattle.sym_canon.specs.Canonical.{
   canon_pair as canon_pair_of,
   pair_numbered as pair_numbered_of,

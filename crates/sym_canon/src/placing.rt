@@ -1,28 +1,7 @@
 //! The order of the atoms: as a search from the parameters and the locals comes to them, breadth first.
-ghost use Rattle.std.specs.Prelude.{
-  ◌≡◌,
-  ℕ,
-  ◌+◌,
-  ◌<◌,
-  IfOk,
-  IfSome,
-  List,
-  ◌∷◌,
-  ◌++◌,
-  not,
-  filter,
-  drop,
-  position,
-  length,
-  pos,
-  slice_index_or,
-};
-ghost use Rattle.std.specs.List.{list_any};
+ghost use Rattle.std.specs.Prelude.{◌≡◌, ℕ, ◌+◌, ◌<◌, IfOk, IfSome, List, ◌++◌, not, filter, position, length};
 ghost use Rattle.shape_data.specs.declared.symbolic.Atom.{Atom as AnyAtom};
 ghost use Rattle.shape_data.specs.declared.symbolic.Exp.{Exp};
-ghost use Rattle.shape_data.specs.declared.symbolic.Exp.TheVariants.{Const};
-ghost use Rattle.sym_laws.specs.Addresses.{addresses};
-ghost use Rattle.sym_laws.specs.Expressions.{is_among};
 ghost use Rattle.sym_laws.specs.Junks.{is_junk as is_junk_of, is_other as is_other_of};
 ghost use Rattle.sym_canon.specs.Placing.{
   all_lead_to,

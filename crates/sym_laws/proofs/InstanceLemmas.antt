@@ -1,5 +1,5 @@
 -- A state is weaker than each of its instances.
-use Rattle.std.specs.Prelude.{◌≡◌, ℕ, ◌<◌, ◌≤◌, ◌==◌, ℤ, Bool, true, false, if◌then◌else◌, List, map}
+use Rattle.std.specs.Prelude.{◌≡◌, ℕ, ◌≤◌, ◌==◌, ℤ, Bool, true, false, if◌then◌else◌}
 use Rattle.std.proofs.Common.{refl, sym, ap, subst, ◌∙◌, arith}
 use Rattle.std.proofs.lemmas.Bool.{eqb-true}
 use Rattle.shape_data.specs.declared.symbolic.Exp.{Exp}
@@ -8,7 +8,6 @@ use Rattle.shape_data.specs.declared.symbolic.Post.{Post}
 use Rattle.shape_data.specs.declared.symbolic.SymState.{SymState}
 use Rattle.shape_data.specs.Meaning.{value, AgreesOnLogical, MeetsPost, MeetsState}
 use Rattle.sym_laws.specs.Instances.{in_place_of, with_images, ForgottenPostMeets, ForgottenStateMeets, InstanceMeets, InstancePostMeets, InstanceStateMeets, KeepsLogical}
-use Rattle.sym_laws.specs.Mapped.{on_post, on_state}
 use Rattle.sym_laws.proofs.MappedLemmas.{Holds-mapped, values-mapped}
 
 -- each variable has the value of what stands in its place

@@ -2,7 +2,6 @@
 ghost use Rattle.std.specs.Prelude.{◌≡◌, ◌≤◌, IfOk, filter, leb, length};
 ghost use Rattle.sym_matching.specs.Covers.{existentials as existentials_of};
 ghost use Rattle.sym_matching.specs.Rooms.{IsWithinSizes};
-ghost use Rattle.sym_matching.specs.Variables.{with_state};
 ghost use Rattle.sym_renaming.specs.Coverings.{state_apart as state_apart_of, state_numbers as state_numbers_of};
 
 use crate::apart::numbers_apart;

@@ -1,23 +1,21 @@
 -- Cells and list segments are read exactly.
-use Rattle.std.proofs.Common.{◌≡◌, if◌then◌else◌, ℕ, zero, suc, ◌+◌, ◌<◌, ◌≤◌, Bool, true, false, List, [], ◌∷◌, ◌++◌, length, map, get_or, ◌⊎◌, inl, inr, Option, Some, None, refl, sym, ap, ◌∙◌, subst, append_assoc, arith}
-use Rattle.std.proofs.lemmas.List.{append-nil}
+use Rattle.std.proofs.Common.{◌≡◌, ℕ, ◌+◌, Bool, true, false, List, [], ◌∷◌, ◌++◌, map, inl, refl, sym, ap, ◌∙◌, subst, arith}
 use Rattle.std.specs.Prelude.{codes}
 use Rattle.shape_data.specs.declared.program.StructDef.{StructDef}
 use Rattle.shape_data.specs.declared.symbolic.Atom.TheVariants.{Points, Seg, Junk}
 use Rattle.shape_data.specs.declared.symbolic.Exp.{Exp}
-use Rattle.shape_data.specs.WellFormed.{IsExp}
 use Rattle.sym_text.specs.declared.parts.Part.{Part}
 use Rattle.sym_text.specs.declared.parts.Part.TheVariants as part
 use Rattle.shape_data.specs.declared.program.Field.{Field}
 use Rattle.sym_text.specs.declared.starts.Next.TheVariants as next
-use Rattle.sym_text.specs.Grammar.{written, IsInt}
-use Rattle.sym_text.specs.Outcome.{Outcome, Got, Stopped, Reader, ◌>>=◌, give, never, first, by_first, literal}
+use Rattle.sym_text.specs.Grammar.{written}
+use Rattle.sym_text.specs.Outcome.{give, never, first}
 use Rattle.sym_text.specs.Reading.{place_of, next_of, read_word, read_exp, kinds, linked, has_some, read_field, read_fields, read_link, read_cell, read_segment}
-use Rattle.sym_text.specs.Text.{exp_text, field_names}
-use Rattle.sym_text.proofs.Exactly.{Language, Ends, AnyEnd, Reads, Anything, Behind, Under, InRow, bind-Reads, give-Reads, behind-Reads, under-Reads, from-Reads, same-Reads}
+use Rattle.sym_text.specs.Text.{field_names}
+use Rattle.sym_text.proofs.Exactly.{Language, Ends, AnyEnd, Reads, Anything, Behind, Under, InRow, bind-Reads, give-Reads, behind-Reads, under-Reads, from-Reads}
 use Rattle.sym_text.proofs.ExpLaws.{GoodParams, ExpText, exp-Reads, some_exp}
 use Rattle.sym_text.proofs.NameLaws.{are_names}
-use Rattle.sym_text.proofs.StructLaws.{GoodStructs, IsNamed, kind_named, linked_kind, linked_some, found_names, are_linked_names, names_of}
+use Rattle.sym_text.proofs.StructLaws.{GoodStructs, kind_named, linked_kind, linked_some, found_names, are_linked_names, names_of}
 use Rattle.sym_text.proofs.WordLaws.{Member, AreNames, IsWord, NotName, WordEnds, word-Reads}
 
 -- a value of which nothing is written

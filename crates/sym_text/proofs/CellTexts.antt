@@ -1,14 +1,14 @@
 -- What is read as a cell or a segment is its text, and the other way round.
-use Rattle.std.proofs.Common.{◌≡◌, if◌then◌else◌, ℕ, zero, suc, ◌+◌, ◌<◌, ◌≤◌, Bool, true, false, List, [], ◌∷◌, ◌++◌, length, map, get_or, ◌⊎◌, inl, inr, Option, Some, None, refl, sym, ap, ◌∙◌, subst, append_assoc, arith}
+use Rattle.std.proofs.Common.{◌≡◌, ℕ, suc, ◌+◌, ◌<◌, Bool, true, false, List, [], ◌∷◌, ◌++◌, length, map, get_or, Some, refl, sym, ap, ◌∙◌, subst, append_assoc, arith}
 use Rattle.std.proofs.lemmas.List.{append-nil}
 use Rattle.std.proofs.lemmas.List.Elements.{All-nil, All-cons, All-head, All-tail}
-use Rattle.std.specs.Prelude.{All, codes, slice_index_or}
+use Rattle.std.specs.Prelude.{All, codes}
 use Rattle.std.specs.List.{join_by}
 use Rattle.std.specs.Option.{IsSomeAnd}
 use Rattle.shape_data.specs.declared.program.Field.{Field}
 use Rattle.shape_data.specs.declared.program.StructDef.{StructDef}
 use Rattle.shape_data.specs.declared.symbolic.Atom.{Atom}
-use Rattle.shape_data.specs.declared.symbolic.Atom.TheVariants.{Points, Seg, Junk}
+use Rattle.shape_data.specs.declared.symbolic.Atom.TheVariants.{Points, Seg}
 use Rattle.shape_data.specs.declared.symbolic.Exp.{Exp}
 use Rattle.shape_data.specs.Heap.{struct_named}
 use Rattle.shape_data.specs.WellFormed.{IsExp, IsAtom, IsField}
@@ -16,15 +16,13 @@ use Rattle.sym_text.specs.declared.parts.Part.{Part}
 use Rattle.sym_text.specs.declared.parts.Part.TheVariants as part
 use Rattle.sym_text.specs.Grammar.{written, IsInt, HoldsInts}
 use Rattle.sym_text.specs.Led.{led_texts}
-use Rattle.sym_text.specs.Reading.{place_of, kinds, linked, has_some}
+use Rattle.sym_text.specs.Reading.{linked, has_some}
 use Rattle.sym_text.specs.Text.{exp_text, field_names, field_texts, atom_text}
-use Rattle.sym_text.proofs.CellLaws.{FieldsText, CellRaw, CellBehind, SegmentRaw, Given}
-use Rattle.sym_text.proofs.Exactly.{Language, Behind, Under, InRow}
-use Rattle.sym_text.proofs.ExpLaws.{GoodParams, ExpText}
+use Rattle.sym_text.proofs.CellLaws.{FieldsText, CellRaw, SegmentRaw}
 use Rattle.sym_text.proofs.LedTexts.{led_join}
 use Rattle.sym_text.proofs.NameLaws.{Differ, place_within, place_at, member_at}
-use Rattle.sym_text.proofs.StructLaws.{GoodStructs, IsNamed, kind_named, named_kind, linked_kind, linked_some, linked_found, found_names, names_of}
-use Rattle.sym_text.proofs.WordLaws.{Member, IsWord}
+use Rattle.sym_text.proofs.StructLaws.{GoodStructs, kind_named, named_kind, linked_kind, linked_found, found_names}
+use Rattle.sym_text.proofs.WordLaws.{Member}
 
 -- the separator before a field
 abbrev pub comma_if : Bool → List ℕ

@@ -2,7 +2,7 @@
 use Rattle.std.proofs.Common.{◌≡◌, ℕ, true, false, List, ap, ◌∙◌, subst, sym}
 use Rattle.sym_text.specs.declared.fault.Fault.{Fault}
 use Rattle.sym_text.specs.declared.fault.Fault.TheVariants.{Refused, OutOfMemory}
-use Rattle.sym_text.specs.Outcome.{Outcome, Got, Stopped, Reader, pass, go_on, ◌>>=◌, only_if, first, by_first, IsStop}
+use Rattle.sym_text.specs.Outcome.{Outcome, Got, Stopped, Reader, pass, go_on, ◌>>=◌, IsStop}
 
 pub got_then : {A B : Type 0} (p : Reader A) (q : A → Reader B) (text : List ℕ) (a : A) (rest : List ℕ) (o : Outcome B) → p text ≡ Got a rest → q a rest ≡ o → (p >>= q) text ≡ o
 unfolding go_on

@@ -1,6 +1,6 @@
 -- Readers that read a language exactly: what they get is in it, all of it is read, and where they stop what stands before can be
 -- completed and, unless the text ends there, with the next byte cannot.
-use Rattle.std.proofs.Common.{◌≡◌, ◌==◌, if◌then◌else◌, eq-eqb, arith, ℕ, Bool, true, false, List, [], ◌∷◌, ◌++◌, ◌⊎◌, inl, inr, Option, Some, None, refl, sym, ap, ◌∙◌, subst, append_assoc}
+use Rattle.std.proofs.Common.{◌≡◌, ◌==◌, if◌then◌else◌, eq-eqb, arith, ℕ, Bool, true, false, List, [], ◌∷◌, ◌++◌, ◌⊎◌, inl, inr, Option, refl, sym, ap, ◌∙◌, subst, append_assoc}
 use Rattle.std.proofs.lemmas.List.{append-nil}
 use Rattle.std.proofs.lemmas.Bool.Decides.{nat_tests}
 use Rattle.sym_text.specs.Outcome.{Outcome, Got, Stopped, Reader, pass, go_on, ◌>>=◌, give, never, only_if, first, by_first, literal}

@@ -1,25 +1,24 @@
 -- Expressions are read exactly.
-use Rattle.std.proofs.Common.{◌≡◌, ◌==◌, ◌&&◌, ◌||◌, not, if◌then◌else◌, ℕ, zero, suc, ◌+◌, ◌-◌, ◌*◌, ◌/◌, ◌%◌, ◌<◌, ◌≤◌, Bool, true, false, List, [], ◌∷◌, ◌++◌, length, get_or, ◌⊎◌, inl, inr, Option, Some, None, ℤ, pos, negsuc, refl, sym, ap, ◌∙◌, subst, append_assoc, arith}
-use Rattle.std.proofs.lemmas.List.{append-nil}
+use Rattle.std.proofs.Common.{◌≡◌, if◌then◌else◌, ℕ, suc, ◌+◌, ◌-◌, ◌%◌, ◌<◌, ◌≤◌, Bool, true, false, List, [], ◌∷◌, ◌++◌, length, get_or, Some, pos, negsuc, refl, sym, ap, ◌∙◌, arith}
 use Rattle.std.proofs.lemmas.Bool.Decides.{nat_tests}
 use Rattle.std.proofs.lemmas.Fmt.{decimal_by_steps}
-use Rattle.std.specs.Prelude.{nat_lt, nat_le, codes, slice_index_or, IsTrue}
+use Rattle.std.specs.Prelude.{nat_lt, codes, slice_index_or}
 use Rattle.std.specs.Char.{is_ascii_digit}
-use Rattle.std.specs.Fmt.{decimal, signed_decimal}
+use Rattle.std.specs.Fmt.{decimal}
 use Rattle.shape_data.specs.declared.symbolic.Exp.{Exp}
 use Rattle.shape_data.specs.declared.symbolic.Exp.TheVariants.{Var, Const}
-use Rattle.shape_data.specs.Names.{is_name_start, is_name_byte}
+use Rattle.shape_data.specs.Names.{is_name_start}
 use Rattle.shape_data.specs.WellFormed.{IsExp}
 use Rattle.sym_text.specs.declared.starts.Start.{Start}
 use Rattle.sym_text.specs.declared.starts.Start.TheVariants as start
 use Rattle.sym_text.specs.Grammar.{written, IsInt}
-use Rattle.sym_text.specs.Outcome.{Outcome, Got, Stopped, Reader, ◌>>=◌, give, never, first, by_first, literal}
+use Rattle.sym_text.specs.Outcome.{◌>>=◌, give, never, first, by_first}
 use Rattle.sym_text.specs.Reading.{place_of, read_number, read_word, start_of, exp_by, read_exp}
 use Rattle.sym_text.specs.Text.{exp_text, variable_text}
-use Rattle.sym_text.proofs.Exactly.{Language, Ends, Reads, Anything, Behind, Under, behind-Reads, under-Reads, never-Reads, from-Reads, same-Reads, by_first-Reads}
+use Rattle.sym_text.proofs.Exactly.{Language, Reads, Anything, Behind, Under, behind-Reads, under-Reads, never-Reads, from-Reads, same-Reads, by_first-Reads}
 use Rattle.sym_text.proofs.NameLaws.{AreCNames, Differ, are_names, member_c_name, first_letter, place_within, place_at, member_at}
 use Rattle.sym_text.proofs.NumberLaws.{IsNumber, number-Reads}
-use Rattle.sym_text.proofs.WordLaws.{Member, IsWord, NotName, WordEnds, word-Reads}
+use Rattle.sym_text.proofs.WordLaws.{IsWord, WordEnds, word-Reads}
 
 -- few parameters with C names that differ
 pub record GoodParams (params : List (List ℕ)) : Type 0 where

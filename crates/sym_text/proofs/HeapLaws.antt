@@ -1,28 +1,23 @@
 -- Heaps and posts are read exactly.
-use Rattle.std.proofs.Common.{◌≡◌, ◌==◌, ◌&&◌, ◌||◌, not, if◌then◌else◌, ℕ, zero, suc, ◌+◌, ◌<◌, ◌≤◌, Bool, true, false, List, [], ◌∷◌, ◌++◌, length, map, ◌⊎◌, inl, inr, Option, Some, None, refl, sym, ap, ◌∙◌, subst, append_assoc, arith}
-use Rattle.std.proofs.lemmas.List.{append-nil}
+use Rattle.std.proofs.Common.{◌≡◌, not, if◌then◌else◌, ℕ, zero, suc, ◌+◌, ◌<◌, Bool, true, false, List, [], ◌++◌, Option, Some, None, refl, sym, ap, ◌∙◌, subst, arith}
 use Rattle.std.proofs.lemmas.Bool.Decides.{nat_tests}
-use Rattle.std.specs.Prelude.{codes, nat_lt}
+use Rattle.std.specs.Prelude.{codes}
 use Rattle.shape_data.specs.declared.program.StructDef.{StructDef}
 use Rattle.shape_data.specs.declared.symbolic.Atom.{Atom}
 use Rattle.shape_data.specs.declared.symbolic.Atom.TheVariants.{Points, Seg, Junk}
-use Rattle.shape_data.specs.declared.symbolic.Exp.{Exp}
 use Rattle.shape_data.specs.declared.symbolic.Fact.{Fact}
-use Rattle.shape_data.specs.declared.symbolic.Post.{Post}
 use Rattle.shape_data.specs.declared.symbolic.SymHeap.{SymHeap}
-use Rattle.shape_data.specs.Names.{is_name_byte}
 use Rattle.sym_text.specs.declared.parts.Part.{Part}
 use Rattle.sym_text.specs.declared.parts.Part.TheVariants as part
 use Rattle.sym_text.specs.declared.starts.Next.TheVariants as next
-use Rattle.sym_text.specs.Outcome.{Outcome, Reader, ◌>>=◌, give, never, only_if, first, by_first, literal}
-use Rattle.sym_text.specs.Reading.{next_of, has_some, is_end, is_star, ret_by, end_by, read_separator, with_part, more_may_come, read_part, read_parts, read_exp, end_only, read_whole_heap, read_whole_post}
+use Rattle.sym_text.specs.Outcome.{Reader, give, never, only_if, first, by_first}
+use Rattle.sym_text.specs.Reading.{next_of, has_some, is_end, is_star, ret_by, end_by, read_separator, with_part, more_may_come, read_part, read_parts}
 use Rattle.sym_text.proofs.CellLaws.{PartEnds, Given}
-use Rattle.sym_text.proofs.Exactly.{Language, Ends, AnyEnd, Reads, Anything, Behind, InRow, bind-Reads, give-Reads, never-Reads, only_if-Reads, behind-Reads, from-Reads, same-Reads, by_first-Reads}
-use Rattle.sym_text.proofs.ExpLaws.{GoodParams, ExpText, exp-Reads, some_exp}
+use Rattle.sym_text.proofs.Exactly.{Language, Ends, Reads, Anything, Behind, InRow, bind-Reads, give-Reads, never-Reads, only_if-Reads, behind-Reads, from-Reads, same-Reads, by_first-Reads}
+use Rattle.sym_text.proofs.ExpLaws.{GoodParams}
 use Rattle.sym_text.proofs.PartLaws.{end_not_name}
 use Rattle.sym_text.proofs.PartTexts.{PartText, part-Reads}
 use Rattle.sym_text.proofs.StructLaws.{GoodStructs}
-use Rattle.sym_text.proofs.WordLaws.{NotName, WordEnds}
 
 -- SEPARATORS
 

@@ -1,24 +1,21 @@
 -- What is read as a heap is the text of a well-formed heap, and the other way round.
-use Rattle.std.proofs.Common.{◌≡◌, ◌&&◌, not, if◌then◌else◌, ℕ, zero, suc, ◌+◌, ◌<◌, ◌≤◌, Bool, true, false, List, [], ◌∷◌, ◌++◌, length, map, ◌⊎◌, inl, inr, refl, sym, ap, ◌∙◌, subst, append_assoc, length-append, arith}
+use Rattle.std.proofs.Common.{◌≡◌, not, ℕ, zero, suc, ◌+◌, ◌<◌, ◌≤◌, Bool, true, false, List, [], ◌∷◌, ◌++◌, length, map, ◌⊎◌, inl, inr, refl, sym, ap, ◌∙◌, subst, append_assoc, arith}
 use Rattle.std.proofs.lemmas.List.{append-nil}
 use Rattle.std.proofs.lemmas.List.Elements.{All-nil, All-cons, All-head, All-tail}
 use Rattle.std.proofs.lemmas.Bool.Decides.{nat_tests}
-use Rattle.std.specs.Prelude.{codes, nat_lt, All}
+use Rattle.std.specs.Prelude.{codes, All}
 use Rattle.shape_data.specs.declared.program.StructDef.{StructDef}
 use Rattle.shape_data.specs.declared.symbolic.Atom.{Atom}
-use Rattle.shape_data.specs.declared.symbolic.Exp.{Exp}
 use Rattle.shape_data.specs.declared.symbolic.Fact.{Fact}
-use Rattle.shape_data.specs.declared.symbolic.Post.{Post}
 use Rattle.shape_data.specs.declared.symbolic.SymHeap.{SymHeap}
-use Rattle.shape_data.specs.WellFormed.{IsExp, IsFact, IsAtom, IsSymHeap}
+use Rattle.shape_data.specs.WellFormed.{IsFact, IsAtom}
 use Rattle.sym_text.specs.declared.parts.Part.{Part}
 use Rattle.sym_text.specs.declared.parts.Part.TheVariants as part
-use Rattle.sym_text.specs.Grammar.{written, IsInt, HasInts, HoldsInts, IsWritten, IsWrittenPost, IsHeapText, IsPostText}
+use Rattle.sym_text.specs.Grammar.{written, HasInts, HoldsInts, IsWritten}
 use Rattle.sym_text.specs.Led.{led_texts}
 use Rattle.sym_text.specs.Reading.{has_some, with_part, more_may_come}
-use Rattle.sym_text.specs.Text.{exp_text, fact_text, atom_text, joined_texts, heap_text, post_text}
-use Rattle.sym_text.proofs.CellLaws.{Given}
-use Rattle.sym_text.proofs.Exactly.{Language, InRow}
+use Rattle.sym_text.specs.Text.{fact_text, atom_text, joined_texts, heap_text}
+use Rattle.sym_text.proofs.Exactly.{Language}
 use Rattle.sym_text.proofs.HeapLaws.{SepText, AfterSep, PartsText}
 use Rattle.sym_text.proofs.LedTexts.{led_join}
 use Rattle.sym_text.proofs.PartTexts.{PartText}

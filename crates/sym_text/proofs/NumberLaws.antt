@@ -1,15 +1,15 @@
 -- Decimal numbers are read exactly.
-use Rattle.std.proofs.Common.{◌≡◌, ◌==◌, ◌&&◌, if◌then◌else◌, ℕ, zero, suc, ◌+◌, ◌-◌, ◌*◌, ◌/◌, ◌%◌, ◌^◌, ◌<◌, ◌≤◌, Bool, true, false, List, [], ◌∷◌, ◌++◌, length, ◌⊎◌, inl, inr, Option, Some, None, refl, sym, ap, ◌∙◌, subst, append_assoc, arith}
+use Rattle.std.proofs.Common.{◌≡◌, ◌&&◌, if◌then◌else◌, ℕ, ◌+◌, ◌-◌, ◌*◌, ◌/◌, ◌%◌, ◌^◌, ◌<◌, ◌≤◌, Bool, true, false, List, [], ◌∷◌, ◌++◌, length, inl, inr, Some, refl, sym, ap, ◌∙◌, subst, append_assoc, arith}
 use Rattle.std.proofs.lemmas.List.{append-nil}
 use Rattle.std.proofs.lemmas.Bool.Decides.{nat_tests}
 use Rattle.std.proofs.lemmas.Fmt.{decimal_digit, decimal_step, decimal_by_steps, decimal_nonempty}
-use Rattle.std.specs.Prelude.{nat_lt, nat_le}
+use Rattle.std.specs.Prelude.{nat_le}
 use Rattle.std.specs.Char.{is_ascii_digit}
 use Rattle.std.specs.Fmt.{decimal}
 use Rattle.shape_data.specs.Names.{is_name_byte}
-use Rattle.sym_text.specs.Outcome.{Outcome, Got, Stopped, Reader, first}
+use Rattle.sym_text.specs.Outcome.{Outcome, Got, Stopped, first}
 use Rattle.sym_text.specs.Reading.{may_go_on, read_digits, read_number}
-use Rattle.sym_text.proofs.Exactly.{Language, Ends, Begun, NoneBegins, IsGot, IsStopped, Answers, Reads, Anything}
+use Rattle.sym_text.proofs.Exactly.{Language, Answers, Reads, Anything}
 use Rattle.sym_text.proofs.WordLaws.{NotName, WordEnds}
 
 -- the number lies between two limits

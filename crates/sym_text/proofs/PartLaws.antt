@@ -1,35 +1,30 @@
 -- Facts and atoms are read exactly.
-use Rattle.std.proofs.Common.{◌≡◌, ◌==◌, ◌&&◌, ◌||◌, if◌then◌else◌, ℕ, zero, suc, ◌+◌, ◌<◌, ◌≤◌, Bool, true, false, List, [], ◌∷◌, ◌++◌, length, map, get_or, ◌⊎◌, inl, inr, Option, Some, None, refl, sym, ap, ◌∙◌, subst, append_assoc, arith}
-use Rattle.std.proofs.lemmas.List.{append-nil}
+use Rattle.std.proofs.Common.{◌≡◌, ◌==◌, ◌&&◌, if◌then◌else◌, ℕ, ◌+◌, Bool, true, false, List, [], ◌∷◌, ◌++◌, ◌⊎◌, inl, inr, Option, Some, None, refl, sym, ap, ◌∙◌, subst, append_assoc, arith}
 use Rattle.std.proofs.lemmas.Slice.Eq.{bytes_eq-Decides}
-use Rattle.std.specs.Prelude.{codes, IsTrue}
+use Rattle.std.specs.Prelude.{codes}
 use Rattle.std.specs.Str.{bytes_eq}
 use Rattle.shape_data.specs.declared.program.StructDef.{StructDef}
 use Rattle.shape_data.specs.declared.symbolic.Atom.{Atom}
-use Rattle.shape_data.specs.declared.symbolic.Atom.TheVariants.{Points, Seg, Junk}
+use Rattle.shape_data.specs.declared.symbolic.Atom.TheVariants.{Junk}
 use Rattle.shape_data.specs.declared.symbolic.Exp.{Exp}
-use Rattle.shape_data.specs.declared.symbolic.Exp.TheVariants.{Var, Const}
+use Rattle.shape_data.specs.declared.symbolic.Exp.TheVariants.{Var}
 use Rattle.shape_data.specs.declared.symbolic.Fact.{Fact}
 use Rattle.shape_data.specs.declared.symbolic.Fact.TheVariants.{Eq, Ne}
 use Rattle.shape_data.specs.Names.{is_name_byte}
-use Rattle.shape_data.specs.WellFormed.{IsExp, IsFact, IsAtom}
 use Rattle.sym_text.specs.declared.parts.Part.{Part}
 use Rattle.sym_text.specs.declared.parts.Part.TheVariants as part
 use Rattle.sym_text.specs.declared.starts.Next.{Next}
 use Rattle.sym_text.specs.declared.starts.Next.TheVariants as next
 use Rattle.sym_text.specs.declared.starts.Start.{Start}
 use Rattle.sym_text.specs.declared.starts.Start.TheVariants as start
-use Rattle.sym_text.specs.Grammar.{written, IsInt, HasInts, HoldsInts}
-use Rattle.sym_text.specs.Outcome.{Outcome, Got, Stopped, Reader, ◌>>=◌, give, never, only_if, first, by_first, literal}
-use Rattle.sym_text.specs.Reading.{place_of, is_one_of, start_of, next_of, has_some, kinds, linked, exp_by, read_exp, read_word, read_cell, read_segment, read_right, tail_by, exps_may_come, lead_words, word_by, counted_part, part_by, read_part}
-use Rattle.sym_text.specs.Text.{exp_text, fact_text, atom_text}
+use Rattle.sym_text.specs.Outcome.{◌>>=◌, give, never, only_if, first, by_first}
+use Rattle.sym_text.specs.Reading.{place_of, is_one_of, start_of, next_of, has_some, linked, exp_by, read_exp, read_word, read_cell, read_segment, read_right, tail_by, exps_may_come, lead_words, word_by, counted_part, part_by}
 use Rattle.sym_text.proofs.CellLaws.{PartEnds, Given, CellRaw, cell-Reads, cell_some_whole, SegmentRaw, segment-Reads, segment_some}
-use Rattle.sym_text.proofs.CellTexts.{cell_tail, cell_to, cell_back, cell_whole, segment_tail, segment_to_text, segment_back}
-use Rattle.sym_text.proofs.Exactly.{Language, Ends, AnyEnd, Reads, Anything, Behind, Under, InRow, bind-Reads, give-Reads, never-Reads, only_if-Reads, behind-Reads, under-Reads, from-Reads, same-Reads, by_first-Reads, same_byte}
-use Rattle.sym_text.proofs.ExpLaws.{GoodParams, ExpText, ExpBy, exp_by-Reads, exp_start, exp_to, exp_back, exp-Reads, some_exp}
-use Rattle.sym_text.proofs.NameLaws.{AreCNames, are_names, names_append}
-use Rattle.sym_text.proofs.StructLaws.{GoodStructs, good_structs}
-use Rattle.sym_text.proofs.WordLaws.{both_true, Member, AreNames, IsWord, NotName, WordEnds, word-Reads, member_test, test_member}
+use Rattle.sym_text.proofs.Exactly.{Language, Reads, Anything, Behind, Under, InRow, bind-Reads, give-Reads, never-Reads, only_if-Reads, behind-Reads, under-Reads, from-Reads, same-Reads, by_first-Reads, same_byte}
+use Rattle.sym_text.proofs.ExpLaws.{GoodParams, ExpText, ExpBy, exp_by-Reads, exp_start, exp-Reads, some_exp}
+use Rattle.sym_text.proofs.NameLaws.{are_names}
+use Rattle.sym_text.proofs.StructLaws.{GoodStructs}
+use Rattle.sym_text.proofs.WordLaws.{both_true, Member, AreNames, IsWord, NotName, WordEnds, word-Reads, member_test}
 
 -- BEHIND AN EXPRESSION
 

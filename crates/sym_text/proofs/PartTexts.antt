@@ -1,15 +1,14 @@
 -- What is read as a part is its text, and the other way round.
-use Rattle.std.proofs.Common.{◌≡◌, ◌==◌, ◌&&◌, ◌||◌, if◌then◌else◌, ℕ, zero, suc, ◌+◌, ◌<◌, ◌≤◌, Bool, true, false, List, [], ◌∷◌, ◌++◌, length, map, get_or, ◌⊎◌, inl, inr, Option, Some, None, refl, sym, ap, ◌∙◌, subst, append_assoc, arith}
+use Rattle.std.proofs.Common.{◌≡◌, ℕ, ◌+◌, Bool, true, false, List, [], ◌∷◌, ◌++◌, length, inl, inr, refl, sym, ap, ◌∙◌, subst, append_assoc, arith}
 use Rattle.std.proofs.lemmas.List.{append-nil}
-use Rattle.std.proofs.lemmas.Slice.Eq.{bytes_eq-Decides}
-use Rattle.std.specs.Prelude.{codes, IsTrue}
+use Rattle.std.specs.Prelude.{codes}
 use Rattle.std.specs.Option.{IsSomeAnd}
 use Rattle.std.specs.Str.{bytes_eq}
 use Rattle.shape_data.specs.declared.program.StructDef.{StructDef}
 use Rattle.shape_data.specs.declared.symbolic.Atom.{Atom}
 use Rattle.shape_data.specs.declared.symbolic.Atom.TheVariants.{Points, Seg, Junk}
 use Rattle.shape_data.specs.declared.symbolic.Exp.{Exp}
-use Rattle.shape_data.specs.declared.symbolic.Exp.TheVariants.{Var, Const}
+use Rattle.shape_data.specs.declared.symbolic.Exp.TheVariants.{Var}
 use Rattle.shape_data.specs.declared.symbolic.Fact.{Fact}
 use Rattle.shape_data.specs.declared.symbolic.Fact.TheVariants.{Eq, Ne}
 use Rattle.shape_data.specs.Heap.{struct_named}
@@ -21,16 +20,16 @@ use Rattle.sym_text.specs.declared.starts.Next.TheVariants as next
 use Rattle.sym_text.specs.declared.starts.Start.{Start}
 use Rattle.sym_text.specs.declared.starts.Start.TheVariants as start
 use Rattle.sym_text.specs.Grammar.{written, IsInt, HasInts, HoldsInts}
-use Rattle.sym_text.specs.Outcome.{Outcome, Reader, first, by_first}
-use Rattle.sym_text.specs.Reading.{place_of, start_of, has_some, linked, exps_may_come, lead_words, part_by, read_part}
+use Rattle.sym_text.specs.Outcome.{first, by_first}
+use Rattle.sym_text.specs.Reading.{place_of, start_of, has_some, linked, exps_may_come, part_by, read_part}
 use Rattle.sym_text.specs.Text.{exp_text, fact_text, atom_text}
-use Rattle.sym_text.proofs.CellLaws.{PartEnds, Given, SegmentRaw}
+use Rattle.sym_text.proofs.CellLaws.{PartEnds}
 use Rattle.sym_text.proofs.CellTexts.{cell_tail, cell_to, cell_back, cell_whole, segment_tail, segment_to_text, segment_back}
-use Rattle.sym_text.proofs.Exactly.{Language, Reads, Anything, Behind, Under, InRow, from-Reads, same-Reads, by_first-Reads}
+use Rattle.sym_text.proofs.Exactly.{Language, Reads, Anything, InRow, from-Reads, same-Reads, by_first-Reads}
 use Rattle.sym_text.proofs.ExpLaws.{GoodParams, ExpText, ExpBy, exp_to, exp_back}
-use Rattle.sym_text.proofs.PartLaws.{TailBy, Tails, WordBy, Words, LeadWord, AName, AnLs, AJunk, AnEmp, lead_member, member_lead, ls_test, emp_test, PartBy, part_by-Reads, part_start}
-use Rattle.sym_text.proofs.StructLaws.{GoodStructs, named_kind}
-use Rattle.sym_text.proofs.WordLaws.{both_true, Member, IsWord, same_bytes, member_test, test_member}
+use Rattle.sym_text.proofs.PartLaws.{TailBy, Tails, WordBy, AName, AnLs, AJunk, AnEmp, member_lead, ls_test, emp_test, PartBy, part_by-Reads, part_start}
+use Rattle.sym_text.proofs.StructLaws.{GoodStructs}
+use Rattle.sym_text.proofs.WordLaws.{both_true, Member, same_bytes, member_test, test_member}
 
 -- the texts of a part, where facts may come or not, and where it is the first or not
 abbrev pub PartText : List StructDef → List (List ℕ) → Bool → Bool → Language Part

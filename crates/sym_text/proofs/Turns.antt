@@ -1,5 +1,5 @@
 -- Parts turn by turn, as the code reads them, and what the code tells of a refusal.
-use Rattle.std.proofs.Common.{◌≡◌, not, if◌then◌else◌, ℕ, zero, suc, ◌+◌, ◌-◌, ◌<◌, ◌≤◌, Bool, true, false, List, [], ◌∷◌, ◌++◌, length, refl, sym, ap, ◌∙◌, subst, length-append, arith}
+use Rattle.std.proofs.Common.{◌≡◌, not, if◌then◌else◌, ℕ, suc, ◌-◌, ◌<◌, ◌≤◌, Bool, true, false, List, [], ◌∷◌, length, refl, sym, ap, ◌∙◌, subst, length-append, arith}
 use Rattle.shape_data.specs.declared.program.StructDef.{StructDef}
 use Rattle.shape_data.specs.declared.symbolic.SymHeap.{SymHeap}
 use Rattle.sym_text.specs.declared.fault.Fault.{Fault}
@@ -16,7 +16,7 @@ use Rattle.sym_text.proofs.StructLaws.{good_structs, good_params}
 use Rattle.sym_text.specs.Outcome.{Outcome, Got, Stopped, Reader, pass, go_on, ◌>>=◌, give, IsStop, HasLeft, IsWithin, bad_of}
 use Rattle.sym_text.specs.Reading.{has_some, with_part, more_may_come, read_part, read_separator, read_turn, read_parts, read_whole_heap, read_whole_post}
 use Rattle.sym_text.proofs.Chains.{stop_then}
-use Rattle.sym_text.proofs.Exactly.{Language, Answers, IsStopped, Reads, Anything}
+use Rattle.sym_text.proofs.Exactly.{Language, Answers, Reads, Anything}
 use Rattle.sym_text.proofs.WholeLaws.{AtLast, got_whole, stopped_whole, one_text, WholeHeap, WholePost, whole_heap-Reads, whole_post-Reads, some_heap, some_post}
 
 -- what stands behind a turn

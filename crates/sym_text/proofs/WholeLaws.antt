@@ -1,5 +1,5 @@
 -- Whole texts: what is got is the heap or post of the text, and where the reader stops the grammar is left.
-use Rattle.std.proofs.Common.{◌≡◌, ℕ, zero, suc, ◌+◌, ◌-◌, ◌<◌, ◌≤◌, Bool, true, false, List, [], ◌∷◌, ◌++◌, length, take, ◌⊎◌, inl, inr, Option, Some, None, pos, refl, sym, ap, ◌∙◌, subst, append_assoc, length-append, arith}
+use Rattle.std.proofs.Common.{◌≡◌, ℕ, ◌+◌, ◌-◌, ◌<◌, Bool, true, false, List, [], ◌∷◌, ◌++◌, length, take, inl, inr, Option, Some, None, pos, refl, sym, ap, ◌∙◌, subst, append_assoc, length-append, arith}
 use Rattle.std.proofs.lemmas.List.{append-nil}
 use Rattle.std.proofs.lemmas.List.Elements.{All-nil}
 use Rattle.std.proofs.Math.Seq.{take-append_seam}
@@ -10,15 +10,14 @@ use Rattle.shape_data.specs.declared.symbolic.Exp.TheVariants.{Const}
 use Rattle.shape_data.specs.declared.symbolic.Post.{Post}
 use Rattle.shape_data.specs.declared.symbolic.SymHeap.{SymHeap}
 use Rattle.shape_data.specs.WellFormed.{IsFact, IsAtom}
-use Rattle.sym_text.specs.Grammar.{written, HasInts, HoldsInts, IsWritten, IsWrittenPost, IsHeapText, IsPostText, Begins, IsRefused}
+use Rattle.sym_text.specs.Grammar.{written, HasInts, HoldsInts, IsWritten, IsWrittenPost, Begins, IsRefused}
 use Rattle.sym_text.specs.Outcome.{Outcome, Got, Stopped, Reader, ◌>>=◌, give, never, first, by_first}
 use Rattle.sym_text.specs.Reading.{is_end, end_only, read_exp, read_parts, read_whole_heap, read_whole_post}
 use Rattle.sym_text.specs.Text.{exp_text, heap_text, post_text}
-use Rattle.sym_text.proofs.CellLaws.{Given}
-use Rattle.sym_text.proofs.Exactly.{Language, Ends, AnyEnd, IsGot, IsStopped, Answers, Reads, Anything, InRow, Under, bind-Reads, give-Reads, never-Reads, under-Reads, from-Reads, same-Reads, by_first-Reads}
+use Rattle.sym_text.proofs.Exactly.{Language, Ends, IsGot, IsStopped, Answers, Reads, Anything, InRow, Under, bind-Reads, give-Reads, never-Reads, under-Reads, from-Reads, same-Reads, by_first-Reads}
 use Rattle.sym_text.proofs.ExpLaws.{GoodParams, ExpText, exp-Reads, some_exp}
 use Rattle.sym_text.proofs.HeapLaws.{HeapEnds, PartsText, parts-Reads}
-use Rattle.sym_text.proofs.HeapTexts.{HeapText, emp_heap, heap_to, heap_back, tail_of}
+use Rattle.sym_text.proofs.HeapTexts.{emp_heap, heap_to, heap_back}
 use Rattle.sym_text.proofs.StructLaws.{GoodStructs}
 use Rattle.sym_text.proofs.WordLaws.{NotName, WordEnds}
 

@@ -1,17 +1,17 @@
 -- Words of a list are read exactly.
-use Rattle.std.proofs.Common.{◌≡◌, ◌==◌, ◌||◌, ◌&&◌, if◌then◌else◌, eq-eqb, length-drop, length-take-le, ℕ, zero, suc, ◌+◌, ◌<◌, ◌≤◌, Bool, true, false, List, [], ◌∷◌, ◌++◌, length, take, drop, ◌⊎◌, inl, inr, Option, Some, None, refl, sym, ap, ◌∙◌, subst, append_assoc, arith}
+use Rattle.std.proofs.Common.{◌≡◌, ◌==◌, ◌||◌, ◌&&◌, if◌then◌else◌, eq-eqb, length-drop, length-take-le, ℕ, suc, ◌+◌, ◌<◌, ◌≤◌, Bool, true, false, List, [], ◌∷◌, ◌++◌, length, take, drop, ◌⊎◌, inl, inr, Option, Some, None, refl, sym, ap, ◌∙◌, subst, append_assoc, arith}
 use Rattle.std.proofs.lemmas.List.{take-append-drop}
 use Rattle.std.proofs.Math.Seq.{take-append_seam, drop-append_seam}
 use Rattle.std.proofs.lemmas.Slice.Eq.{bytes_eq-Decides}
 use Rattle.std.specs.Prelude.{nat_lt}
 use Rattle.std.proofs.lemmas.Bool.Decides.{nat_tests}
-use Rattle.std.specs.List.{list_any, list_all, prefix_len}
+use Rattle.std.specs.List.{list_all, prefix_len}
 use Rattle.std.specs.Str.{bytes_eq}
 use Rattle.shape_data.specs.Names.{is_name_byte}
 use Rattle.sym_text.specs.declared.fault.Fault.{Fault}
-use Rattle.sym_text.specs.Outcome.{Outcome, Got, Stopped, Reader, first, IsStop}
+use Rattle.sym_text.specs.Outcome.{Got, Stopped, first, IsStop}
 use Rattle.sym_text.specs.Reading.{common, reach_from, reach, is_one_of, front_name, read_word}
-use Rattle.sym_text.proofs.Exactly.{Language, Ends, Begun, NoneBegins, IsGot, IsStopped, Answers, Reads, Anything, same_byte}
+use Rattle.sym_text.proofs.Exactly.{Language, IsStopped, Answers, Reads, Anything, same_byte}
 
 -- the byte ends a name
 abbrev pub NotName : Option ℕ → Type 0

@@ -1,7 +1,7 @@
 -- How texts of heaps are read, from the front. `proofs/` shows that the readers read the grammar exactly.
-use Rattle.std.specs.Prelude.{◌≡◌, ℕ, zero, suc, ◌+◌, ◌-◌, ◌*◌, nat_lt, nat_le, Bool, true, false, not, ◌&&◌, ◌||◌, List, [], ◌∷◌, ◌++◌}
-use Rattle.std.specs.Prelude.{length, map, take, drop, codes, Option, Some, None, unwrap_or, ◌==◌, if◌then◌else◌, pos, negsuc}
-use Rattle.std.specs.List.{list_any, prefix_len, position, filter}
+use Rattle.std.specs.Prelude.{ℕ, zero, suc, ◌+◌, ◌-◌, ◌*◌, nat_lt, nat_le, Bool, true, false, not, ◌&&◌, ◌||◌, List, [], ◌∷◌, ◌++◌}
+use Rattle.std.specs.Prelude.{length, map, take, drop, codes, Option, Some, None, ◌==◌, if◌then◌else◌, pos, negsuc}
+use Rattle.std.specs.List.{list_any, prefix_len}
 use Rattle.std.specs.Str.{bytes_eq}
 use Rattle.std.specs.Char.{is_ascii_digit}
 use Rattle.shape_data.specs.declared.program.StructDef.{StructDef}
@@ -20,7 +20,7 @@ use Rattle.sym_text.specs.declared.starts.Start.{Start}
 use Rattle.sym_text.specs.declared.starts.Start.TheVariants as start
 use Rattle.sym_text.specs.declared.starts.Next.{Next}
 use Rattle.sym_text.specs.declared.starts.Next.TheVariants as next
-use Rattle.sym_text.specs.Outcome.{Outcome, Got, Stopped, Reader, ◌>>=◌, give, never, only_if, first, by_first, literal}
+use Rattle.sym_text.specs.Outcome.{Got, Stopped, Reader, ◌>>=◌, give, never, only_if, by_first, literal}
 use Rattle.sym_text.specs.Text.{field_names}
 
 -- NUMBERS

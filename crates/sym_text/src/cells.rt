@@ -1,5 +1,5 @@
 //! Reads cells and list segments.
-ghost use Rattle.std.specs.Prelude.{◌≡◌, ◌≤◌, ◌<◌, ◌++◌, ◌∷◌, [], true, length, map, IfOk, IfErr, Some, codes};
+ghost use Rattle.std.specs.Prelude.{◌≡◌, ◌≤◌, ◌<◌, [], true, length, map, IfOk, IfErr, Some};
 ghost use Rattle.shape_data.specs.Heap.{struct_named};
 ghost use Rattle.shape_data.specs.WellFormed.{AreStructs};
 ghost use Rattle.std.specs.Option.{option_copied};

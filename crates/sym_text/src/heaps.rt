@@ -1,9 +1,9 @@
 //! Reads whole heaps and posts.
-ghost use Rattle.std.specs.Prelude.{◌≡◌, ◌≤◌, ◌<◌, [], true, false, not, length, IfOk, IfErr, OnOk};
+ghost use Rattle.std.specs.Prelude.{◌≡◌, ◌≤◌, ◌<◌, [], true, false, length, IfOk, IfErr, OnOk};
 ghost use Rattle.shape_data.specs.WellFormed.{AreParams, AreStructs};
 ghost use Rattle.sym_text.specs.Grammar.{IsWritten, IsWrittenPost, IsHeapText, IsPostText, IsRefusal};
 ghost use Rattle.sym_text.specs.Outcome.{Got, IsStop};
-ghost use Rattle.sym_text.specs.Reading.{has_some, with_part, more_may_come, read_turn, read_parts, read_whole_heap, read_whole_post};
+ghost use Rattle.sym_text.specs.Reading.{with_part, more_may_come, read_turn, read_parts, read_whole_post};
 ghost use Rattle.sym_text.specs.Text.{heap_text, post_text};
 
 use crate::exps::read_exp;

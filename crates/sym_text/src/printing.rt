@@ -1,21 +1,11 @@
 //! Writes texts of symbolic heaps and posts. A function that appends leaves, where memory wants, a text of which
 //! nothing is said.
-ghost use Rattle.std.specs.Prelude.{◌≡◌, ◌∷◌, [], ◌++◌, false, ◌<◌, ◌≤◌, length, map, codes, All, OnOk, IfOk};
+ghost use Rattle.std.specs.Prelude.{◌≡◌, ◌++◌, false, ◌<◌, length, map, codes, All, OnOk, IfOk};
 ghost use Rattle.std.specs.Fmt.{decimal, signed_decimal};
 ghost use Rattle.std.specs.List.{join_by};
 ghost use Rattle.sym_text.specs.Led.{led_texts};
 ghost use Rattle.sym_text.specs.Shape.{IsShaped, IsShapedHeap, IsShapedPost};
-ghost use Rattle.sym_text.specs.Text.{
-  variable_text,
-  exp_text,
-  fact_text,
-  field_names,
-  field_texts,
-  atom_text,
-  heap_text,
-  ret_text,
-  post_text,
-};
+ghost use Rattle.sym_text.specs.Text.{variable_text, exp_text, fact_text, field_texts, atom_text, heap_text, ret_text, post_text};
 
 use itoa::Buffer;
 use shape_data::program::{Field, StructDef};

@@ -1,5 +1,5 @@
 //! Reads fixed bytes, and the names of things.
-ghost use Rattle.std.specs.Prelude.{◌≡◌, ◌≤◌, ◌<◌, ◌+◌, ◌++◌, List, ℕ, true, drop, ◌∷◌, [], length, map, IfOk, IfErr, codes};
+ghost use Rattle.std.specs.Prelude.{◌≡◌, ◌≤◌, ◌<◌, ◌+◌, List, ℕ, true, drop, ◌∷◌, [], length, map, IfOk, IfErr};
 ghost use Rattle.std.specs.List.{prefix_len};
 ghost use Rattle.shape_data.specs.Names.{is_name_byte};
 ghost use Rattle.sym_text.specs.Outcome.{Got, Stopped, literal, IsStop};

@@ -1,4 +1,4 @@
-use Rattle.std.proofs.Common.{ℕ, length, sym, ap, ◌∙◌, subst}
+use Rattle.std.proofs.Common.{ℕ, length, sym, subst}
 use Rattle.c_tokens.specs.declared.places.Place.{Place}
 use Rattle.c_grammar.specs.Trees.{Stmts}
 use Rattle.c_lower_rules.specs.Contexts.{at_place}
@@ -9,7 +9,8 @@ use Rattle.c_tree.specs.Syntax.{block_tree}
 use Rattle.c_lower_emit.specs.declared.drafts.Label.TheVariants.{At}
 use Rattle.c_lower_emit.specs.Emitting.{HasRoom, EmitsCode}
 use Rattle.c_lower_exprs.specs.Contexts.{on_line}
-use Rattle.c_lower_stmts.specs.Laying.{state, EmitsLowered}
+use Rattle.c_lower_stmts.specs.Laying.{EmitsLowered}
+use Rattle.c_lower_stmts.specs.Standing.{state}
 use Rattle.c_lower.specs.Closing.{closing, closed_body, Closes}
 use Rattle.c_lower.proofs.Closed.{body_closed}
 use Rattle.c_lower.proofs.Whole.{block_is, end_is}

@@ -4,7 +4,8 @@ use Rattle.c_tree.specs.Syntax.{init_tree, local_tree, simple_tree}
 use Rattle.c_lower_rules.specs.Statements.{for_init, declaration, simple_from, from_place}
 use Rattle.c_lower_rules.specs.Numbers.{InitHasIntNumbers, LocalHasIntNumbers, SimpleHasIntNumbers}
 use Rattle.c_lower_exprs.specs.Contexts.{on_line}
-use Rattle.c_lower_stmts.specs.Laying.{state, EmitsLowered}
+use Rattle.c_lower_stmts.specs.Laying.{EmitsLowered}
+use Rattle.c_lower_stmts.specs.Standing.{state}
 use Rattle.c_lower_stmts.proofs.heads.init.Goals as goal
 
 pub returns-in-Local-clause-laid : goal.returns-in-Local-clause-laid

@@ -5,7 +5,8 @@ use Rattle.c_tree.specs.Syntax.{simple_tree, for_step_tree}
 use Rattle.c_lower_rules.specs.Statements.{for_step}
 use Rattle.c_lower_rules.specs.Numbers.{SimpleHasIntNumbers}
 use Rattle.c_lower_exprs.specs.Contexts.{on_line}
-use Rattle.c_lower_stmts.specs.Laying.{state, EmitsWithin}
+use Rattle.c_lower_stmts.specs.Laying.{EmitsWithin}
+use Rattle.c_lower_stmts.specs.Standing.{state}
 use Rattle.c_lower_stmts.proofs.heads.step.Goals as goal
 
 pub returns-in-Some : goal.returns-in-Some

@@ -3,7 +3,8 @@ use Rattle.std.proofs.Common.{subst}
 use Rattle.c_tree.specs.Syntax.{simple_tree}
 use Rattle.c_lower_rules.specs.Statements.{simple_from, from_place}
 use Rattle.c_lower_exprs.specs.Contexts.{on_line}
-use Rattle.c_lower_stmts.specs.Laying.{state, EmitsLowered}
+use Rattle.c_lower_stmts.specs.Laying.{EmitsLowered}
+use Rattle.c_lower_stmts.specs.Standing.{state}
 use Rattle.c_lower_stmts.proofs.Branching.{without_names}
 use Rattle.c_lower_stmts.proofs.heads.stepped.Goals as goal
 

@@ -6,7 +6,7 @@ use Rattle.c_lower_rules.specs.Statements.{for_condition}
 use Rattle.c_lower_rules.specs.Numbers.{HasIntNumbers}
 use Rattle.c_lower_emit.specs.Emitting.{EmitsTested}
 use Rattle.c_lower_exprs.specs.Contexts.{on_line}
-use Rattle.c_lower_stmts.specs.Laying.{state}
+use Rattle.c_lower_stmts.specs.Standing.{state}
 use Rattle.c_lower_stmts.proofs.heads.tested_for.Goals as goal
 
 pub returns-in-None : goal.returns-in-None

@@ -11,7 +11,8 @@ use Rattle.c_lower_rules.specs.Numbers.{StmtHasIntNumbers, StmtsHaveIntNumbers}
 use Rattle.c_lower_emit.specs.declared.drafts.Label.TheVariants.{Next, Breaks, Continues}
 use Rattle.c_lower_emit.specs.Emitting.{EmitsTested}
 use Rattle.c_lower_exprs.specs.Contexts.{on_line, IsWithin}
-use Rattle.c_lower_stmts.specs.Laying.{state, EmitsLowered, EmitsWithin}
+use Rattle.c_lower_stmts.specs.Laying.{EmitsLowered, EmitsWithin}
+use Rattle.c_lower_stmts.specs.Standing.{state}
 use Rattle.c_lower_stmts.proofs.Branching.{jumped, if_laid, if_else_laid}
 use Rattle.c_lower_stmts.proofs.Rounds.{while_laid, do_laid, for_laid}
 use Rattle.c_lower_stmts.proofs.Rows.{stmts_turn, numbers_at, one_more}

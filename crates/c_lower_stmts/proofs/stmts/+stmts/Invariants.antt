@@ -3,7 +3,8 @@ use Rattle.c_tree.specs.Syntax.{stmt_tree, stmts_of, stmts_tree}
 use Rattle.c_lower_rules.specs.Statements.{stmts}
 use Rattle.c_lower_rules.specs.Numbers.{StmtsHaveIntNumbers}
 use Rattle.c_lower_exprs.specs.Contexts.{on_line, IsWithin}
-use Rattle.c_lower_stmts.specs.Laying.{state, EmitsLowered}
+use Rattle.c_lower_stmts.specs.Laying.{EmitsLowered}
+use Rattle.c_lower_stmts.specs.Standing.{state}
 use Rattle.c_lower_stmts.proofs.stmts.+stmts.Given as goal
 
 abbrev pub invariant-stmts-loop-one : goal.invariant-stmts-loop-one

@@ -1,7 +1,7 @@
 use Rattle.std.proofs.Common.{◌≡◌, ℕ, List, refl, sym, ap, ◌∙◌}
 use Rattle.c_grammar.specs.declared.class.Class.{Class}
 use Rattle.c_grammar.specs.declared.class.Class.TheVariants as class
-use Rattle.c_grammar.specs.Readers.{class_at, wrong}
+use Rattle.c_grammar.specs.Readers.{wrong}
 use Rattle.c_grammar.specs.Words.{Word}
 use Rattle.c_parse.specs.Heads.{iteration_by}
 use Rattle.c_parse.proofs.Cases.{stops_wrong}

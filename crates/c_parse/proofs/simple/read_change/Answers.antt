@@ -1,4 +1,3 @@
-use Rattle.std.proofs.Common.{le_refl}
 use Rattle.c_tree.specs.Syntax.{expr_tree}
 use Rattle.c_parse.proofs.Cases.{assign_stops}
 use Rattle.c_parse.proofs.simple.read_change.Goals as goal

@@ -1,12 +1,12 @@
 -- All files together have their bytes and those of the file more.
-use Rattle.std.proofs.Common.{◌≡◌, ◌<◌, length, None, inr, sym, ap, ◌∙◌, arith, rules}
+use Rattle.std.proofs.Common.{◌≡◌, length, inr, sym, ◌∙◌, arith, rules}
 use Rattle.std.specs.List.{sum_by, position_or_len}
 use Rattle.std.specs.Prelude.{insert}
 use Rattle.std.proofs.lemmas.List.{length-map}
 use Rattle.project_form.specs.declared.fault.PutFault.TheVariants as fault
 use Rattle.project_form.specs.Puts.{IsPutFault}
 use Rattle.project_form.specs.Files.{put_refusal}
-use Rattle.project_form.specs.Kept.{KeptFile, kept_length, new_file, source_of, sources_of, stands_before_kept}
+use Rattle.project_form.specs.Kept.{kept_length, new_file, source_of, sources_of, stands_before_kept}
 use Rattle.project_form.proofs.Putting.{bytes-kept, err_is, inserted-is, inserted-bytes, none-has, refused-many, refused-full, not_refused}
 use Rattle.project_form.proofs.files.insert.Goals as goal
 

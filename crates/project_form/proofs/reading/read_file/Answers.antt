@@ -1,6 +1,6 @@
 -- What a file is read as is noted.
 use Rattle.std.proofs.Common.{◌≡◌, true, false, rules}
-use Rattle.project_form.specs.Kept.{KeptFile, HasUnit}
+use Rattle.project_form.specs.Kept.{HasUnit}
 use Rattle.project_form.specs.Reads.{NoTokens, NoFile, IsRead}
 use Rattle.project_form.proofs.Units.{noted-tree, noted-tokens, noted-syntax}
 use Rattle.project_form.proofs.reading.read_file.Goals as goal

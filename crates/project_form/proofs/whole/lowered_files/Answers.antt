@@ -1,5 +1,5 @@
 -- The first refusal is one of the list, so that it is in one of the files.
-use Rattle.std.proofs.Common.{◌≡◌, Some, length, map, ap, arith, rules}
+use Rattle.std.proofs.Common.{◌≡◌, Some, length, map, arith, rules}
 use Rattle.std.proofs.lemmas.List.{length-map}
 use Rattle.c_tree.specs.Syntax.{unit_tree}
 use Rattle.c_types.specs.Typing.{files_of}

@@ -1,6 +1,4 @@
-use Rattle.std.proofs.Common.{◌≡◌, ap, ◌∙◌, sym, map}
-use Rattle.sym_text.specs.Outcome.{Got}
-use Rattle.sym_text.specs.Reading.{kinds, linked}
+use Rattle.sym_text.specs.Reading.{linked}
 use Rattle.sym_text.proofs.StructLaws.{found_is, none_found, found_names, linked_kind}
 use Rattle.sym_text.proofs.WordLaws.{test_member}
 use Rattle.sym_text.proofs.cells.read_linked_kind.Goals as goal

@@ -1,6 +1,3 @@
-use Rattle.std.proofs.Common.{ap}
-use Rattle.sym_text.specs.Grammar.{IsRefusal, IsHeapText, IsPostText}
-use Rattle.sym_text.specs.declared.fault.BadSpec.{BadSpec}
 use Rattle.sym_text.proofs.Turns.{post_got, post_within, post_refuses}
 use Rattle.sym_text.proofs.heaps.read_post.Goals as goal
 

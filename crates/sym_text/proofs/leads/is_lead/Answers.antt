@@ -1,4 +1,4 @@
-use Rattle.std.proofs.Common.{sym, ◌∙◌}
+use Rattle.std.proofs.Common.{sym}
 use Rattle.sym_text.proofs.LeadLaws.{lead_test}
 use Rattle.sym_text.proofs.leads.is_lead.Goals as goal
 

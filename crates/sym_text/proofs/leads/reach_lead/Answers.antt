@@ -1,4 +1,4 @@
-use Rattle.std.proofs.Common.{[], ◌∷◌, ap, sym, ◌∙◌, if◌then◌else◌}
+use Rattle.std.proofs.Common.{[], ◌∷◌, if◌then◌else◌}
 use Rattle.std.specs.Prelude.{codes}
 use Rattle.sym_text.specs.Reading.{exps_may_come, has_some, linked}
 use Rattle.sym_text.proofs.LeadLaws.{lead_reach}

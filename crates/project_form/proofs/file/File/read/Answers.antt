@@ -1,5 +1,5 @@
 -- A tree that is kept, or that was just read, is one of the bytes.
-use Rattle.std.proofs.Common.{◌≡◌, true, sym, ◌∙◌, subst, rules}
+use Rattle.std.proofs.Common.{◌≡◌, true, subst, rules}
 use Rattle.std.specs.Prelude.{is_some}
 use Rattle.c_tree.specs.Syntax.{unit_tree}
 use Rattle.c_front.specs.Units.{IsUnitOf}

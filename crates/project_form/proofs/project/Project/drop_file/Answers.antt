@@ -1,4 +1,4 @@
-use Rattle.std.proofs.Common.{◌≡◌, List, ap, ◌∙◌}
+use Rattle.std.proofs.Common.{List, ap, ◌∙◌}
 use Rattle.project_form.specs.Files.{without_file}
 use Rattle.project_form.specs.Kept.{KeptFile, sources_of}
 use Rattle.project_form.proofs.Putting.{without_kept-sources}
