@@ -17,7 +17,7 @@ use Rattle.key_laws.proofs.Formed.{composed_are_formed}
 use Rattle.key_laws.proofs.Keeping.{used_contained}
 use Rattle.key_laws.proofs.Members.{component_at, component_of_class, outer_from, outer_listed}
 use Rattle.bottom_up.specs.BottomUp.{answers_in, callee_by, callee_from, key_after, known_by}
-use Rattle.bottom_up.proofs.Listed.{zip_mapped}
+use Rattle.bottom_up.proofs.ListPlaces.{zip_mapped}
 use Rattle.bottom_up.proofs.Over.{answer_is}
 
 -- a procedure outside of a component is one of its own component, which stands before

@@ -1,9 +1,9 @@
-pub mod Listed
+pub mod ListPlaces
 pub mod Over
 pub mod Formed
-pub mod Named
+pub mod ProceduresByName
 pub mod Reported
-mod Firsts
+mod FirstSummaries
 pub mod Summed
 pub mod Among
 pub mod LookedUp

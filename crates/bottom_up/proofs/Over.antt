@@ -10,7 +10,7 @@ use Rattle.component_keys.proofs.Basics.{not_none, some_same}
 use Rattle.component_keys.proofs.Ordered.{callees_before}
 use Rattle.claim_core.specs.Views.{Solution}
 use Rattle.bottom_up.specs.BottomUp.{answered, answers_in, callee_by, callee_from, key_after, known_by, known_over}
-use Rattle.bottom_up.proofs.Listed.{front_at, within_at}
+use Rattle.bottom_up.proofs.ListPlaces.{front_at, within_at}
 
 -- two lists are the same at the places below
 abbrev pub AgreeBelow : ℕ → List Answer → List Answer → Type 0

@@ -23,8 +23,8 @@ use Rattle.claim_core.specs.Views.{Solution}
 use Rattle.bottom_up.specs.BottomUp.{answers_in, callee_by, callee_from, known_by, summaries_for, summary_named}
 use Rattle.bottom_up.specs.Laws.{AreReported, AreRight, IsReported}
 use Rattle.bottom_up.proofs.Formed.{IsOutside, has_structs, is_outside, key_at, key_is}
-use Rattle.bottom_up.proofs.Listed.{mapped_at, mapped_length}
-use Rattle.bottom_up.proofs.Named.{IsSummarized, each_summarized, member_of, specs_are, summary_of}
+use Rattle.bottom_up.proofs.ListPlaces.{mapped_at, mapped_length}
+use Rattle.bottom_up.proofs.ProceduresByName.{IsSummarized, each_summarized, member_of, specs_are, summary_of}
 use Rattle.bottom_up.proofs.Over.{answer_is, known_is, known_of_component}
 
 module _ (all_valid : AllAreValid) (answer_of : Key → Answer) (right : AreRight answer_of) (program : Program) (formed : IsProgram program) where

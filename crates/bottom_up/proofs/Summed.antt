@@ -16,7 +16,7 @@ use Rattle.claim_core.specs.Views.{Solution}
 use Rattle.bottom_up.specs.BottomUp.{all_summaries, answers_in, known_by, summaries_for}
 use Rattle.bottom_up.specs.declared.places.Place.{Place}
 use Rattle.bottom_up.specs.Placed.{first_named, summaries_in, summary_among, summary_in}
-use Rattle.bottom_up.proofs.Named.{each_summarized}
+use Rattle.bottom_up.proofs.ProceduresByName.{each_summarized}
 
 -- ---- what a function gives of each element
 

@@ -16,7 +16,7 @@ pub mod AgreesFiles
 pub mod Within
 pub mod Parsed
 pub mod Tokens
-pub mod Refused
+pub mod OneRefusal
 pub mod Synced
 pub mod UniqueExprs
 pub mod Grouping

@@ -13,7 +13,7 @@ use Rattle.call_components.specs.Reaching.{marked}
 use Rattle.call_components.specs.Tables.{AreAllMarked, is_next_in, same_kind}
 use Rattle.call_components.specs.Waiting.{AreHeld, AreNeeded, IsFirst, IsHeld, IsTaken, calls_outside, is_listed, outside_of}
 use Rattle.call_components.specs.Waiting.IsHeld.{IsListed, IsReady, IsLeft, IsWaiting}
-use Rattle.call_components.proofs.Listed.{any_more, find_at, find_none}
+use Rattle.call_components.proofs.ListedByMarks.{any_more, find_at, find_none}
 
 -- ---- rows
 

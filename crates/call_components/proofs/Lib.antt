@@ -6,7 +6,7 @@ pub mod Grouped
 pub mod Graphs
 pub mod Searched
 pub mod Turns
-pub mod Listed
+pub mod ListedByMarks
 pub mod Held
 pub mod Queued
 pub mod Looked

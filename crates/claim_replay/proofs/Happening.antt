@@ -31,7 +31,7 @@ use Rattle.claim_replay.specs.declared.world.Out.{Out as OutRow}
 use Rattle.claim_replay.specs.declared.world.Slot.{Slot as SlotRow}
 use Rattle.claim_replay.specs.declared.world.World.{World as WorldRow}
 use Rattle.claim_replay.specs.Values.{AreKnown, is_of_rows, out_value, outcome_by, row_names, slot_value, world_value}
-use Rattle.claim_replay.proofs.Firsts.{any_map, find_by_place}
+use Rattle.claim_replay.proofs.FirstPassing.{any_map, find_by_place}
 
 -- an event that may not happen changes nothing
 pub after_not : (world : World) (event : Event) → may_happen world event ≡ false → world ≡ after world event

@@ -1,3 +1,3 @@
-pub mod Firsts
+pub mod FirstPassing
 pub mod Knowing
 pub mod Happening

@@ -1,4 +1,4 @@
 mod ExposeTurns
-mod Listed
+mod ListPlaces
 mod LowForms
 pub mod LowVariables

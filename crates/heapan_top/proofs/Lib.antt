@@ -8,4 +8,4 @@ pub mod Printing
 pub mod ReplyLaws
 pub mod WorkLaws
 mod Led
-mod Named
+mod StoreAskedFor

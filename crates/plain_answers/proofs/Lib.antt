@@ -1,4 +1,4 @@
-mod Named
+mod ComponentsByName
 mod Storing
 mod Tabled
 mod Called

@@ -22,7 +22,7 @@ use Rattle.limit_laws.specs.Laws.{ComposedKeysHaveSizes, SolvedIsStorable}
 use Rattle.loaded_answers.specs.Lookup.{lookup}
 use Rattle.bottom_up.specs.BottomUp.{answered, answers_in, callee_by, callee_from, key_after, known_by}
 use Rattle.bottom_up.proofs.Formed.{IsOutside, is_outside}
-use Rattle.bottom_up.proofs.Listed.{zip_mapped}
+use Rattle.bottom_up.proofs.ListPlaces.{zip_mapped}
 use Rattle.bottom_up.proofs.LookedUp.{looked_up}
 use Rattle.bottom_up.proofs.Over.{answer_is, known_is, known_of_component}
 use Rattle.solve_job.specs.Solves.{IsStoredEntry}

@@ -1,6 +1,6 @@
 pub mod Coming
 pub mod Examined
 pub mod Keeping
-pub mod Listed
+pub mod ListingLaws
 pub mod Narrow
 pub mod Queueing

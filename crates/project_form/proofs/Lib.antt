@@ -1,5 +1,5 @@
 pub mod Counting
-pub mod Firsts
+pub mod FirstPassing
 pub mod Putting
 pub mod Readings
 pub mod Units

@@ -6,7 +6,7 @@ use Rattle.std.proofs.lemmas.Bool.{lt-ltb, le-ltb, le-leb, lt-leb, ltb-false, le
 use Rattle.std.proofs.lemmas.List.Sums.{sum_by-cons, sum_by-set, sum_by-insert}
 use Rattle.project_form.specs.Files.{SourceFile, AreFiles, MOST_BYTES, MOST_FILES, MOST_FILE_BYTES, bytes_of, has_file, is_named, put_refusal, source, stands_before, text_length, with_file, with_text, without_file}
 use Rattle.project_form.specs.Kept.{KeptFile, is_kept_named, kept_length, new_file, source_of, sources_of, stands_before_kept, with_bytes, with_kept, without_kept}
-use Rattle.project_form.proofs.Firsts as firsts
+use Rattle.project_form.proofs.FirstPassing as firsts
 
 pub bytes-kept : (files : List KeptFile) → bytes_of (sources_of files) ≡ sum_by kept_length files
 bytes-kept [] = refl

@@ -12,7 +12,7 @@ use Rattle.c_grammar.specs.Spelling.{Spells}
 use Rattle.c_grammar.specs.Trees.{File}
 use Rattle.c_grammar.specs.Words.{words_of}
 use Rattle.c_grammar.proofs.OneTree.{one_tree}
-use Rattle.c_grammar.proofs.Refused as words
+use Rattle.c_grammar.proofs.OneRefusal as words
 use Rattle.c_front.specs.Units.{IsUnitOf}
 use Rattle.project_form.specs.declared.fault.Refused.{Refused}
 use Rattle.project_form.specs.Files.{SourceFile}

@@ -4,7 +4,7 @@ use Rattle.std.specs.Prelude.{All, IsSome}
 use Rattle.std.specs.List.{cons_option}
 use Rattle.std.proofs.lemmas.List.{length-take, take_more}
 use Rattle.std.proofs.lemmas.List.Elements.{All-head, All-tail, All-take}
-use Rattle.bottom_up.proofs.Listed.{mapped_more}
+use Rattle.bottom_up.proofs.ListPlaces.{mapped_more}
 use Rattle.reporters.specs.declared.reporter.Entry.{Entry}
 use Rattle.shape_data.specs.declared.answer.ProcSummary.{ProcSummary}
 use Rattle.shape_data.specs.declared.program.Proc.{Proc}

@@ -25,8 +25,8 @@ use Rattle.claim_core.specs.Views.{Solution}
 use Rattle.loaded_answers.specs.Lookup.{lookup}
 use Rattle.bottom_up.specs.BottomUp.{answers_in, known_by, program_summaries, summary_named}
 use Rattle.bottom_up.specs.Placed.{summary_among}
-use Rattle.bottom_up.proofs.Listed.{from_flat, in_flat, mapped_at, mapped_same, only_found}
-use Rattle.bottom_up.proofs.Named.{each_summarized, found_in_all, is_member, member_of, names_exact, own_key, summary_is, summary_of}
+use Rattle.bottom_up.proofs.ListPlaces.{from_flat, in_flat, mapped_at, mapped_same, only_found}
+use Rattle.bottom_up.proofs.ProceduresByName.{each_summarized, found_in_all, is_member, member_of, names_exact, own_key, summary_is, summary_of}
 use Rattle.bottom_up.proofs.Over.{answer_is, known_of_component}
 use Rattle.settled_laws.specs.Laws.{aimed_answers}
 use Rattle.settled_laws.proofs.Whole.{given_mapped}

@@ -24,7 +24,7 @@ use Rattle.summary_book.specs.Views.{slot_solution}
 use Rattle.summary_book.proofs.Components.{aims_are}
 use Rattle.summary_book.proofs.Here.{settled_of, settled_stands, standings_length, stands_at}
 use Rattle.bottom_up.specs.BottomUp.{known_by}
-use Rattle.bottom_up.proofs.Listed.{mapped_same, within_at}
+use Rattle.bottom_up.proofs.ListPlaces.{mapped_same, within_at}
 use Rattle.bottom_up.proofs.Over.{known_many}
 use Rattle.settled_laws.specs.Laws.{AllAreAimed, AreGiven, CollectedAreKnown, aimed_known}
 use Rattle.settled_laws.proofs.Settled.{settled_known}

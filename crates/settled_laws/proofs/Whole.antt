@@ -10,7 +10,7 @@ use Rattle.summary_book.specs.declared.aims.Aim.TheVariants.{All}
 use Rattle.summary_book.specs.Aims.{aimed}
 use Rattle.summary_book.specs.Next.{IsSettled}
 use Rattle.summary_book.proofs.Here.{settled_of, stands_at}
-use Rattle.bottom_up.proofs.Listed.{within_at}
+use Rattle.bottom_up.proofs.ListPlaces.{within_at}
 use Rattle.settled_laws.specs.Laws.{AreSettled, SettledIsAll}
 
 -- ---- lists

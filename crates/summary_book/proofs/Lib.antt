@@ -7,7 +7,7 @@ pub mod Search
 pub mod Present
 pub mod Revised
 pub mod Marks
-pub mod Named
+pub mod ProceduresByName
 pub mod Components
 pub mod Ends
 pub mod Counted

@@ -24,7 +24,7 @@ use Rattle.sym_text.proofs.WordLaws.{WordEnds}
 use Rattle.sym_text.proofs.WholeLaws.{AtLast, WholeHeap, WholePost, got_whole, whole_heap-Reads, whole_post-Reads}
 use Rattle.flow_json.proofs.InverseLemmas.{some_is}
 use Rattle.flow_json.specs.Unread.{IsUnread}
-use Rattle.summary_json.specs.Refused.{unread_of}
+use Rattle.summary_json.specs.UnreadTexts.{unread_of}
 use Rattle.summary_json.specs.Texts.{all_of, exp_of_text}
 
 -- ---- all of a text

@@ -4,7 +4,7 @@ pub mod Keys
 pub mod Laws
 pub mod Params
 pub mod Reasons
-pub mod Refused
+pub mod UnreadTexts
 pub mod Texts
 pub mod Unfit
 pub mod Written

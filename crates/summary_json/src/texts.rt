@@ -6,7 +6,7 @@ ghost use Rattle.shape_data.specs.WellFormed.{AreParams, AreStructs};
 ghost use Rattle.sym_text.specs.Reading.{read_whole_heap, read_whole_post};
 ghost use Rattle.sym_text.specs.Text.{exp_text};
 ghost use Rattle.flow_json.specs.Unread.{IsUnread};
-ghost use Rattle.summary_json.specs.Refused.{unread_of};
+ghost use Rattle.summary_json.specs.UnreadTexts.{unread_of};
 ghost use Rattle.summary_json.specs.Texts.{all_of, exp_of_text, short_string};
 
 use crate::scoped::Scoped;

@@ -2,7 +2,7 @@
 use Rattle.std.proofs.Common.{◌≡◌, ◌++◌, Some, length, refl, slice_get, subst, take}
 use Rattle.std.proofs.lemmas.Option.{slice_get_read}
 use Rattle.bottom_up.specs.Placed.{AreFirst}
-use Rattle.bottom_up.proofs.Firsts.{summaries_more, summary_at}
+use Rattle.bottom_up.proofs.FirstSummaries.{summaries_more, summary_at}
 use Rattle.bottom_up.proofs.places.add_answer.Goals as goal
 
 pub loop-member-preserved : goal.loop-member-preserved

@@ -2,7 +2,7 @@
 use Rattle.std.proofs.Common.{◌≡◌, ◌∙◌, true, false, cond, Some, is_some, option_map, rules, sym, ap, bytes_eq}
 use Rattle.std.proofs.lemmas.Map.Text.{hash_map_updates_str}
 use Rattle.bottom_up.specs.Placed.{first_place, summary_in}
-use Rattle.bottom_up.proofs.Firsts.{first_put, first_stays}
+use Rattle.bottom_up.proofs.FirstSummaries.{first_put, first_stays}
 use Rattle.bottom_up.proofs.places.add_summary.Goals as goal
 
 pub returns-in_ok-insert : goal.returns-in_ok-insert

@@ -4,7 +4,7 @@ use Rattle.std.proofs.lemmas.List.{take_all}
 use Rattle.std.proofs.lemmas.Option.{slice_get_read}
 use Rattle.shape_data.specs.declared.answer.Answer.{Answer}
 use Rattle.bottom_up.specs.Placed.{AreFirst, answers_kept, summaries_in}
-use Rattle.bottom_up.proofs.Firsts.{answer_at, answers_more}
+use Rattle.bottom_up.proofs.FirstSummaries.{answer_at, answers_more}
 use Rattle.bottom_up.proofs.places.first_places.Goals as goal
 
 pub loop-component-preserved : goal.loop-component-preserved

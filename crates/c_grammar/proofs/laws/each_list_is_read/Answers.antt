@@ -1,4 +1,4 @@
-use Rattle.c_grammar.proofs.Refused.{either as law}
+use Rattle.c_grammar.proofs.OneRefusal.{either as law}
 use Rattle.c_grammar.proofs.laws.each_list_is_read.Goals as goal
 
 pub returns : goal.returns

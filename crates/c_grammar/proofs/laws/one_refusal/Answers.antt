@@ -1,4 +1,4 @@
-use Rattle.c_grammar.proofs.Refused.{one_refusal as law}
+use Rattle.c_grammar.proofs.OneRefusal.{one_refusal as law}
 use Rattle.c_grammar.proofs.laws.one_refusal.Goals as goal
 
 pub returns : goal.returns

@@ -5,7 +5,7 @@ use Rattle.call_components.specs.Reaching.{rows}
 use Rattle.call_components.specs.Tables.{AreAllMarked, is_next_in}
 use Rattle.call_components.specs.Waiting.{AreHeld, IsBounded, IsFirst, IsTaken, outside_of, places_in}
 use Rattle.call_components.proofs.Held.{none_is_found, taken_is_found, taken_is_listed}
-use Rattle.call_components.proofs.Listed.{turn_first, turn_last, turn_member, turn_within, turn_more, listing_done}
+use Rattle.call_components.proofs.ListedByMarks.{turn_first, turn_last, turn_member, turn_within, turn_more, listing_done}
 use Rattle.call_components.proofs.Walk.{row_of}
 use Rattle.call_components.proofs.listing.in_call_order.Goals as goal
 

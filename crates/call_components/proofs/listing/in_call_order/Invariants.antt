@@ -1,7 +1,7 @@
 use Rattle.std.proofs.Common.{◌-◌, [], length, map}
 use Rattle.call_components.specs.Reaching.{rows}
 use Rattle.call_components.specs.Waiting.{AreWaiting, IsBounded, outside_of}
-use Rattle.call_components.proofs.Listed.{IsListing}
+use Rattle.call_components.proofs.ListedByMarks.{IsListing}
 use Rattle.call_components.proofs.listing.in_call_order.Given as goal
 
 abbrev pub invariant-loop-turn : goal.invariant-loop-turn

@@ -1,5 +1,5 @@
 use Rattle.component_keys.specs.Tests.{key_test}
-use Rattle.claim_replay.proofs.Firsts.{same_test}
+use Rattle.claim_replay.proofs.FirstPassing.{same_test}
 use Rattle.claim_replay.proofs.known.same_key.Goals as goal
 
 pub returns : goal.returns

@@ -3,7 +3,7 @@ use Rattle.component_keys.specs.Components.{same_names}
 use Rattle.claim_laws.specs.World.{Slot}
 use Rattle.claim_replay.specs.declared.world.Slot.{Slot as SlotRow}
 use Rattle.claim_replay.specs.Values.{slot_value}
-use Rattle.claim_replay.proofs.Firsts.{below_next, mapped_first, mapped_none}
+use Rattle.claim_replay.proofs.FirstPassing.{below_next, mapped_first, mapped_none}
 use Rattle.claim_replay.proofs.known.slot_place.Goals as goal
 
 pub loop-place-preserved : goal.loop-place-preserved

@@ -2,7 +2,7 @@ use Rattle.std.specs.Prelude.{◌==◌}
 use Rattle.std.proofs.lemmas.Bool.Decides.{Decides-eqb}
 use Rattle.claim_laws.specs.World.{Out}
 use Rattle.claim_replay.specs.Values.{out_value}
-use Rattle.claim_replay.proofs.Firsts.{mapped_first, mapped_none}
+use Rattle.claim_replay.proofs.FirstPassing.{mapped_first, mapped_none}
 use Rattle.claim_replay.proofs.replaying.claim_place.Goals as goal
 
 pub returns-then-claim-number-clause-claim : goal.returns-then-claim-number-clause-claim

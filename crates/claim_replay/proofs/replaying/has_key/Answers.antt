@@ -2,7 +2,7 @@ use Rattle.std.proofs.Common.{◌∙◌, sym}
 use Rattle.component_keys.specs.Tests.{key_test}
 use Rattle.claim_laws.specs.World.{Out}
 use Rattle.claim_replay.specs.Values.{out_value}
-use Rattle.claim_replay.proofs.Firsts.{any_map}
+use Rattle.claim_replay.proofs.FirstPassing.{any_map}
 use Rattle.claim_replay.proofs.replaying.has_key.Goals as goal
 
 pub returns : goal.returns

@@ -5,7 +5,7 @@ use Rattle.component_keys.specs.Components.{same_names}
 use Rattle.component_keys.specs.Keys.{flows_of, names_of}
 use Rattle.composed_keys.specs.declared.rows.Component.{Component}
 use Rattle.claim_replay.specs.Values.{row_names}
-use Rattle.claim_replay.proofs.Firsts.{first_position, no_position}
+use Rattle.claim_replay.proofs.FirstPassing.{first_position, no_position}
 use Rattle.claim_replay.proofs.replaying.row_place.Goals as goal
 
 pub returns-then-are_same_names-clause-first : goal.returns-then-are_same_names-clause-first

@@ -1,5 +1,5 @@
 use Rattle.component_keys.specs.Tests.{flows_test}
-use Rattle.claim_replay.proofs.Firsts.{same_test}
+use Rattle.claim_replay.proofs.FirstPassing.{same_test}
 use Rattle.claim_replay.proofs.replaying.same_flows.Goals as goal
 
 pub returns : goal.returns

@@ -1,5 +1,5 @@
 use Rattle.component_keys.specs.Tests.{program_test}
-use Rattle.claim_replay.proofs.Firsts.{same_test}
+use Rattle.claim_replay.proofs.FirstPassing.{same_test}
 use Rattle.claim_replay.proofs.replaying.same_program.Goals as goal
 
 pub returns : goal.returns

@@ -4,7 +4,7 @@ use Rattle.shape_data.specs.declared.symbolic.Atom.TheVariants.{Points, Seg, Jun
 use Rattle.exec_laws.specs.Pairs.{unless_left_out}
 use Rattle.exec_cells.specs.InSetting.{setting_in}
 use Rattle.exec_cells.proofs.ExposeTurns.{no_segment, segment_ends, segment_goes}
-use Rattle.exec_cells.proofs.Listed.{stands_there}
+use Rattle.exec_cells.proofs.ListPlaces.{stands_there}
 use Rattle.exec_cells.proofs.exposing.at_place.Goals as goal
 
 pub returns-in-None-clause-value : goal.returns-in-None-clause-value

@@ -6,7 +6,7 @@ use Rattle.heapan_top.specs.Parts.{path_bytes}
 use Rattle.heapan_top.specs.Stores.{store_told}
 use Rattle.heapan_top.proofs.Completing.{completes_left}
 use Rattle.heapan_top.proofs.Fronts.{counts_unopened, still_unopened}
-use Rattle.heapan_top.proofs.Named.{are_right, named_is}
+use Rattle.heapan_top.proofs.StoreAskedFor.{are_right, named_is}
 use Rattle.heapan_top.proofs.session.run.Goals as goal
 
 pub returns-in-Ok-Some-clause-complete : goal.returns-in-Ok-Some-clause-complete

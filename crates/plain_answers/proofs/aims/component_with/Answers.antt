@@ -1,7 +1,7 @@
 -- The place is that of the component of the name, and few enough to be a 32-bit number.
 use Rattle.std.proofs.Common.{◌<◌, ◌∙◌, length, sym, subst, arith}
 use Rattle.std.specs.Option.{IfSome}
-use Rattle.plain_answers.proofs.Named.{place_is, rows_few}
+use Rattle.plain_answers.proofs.ComponentsByName.{place_is, rows_few}
 use Rattle.plain_answers.proofs.aims.component_with.Goals as goal
 
 pub overflow_cast-result : goal.overflow_cast-result

@@ -11,7 +11,7 @@ use Rattle.claim_core.specs.Views.{solution_of, solutions_of}
 use Rattle.bottom_up.specs.Placed.{AreRows}
 use Rattle.settled_laws.specs.Laws.{aimed_known}
 use Rattle.plain_answers.specs.Table.{IsClosed}
-use Rattle.plain_answers.proofs.Named.{same_is_closed}
+use Rattle.plain_answers.proofs.ComponentsByName.{same_is_closed}
 use Rattle.plain_answers.proofs.Storing.{entries_fit}
 use Rattle.plain_answers.proofs.Tabled.{gathered_in}
 use Rattle.plain_answers.proofs.answers.plain.Goals as goal

@@ -1,7 +1,7 @@
 use Rattle.std.proofs.Common.{rules}
 use Rattle.post_gen.specs.Conditions.{IsListing}
 use Rattle.post_gen.specs.InListing.{listing_in}
-use Rattle.post_gen.proofs.Listed.{exits-within}
+use Rattle.post_gen.proofs.ListingLaws.{exits-within}
 use Rattle.certificate_steps.specs.InTask.{task_in}
 use Rattle.post_gen.proofs.annotating.annotate.Goals as goal
 

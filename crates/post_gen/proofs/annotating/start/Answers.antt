@@ -1,6 +1,6 @@
 use Rattle.std.proofs.Common.{sym, subst}
 use Rattle.post_gen.specs.Conditions.{IsListing}
-use Rattle.post_gen.proofs.Listed.{empty-given}
+use Rattle.post_gen.proofs.ListingLaws.{empty-given}
 use Rattle.certificate_steps.specs.InTask.{task_in}
 use Rattle.post_gen.proofs.annotating.start.Goals as goal
 

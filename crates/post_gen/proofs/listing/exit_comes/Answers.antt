@@ -8,7 +8,7 @@ use Rattle.certificate_steps.specs.InTask.{task_in}
 use Rattle.certificate_steps.proofs.SizeLaws.{post-sizes}
 use Rattle.post_gen.specs.Conditions.{IsListing}
 use Rattle.post_gen.specs.InListing.{listing_in}
-use Rattle.post_gen.proofs.Listed.{exit-listed, exits-within}
+use Rattle.post_gen.proofs.ListingLaws.{exit-listed, exits-within}
 use Rattle.post_gen.proofs.Narrow.{post-narrow}
 use Rattle.post_gen.proofs.listing.exit_comes.Goals as goal
 

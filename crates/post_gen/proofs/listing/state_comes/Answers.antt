@@ -8,7 +8,7 @@ use Rattle.certificate_steps.specs.InTask.{task_in}
 use Rattle.certificate_steps.proofs.SizeLaws.{state-sizes}
 use Rattle.post_gen.specs.Conditions.{IsListing}
 use Rattle.post_gen.specs.InListing.{listing_in}
-use Rattle.post_gen.proofs.Listed.{node-within, state-listed}
+use Rattle.post_gen.proofs.ListingLaws.{node-within, state-listed}
 use Rattle.post_gen.proofs.Narrow.{state-narrow}
 use Rattle.post_gen.proofs.listing.state_comes.Goals as goal
 

@@ -3,7 +3,7 @@ use Rattle.std.proofs.Common.{arith, rules}
 use Rattle.annotation_laws.specs.Annotation.{turn_of, turns}
 use Rattle.annotation_laws.specs.Listing.{Course, Ends, Goes}
 use Rattle.post_gen.specs.InListing.{annotated_by, listing_in}
-use Rattle.post_gen.proofs.Listed.{rest-given}
+use Rattle.post_gen.proofs.ListingLaws.{rest-given}
 use Rattle.post_gen.proofs.Queueing.{taken, turn-ended, turn-more}
 use Rattle.certificate_steps.specs.InTask.{task_in}
 use Rattle.post_gen.proofs.turns.turns.Goals as goal

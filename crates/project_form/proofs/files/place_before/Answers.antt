@@ -2,7 +2,7 @@ use Rattle.std.proofs.Common.{◌≡◌, length, ◌∙◌, arith, rules}
 use Rattle.std.specs.Prelude.{unwrap_or, position}
 use Rattle.std.specs.List.{position_or_len}
 use Rattle.project_form.specs.Kept.{stands_before_kept}
-use Rattle.project_form.proofs.Firsts.{place-or_end, place-within}
+use Rattle.project_form.proofs.FirstPassing.{place-or_end, place-within}
 use Rattle.project_form.proofs.files.place_before.Goals as goal
 
 pub returns-clause-exact : goal.returns-clause-exact

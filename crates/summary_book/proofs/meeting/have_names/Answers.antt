@@ -1,6 +1,6 @@
 -- Names are compared one by one, and there are as many.
 use Rattle.std.proofs.Common.{◌<◌, length, refl, arith}
-use Rattle.summary_book.proofs.Named.{names_length, names_more, names_same_at}
+use Rattle.summary_book.proofs.ProceduresByName.{names_length, names_more, names_same_at}
 use Rattle.summary_book.proofs.meeting.have_names.Goals as goal
 
 pub returns-then-members-procs : goal.returns-then-members-procs

@@ -1,7 +1,7 @@
 -- One after the other is looked at.
 use Rattle.std.proofs.Common.{true, sym}
 use Rattle.summary_book.proofs.Events.{not_both}
-use Rattle.summary_book.proofs.Named.{named_more, named_there}
+use Rattle.summary_book.proofs.ProceduresByName.{named_more, named_there}
 use Rattle.summary_book.proofs.parts.has_name.Goals as goal
 
 pub returns-then-is_same : goal.returns-then-is_same

@@ -22,7 +22,7 @@ use Rattle.key_laws.proofs.Rising.{IsBelow, below_differ}
 use Rattle.claim_core.specs.Views.{Solution}
 use Rattle.bottom_up.specs.BottomUp.{all_summaries, answered, known_by, summary_named}
 use Rattle.bottom_up.proofs.Formed.{key_at, key_is}
-use Rattle.bottom_up.proofs.Listed.{from_flat, in_flat, only_found, within_at}
+use Rattle.bottom_up.proofs.ListPlaces.{from_flat, in_flat, only_found, within_at}
 use Rattle.bottom_up.proofs.Over.{known_is, known_of_component}
 
 pub names_exact : IsExactTest bytes_eq
