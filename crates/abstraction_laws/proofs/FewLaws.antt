@@ -32,7 +32,8 @@ use Rattle.abstraction_laws.proofs.KeptLaws.{kept-each, once-each, pair_once-eac
 abbrev HasFew : Atom → Type 0
 HasFew atom = fields_of atom ≤ 32768
 
-to-few : (kind : List ℕ) (link : ℕ) (from : Exp) (o : Option Exp) (segment : Atom) → segment_to kind link from o ≡ Some segment → fields_of segment ≡ 0
+to-few : (kind : List ℕ) (link : ℕ) (from : Exp) (o : Option Exp) (segment : Atom) → segment_to kind link from o ≡ Some segment
+    → fields_of segment ≡ 0
 to-few kind link from None segment h = cc
 to-few kind link from (Some to) segment h = let same : Seg kind link from to ≡ segment = cc in ap fields_of (sym same)
 
@@ -49,16 +50,20 @@ segment-few v (Seg kind link from to) second segment h = by_test (same_exp v to)
     by_test false f = cc
 segment-few v Junk second segment h = cc
 
-joined-few : (v : Exp) (one other segment : Atom) → start_of other ≡ Some v → segment_of v one other ≡ Some segment → HasFew one → HasFew other → HasFew segment
-joined-few v one other segment starts makes few less = let none : fields_of segment ≡ 0 = segment-few v one other segment makes in omega (arith, none)
+joined-few : (v : Exp) (one other segment : Atom) → start_of other ≡ Some v → segment_of v one other ≡ Some segment → HasFew one
+    → HasFew other → HasFew segment
+joined-few v one other segment starts makes few less =
+    let none : fields_of segment ≡ 0 = segment-few v one other segment makes in omega (arith, none)
 
 junk-few : HasFew Junk
 junk-few = omega arith
 
-pub once-few : (joins : Bool) (locals : List Exp) (heap : SymHeap) → HaveFewFields heap.spatial → HaveFewFields (reduce_once joins locals heap).spatial
+pub once-few : (joins : Bool) (locals : List Exp) (heap : SymHeap) → HaveFewFields heap.spatial
+    → HaveFewFields (reduce_once joins locals heap).spatial
 once-few joins locals heap h = once-each HasFew junk-few joined-few joins locals heap h
 
-pub pair-few : (params : ℕ) (pair : Pair) → HaveFewFields pair.missing.spatial → HaveFewFields pair.state.heap.spatial → HaveFewFields (join_pair_once params pair).missing.spatial × HaveFewFields (join_pair_once params pair).state.heap.spatial
+pub pair-few : (params : ℕ) (pair : Pair) → HaveFewFields pair.missing.spatial → HaveFewFields pair.state.heap.spatial
+    → HaveFewFields (join_pair_once params pair).missing.spatial × HaveFewFields (join_pair_once params pair).state.heap.spatial
 pair-few params pair h k = pair_once-each HasFew junk-few joined-few params pair (h, k)
 
 pub kept-few : (locals : List Exp) (atoms : List Atom) → HaveFewFields atoms → HaveFewFields (keep_reached locals atoms)
@@ -75,19 +80,26 @@ cell-long next None es = refl
 cell-long next (Some def) es = fields-long next def.fields es
 
 atom-few : (kinds : List StructDef) (next : ℕ) (atom : Atom) → HasFew atom → HasFew (forget_atom kinds next atom)
-atom-few kinds next (Points at kind fields) h = let long : length (forget_cell next (struct_named kinds kind) fields) ≡ length fields = cell-long next (struct_named kinds kind) fields in omega (arith, long, h)
+atom-few kinds next (Points at kind fields) h = let long : length (forget_cell next (struct_named kinds kind) fields)
+    ≡ length fields = cell-long next (struct_named kinds kind) fields in omega (arith, long, h)
 atom-few kinds next (Seg kind link from to) h = h
 atom-few kinds next Junk h = h
 
-pub forgotten-few : (kinds : List StructDef) (next : ℕ) (atoms : List Atom) → HaveFewFields atoms → HaveFewFields (forget_atoms kinds next atoms)
+pub forgotten-few : (kinds : List StructDef) (next : ℕ) (atoms : List Atom) → HaveFewFields atoms
+    → HaveFewFields (forget_atoms kinds next atoms)
 forgotten-few kinds next [] h = All-nil HasFew
 forgotten-few kinds next (atom ∷ atoms) h =
-    All-cons HasFew (forget_atom kinds next atom) (forget_atoms kinds (next + fields_of atom) atoms) (atom-few kinds next atom (All-head HasFew atom atoms h)) (forgotten-few kinds (next + fields_of atom) atoms (All-tail HasFew atom atoms h))
+    All-cons HasFew (forget_atom kinds next atom) (forget_atoms kinds (next + fields_of atom) atoms)
+    (atom-few kinds next atom (All-head HasFew atom atoms h))
+    (forgotten-few kinds (next + fields_of atom) atoms (All-tail HasFew atom atoms h))
 
-pub at_head-few : (kinds : List StructDef) (mark : HeadMark) (state : SymState) → HaveFewFields state.heap.spatial → HaveFewFields (at_head kinds mark state).heap.spatial
+pub at_head-few : (kinds : List StructDef) (mark : HeadMark) (state : SymState) → HaveFewFields state.heap.spatial
+    → HaveFewFields (at_head kinds mark state).heap.spatial
 at_head-few kinds mark state h =
-    reduce-each HasFew junk-few joined-few true (forget kinds mark state).locals (forget kinds mark state).heap (forgotten-few kinds (first_new state + length state.locals) state.heap.spatial h)
+    reduce-each HasFew junk-few joined-few true (forget kinds mark state).locals (forget kinds mark state).heap
+    (forgotten-few kinds (first_new state + length state.locals) state.heap.spatial h)
 
-pub if_recursive-few : (recursive : Bool) (kinds : List StructDef) (flow : Flow) (post : Post) → HaveFewFields post.heap.spatial → HaveFewFields (forget_if_recursive recursive kinds flow post).heap.spatial
+pub if_recursive-few : (recursive : Bool) (kinds : List StructDef) (flow : Flow) (post : Post) → HaveFewFields post.heap.spatial
+    → HaveFewFields (forget_if_recursive recursive kinds flow post).heap.spatial
 if_recursive-few true kinds flow post h = forgotten-few kinds (first_new (as_state post) + 1) post.heap.spatial h
 if_recursive-few false kinds flow post h = h

@@ -1,5 +1,6 @@
 -- Constants that are forgotten: the new variables get the values that stood in their places.
-use Rattle.std.specs.Prelude.{◌≡◌, ℕ, suc, ◌+◌, ◌<◌, ◌≤◌, ℤ, Bool, true, false, ◌==◌, ◌&&◌, if◌then◌else◌, List, [], ◌∷◌, ◌++◌, length, map, All}
+use Rattle.std.specs.Prelude.{◌≡◌, ℕ, suc, ◌+◌, ◌<◌, ◌≤◌, ℤ, Bool, true, false, ◌==◌, ◌&&◌, if◌then◌else◌, List, [], ◌∷◌, ◌++◌, length, map}
+use Rattle.std.specs.Prelude.{All}
 use Rattle.std.specs.declared.option.Option.{Option}
 use Rattle.std.specs.declared.option.Option.TheVariants.{None, Some}
 use Rattle.std.proofs.Common.{refl, sym, ap, ap₂, subst, ◌∙◌, arith}
@@ -20,7 +21,8 @@ use Rattle.shape_data.specs.declared.symbolic.SymState.{SymState}
 use Rattle.shape_data.specs.Heap.{struct_named}
 use Rattle.shape_data.specs.Meaning.{value, AreTrueFacts, HoldsAtom, HoldsAtoms, IsTrueFact}
 use Rattle.sym_laws.specs.Each.{EachInAtom, EachInFact, EachInState}
-use Rattle.abstraction_laws.specs.Forgetting.{above, first_new, forget_atoms, forget_cell, forget_fields, forget_slots, forget_value, is_constant, is_forgotten, is_int}
+use Rattle.abstraction_laws.specs.Forgetting.{above, first_new, forget_atoms, forget_cell, forget_fields, forget_slots, forget_value}
+use Rattle.abstraction_laws.specs.Forgetting.{is_constant, is_forgotten, is_int}
 use Rattle.abstraction_laws.specs.Laws.{ForgetWeakens}
 use Rattle.abstraction_laws.specs.Occurrences.{exps_of_state}
 use Rattle.abstraction_laws.proofs.OccurrenceLaws.{IsUnder, above-each, above-first, to_state}
@@ -34,7 +36,8 @@ counted next (v ∷ vs) t x = if x == next then v else counted (next + 1) vs t x
 
 pub counted-below : (next : ℕ) (vs : List ℤ) (t : ℕ → ℤ) (x : ℕ) → x < next → counted next vs t x ≡ t x
 counted-below next [] t x low = refl
-counted-below next (v ∷ vs) t x low = let apart : (x == next) ≡ false = ne_eqb x next (λ same. omega arith) in rw apart (counted-below (next + 1) vs t x (omega arith))
+counted-below next (v ∷ vs) t x low =
+    let apart : (x == next) ≡ false = ne_eqb x next (λ same. omega arith) in rw apart (counted-below (next + 1) vs t x (omega arith))
 
 -- the variables from one on have these values
 abbrev pub HaveValues : (ℕ → ℤ) → ℕ → List ℤ → Type 0
@@ -49,10 +52,12 @@ pub have-counted : (next : ℕ) (vs : List ℤ) (t : ℕ → ℤ) → HaveValues
 have-counted next [] t = tt
 have-counted next (v ∷ vs) t = (
   rw (eq-eqb next next refl) refl,
-  have-alike (counted (next + 1) vs t) (counted next (v ∷ vs) t) (next + 1) vs (λ x low. let apart : (x == next) ≡ false = ne_eqb x next (λ same. omega arith) in rw apart refl) (have-counted (next + 1) vs t),
+  have-alike (counted (next + 1) vs t) (counted next (v ∷ vs) t) (next + 1) vs
+      (λ x low. let apart : (x == next) ≡ false = ne_eqb x next (λ same. omega arith) in rw apart refl) (have-counted (next + 1) vs t),
 )
 
-pub have-split : (u : ℕ → ℤ) (next : ℕ) (vs ws : List ℤ) → HaveValues u next (vs ++ ws) → HaveValues u next vs × HaveValues u (next + length vs) ws
+pub have-split : (u : ℕ → ℤ) (next : ℕ) (vs ws : List ℤ) → HaveValues u next (vs ++ ws) →
+    HaveValues u next vs × HaveValues u (next + length vs) ws
 have-split u next [] ws h = let same : next ≡ next + length {A = ℤ} [] = omega arith in (tt, subst (λ n. HaveValues u n ws) same h)
 have-split u next (v ∷ vs) ws h =
     let later = have-split u (next + 1) vs ws h.1 in
@@ -86,42 +91,68 @@ module _ (t u : ℕ → ℤ) where
   or-same true next e same is = is
   or-same false next e same is = same
 
-  pub slots-same : (mark : HeadMark) (next slot : ℕ) (es : List Exp) → All IsSame es → HaveValues u next (map (value t) es) → map (value u) (forget_slots mark next slot es) ≡ map (value t) es
+  pub slots-same : (mark : HeadMark) (next slot : ℕ) (es : List Exp) → All IsSame es → HaveValues u next (map (value t) es) →
+      map (value u) (forget_slots mark next slot es) ≡ map (value t) es
   slots-same mark next slot [] each have = refl
   slots-same mark next slot (e ∷ es) each have =
-      ap₂ (λ v vs. v ∷ vs) (or-same (is_forgotten mark slot e) next e (All-head IsSame e es each) have.0) (slots-same mark (next + 1) (slot + 1) es (All-tail IsSame e es each) have.1)
+      ap₂ (λ v vs. v ∷ vs) (or-same (is_forgotten mark slot e) next e (All-head IsSame e es each) have.0)
+      (slots-same mark (next + 1) (slot + 1) es (All-tail IsSame e es each) have.1)
 
   pub value-same : (next : ℕ) (ty : Ty) (e : Exp) → IsSame e → u next ≡ value t e → value u (forget_value next ty e) ≡ value t e
   value-same next ty e same is = or-same (is_int ty && is_constant e) next e same is
 
-  fields-same : (next : ℕ) (fields : List Field) (es : List Exp) → All IsSame es → HaveValues u next (map (value t) es) → map (value u) (forget_fields next fields es) ≡ map (value t) es
+  fields-same : (next : ℕ) (fields : List Field) (es : List Exp) → All IsSame es → HaveValues u next (map (value t) es) →
+      map (value u) (forget_fields next fields es) ≡ map (value t) es
   fields-same next fields [] each have = refl
   fields-same next [] (e ∷ es) each have = same-values (e ∷ es) each
   fields-same next (field ∷ fields) (e ∷ es) each have =
-      ap₂ (λ v vs. v ∷ vs) (value-same next field.ty e (All-head IsSame e es each) have.0) (fields-same (next + 1) fields es (All-tail IsSame e es each) have.1)
+      ap₂ (λ v vs. v ∷ vs) (value-same next field.ty e (All-head IsSame e es each) have.0)
+      (fields-same (next + 1) fields es (All-tail IsSame e es each) have.1)
 
-  cell-same : (next : ℕ) (o : Option StructDef) (es : List Exp) → All IsSame es → HaveValues u next (map (value t) es) → map (value u) (forget_cell next o es) ≡ map (value t) es
+  cell-same : (next : ℕ) (o : Option StructDef) (es : List Exp) → All IsSame es → HaveValues u next (map (value t) es) →
+      map (value u) (forget_cell next o es) ≡ map (value t) es
   cell-same next None es each have = same-values es each
   cell-same next (Some def) es each have = fields-same next def.fields es each have
 
-  pub atoms-same : (structs kinds : List StructDef) (next : ℕ) (atoms : List Atom) (heap : List Cell) → All (EachInAtom IsSame) atoms → HaveValues u next (field_values t atoms) →
+  pub atoms-same : (structs kinds : List StructDef) (next : ℕ) (atoms : List Atom) (heap : List Cell) → All (EachInAtom IsSame) atoms →
+      HaveValues u next (field_values t atoms) →
       HoldsAtoms structs t atoms heap → HoldsAtoms structs u (forget_atoms kinds next atoms) heap
   atoms-same structs kinds next [] heap each have h = h
   atoms-same structs kinds next (Points at kind fields ∷ atoms) heap each have h =
       let here : EachInAtom IsSame (Points at kind fields) = All-head (EachInAtom IsSame) (Points at kind fields) atoms each in
       let split = have-split u next (map (value t) fields) (field_values t atoms) have in
       let later : HaveValues u (next + length fields) (field_values t atoms) = rw (length-values t fields) at split.1 in
-      let values : map (value u) (forget_cell next (struct_named kinds kind) fields) ≡ map (value t) fields = cell-same next (struct_named kinds kind) fields here.1 split.0 in
-      let cell : HoldsAtom structs u (Points at kind (forget_cell next (struct_named kinds kind) fields)) h.0 = rw (values, here.0) h.3 in
-      (h.0, h.1, h.2, cell, atoms-same structs kinds (next + length fields) atoms h.1 (All-tail (EachInAtom IsSame) (Points at kind fields) atoms each) later h.4)
+      let values : map (value u) (forget_cell next (struct_named kinds kind) fields) ≡ map (value t) fields =
+      cell-same next (struct_named kinds kind) fields here.1 split.0 in
+      let cell : HoldsAtom structs u (Points at kind (forget_cell next (struct_named kinds kind) fields)) h.0 = rw (values, here.0) h.3 in (
+        h.0,
+        h.1,
+        h.2,
+        cell,
+        atoms-same structs kinds (next + length fields) atoms h.1
+            (All-tail (EachInAtom IsSame) (Points at kind fields) atoms each) later h.4,
+      )
   atoms-same structs kinds next (Seg kind link from to ∷ atoms) heap each have h =
       let here : EachInAtom IsSame (Seg kind link from to) = All-head (EachInAtom IsSame) (Seg kind link from to) atoms each in
       let segment : HoldsAtom structs u (Seg kind link from to) h.0 = rw (here.0, here.1) h.3 in
-      let same : next ≡ next + 0 = omega arith in
-      (h.0, h.1, h.2, segment, atoms-same structs kinds (next + 0) atoms h.1 (All-tail (EachInAtom IsSame) (Seg kind link from to) atoms each) (subst (λ n. HaveValues u n (field_values t atoms)) same have) h.4)
+      let same : next ≡ next + 0 = omega arith in (
+        h.0,
+        h.1,
+        h.2,
+        segment,
+        atoms-same structs kinds (next + 0) atoms h.1
+            (All-tail (EachInAtom IsSame) (Seg kind link from to) atoms each)
+            (subst (λ n. HaveValues u n (field_values t atoms)) same have) h.4,
+      )
   atoms-same structs kinds next (Junk ∷ atoms) heap each have h =
-      let same : next ≡ next + 0 = omega arith in
-      (h.0, h.1, h.2, tt, atoms-same structs kinds (next + 0) atoms h.1 (All-tail (EachInAtom IsSame) Junk atoms each) (subst (λ n. HaveValues u n (field_values t atoms)) same have) h.4)
+      let same : next ≡ next + 0 = omega arith in (
+        h.0,
+        h.1,
+        h.2,
+        tt,
+        atoms-same structs kinds (next + 0) atoms h.1 (All-tail (EachInAtom IsSame) Junk atoms each)
+            (subst (λ n. HaveValues u n (field_values t atoms)) same have) h.4,
+      )
 
   fact-same : (fact : Fact) → EachInFact IsSame fact → IsTrueFact t fact → IsTrueFact u fact
   fact-same (Eq left right) each h = each.0 ∙ h ∙ sym each.1
@@ -129,7 +160,11 @@ module _ (t u : ℕ → ℤ) where
 
   pub facts-same : (facts : List Fact) → All (EachInFact IsSame) facts → AreTrueFacts t facts → AreTrueFacts u facts
   facts-same [] each h = tt
-  facts-same (fact ∷ facts) each h = (fact-same fact (All-head (EachInFact IsSame) fact facts each) h.0, facts-same facts (All-tail (EachInFact IsSame) fact facts each) h.1)
+  facts-same (fact ∷ facts) each h = (
+    fact-same fact (All-head (EachInFact IsSame) fact facts each) h.0,
+    facts-same facts
+        (All-tail (EachInFact IsSame) fact facts each) h.1,
+  )
 
 -- ---- what holds of each expression, weakened
 
@@ -171,9 +206,12 @@ under-same t state (Var x) h = new-below t state x h
 
 pub each-same : (t : ℕ → ℤ) (state : SymState) → EachInState (IsSame t (new_values t state)) state
 each-same t state =
-    each-weaker (IsUnder (first_new state)) (IsSame t (new_values t state)) (under-same t state) state (to_state (IsUnder (first_new state)) state (above-each 65536 (exps_of_state state)))
+    each-weaker (IsUnder (first_new state)) (IsSame t (new_values t state)) (under-same t state) state
+    (to_state (IsUnder (first_new state)) state (above-each 65536 (exps_of_state state)))
 
-pub have-new : (t : ℕ → ℤ) (state : SymState) → HaveValues (new_values t state) (first_new state) (map (value t) state.locals) × HaveValues (new_values t state) (first_new state + length state.locals) (field_values t state.heap.spatial)
+pub have-new : (t : ℕ → ℤ) (state : SymState) →
+    HaveValues (new_values t state) (first_new state) (map (value t) state.locals)
+    × HaveValues (new_values t state) (first_new state + length state.locals) (field_values t state.heap.spatial)
 have-new t state =
     let split = have-split (new_values t state) (first_new state) (map (value t) state.locals) (field_values t state.heap.spatial)
     (have-counted (first_new state) (map (value t) state.locals ++ field_values t state.heap.spatial) t) in
@@ -190,6 +228,7 @@ forget_weakens kinds mark state structs s locals heap m =
       m.2 ∙ sym (slots-same t u mark (first_new state) 0 state.locals each.locals have.0),
       record {
         facts = facts-same t u state.heap.pure each.heap.facts m.3.facts;
-        atoms = atoms-same t u structs kinds (first_new state + length state.locals) state.heap.spatial heap each.heap.atoms have.1 m.3.atoms;
+        atoms =
+            atoms-same t u structs kinds (first_new state + length state.locals) state.heap.spatial heap each.heap.atoms have.1 m.3.atoms;
       },
     )

@@ -51,22 +51,26 @@ module _ (P : Exp → Type 0) where
   pub to_atoms : (atoms : List Atom) → All P (exps_of_atoms atoms) → All (EachInAtom P) atoms
   to_atoms [] h = All-nil (EachInAtom P)
   to_atoms (atom ∷ atoms) h =
-      All-cons (EachInAtom P) atom atoms (to_atom atom (all-left P (exps_of atom) (exps_of_atoms atoms) h)) (to_atoms atoms (all-right P (exps_of atom) (exps_of_atoms atoms) h))
+      All-cons (EachInAtom P) atom atoms (to_atom atom (all-left P (exps_of atom) (exps_of_atoms atoms) h))
+      (to_atoms atoms (all-right P (exps_of atom) (exps_of_atoms atoms) h))
 
   pub from_atoms : (atoms : List Atom) → All (EachInAtom P) atoms → All P (exps_of_atoms atoms)
   from_atoms [] h = All-nil P
   from_atoms (atom ∷ atoms) h =
-      All-append P (exps_of atom) (exps_of_atoms atoms) (from_atom atom (All-head (EachInAtom P) atom atoms h)) (from_atoms atoms (All-tail (EachInAtom P) atom atoms h))
+      All-append P (exps_of atom) (exps_of_atoms atoms) (from_atom atom (All-head (EachInAtom P) atom atoms h))
+      (from_atoms atoms (All-tail (EachInAtom P) atom atoms h))
 
   to_facts : (facts : List Fact) → All P (exps_of_facts facts) → All (EachInFact P) facts
   to_facts [] h = All-nil (EachInFact P)
   to_facts (fact ∷ facts) h =
-      All-cons (EachInFact P) fact facts (to_fact fact (all-left P (sides fact) (exps_of_facts facts) h)) (to_facts facts (all-right P (sides fact) (exps_of_facts facts) h))
+      All-cons (EachInFact P) fact facts (to_fact fact (all-left P (sides fact) (exps_of_facts facts) h))
+      (to_facts facts (all-right P (sides fact) (exps_of_facts facts) h))
 
   from_facts : (facts : List Fact) → All (EachInFact P) facts → All P (exps_of_facts facts)
   from_facts [] h = All-nil P
   from_facts (fact ∷ facts) h =
-      All-append P (sides fact) (exps_of_facts facts) (from_fact fact (All-head (EachInFact P) fact facts h)) (from_facts facts (All-tail (EachInFact P) fact facts h))
+      All-append P (sides fact) (exps_of_facts facts) (from_fact fact (All-head (EachInFact P) fact facts h))
+      (from_facts facts (All-tail (EachInFact P) fact facts h))
 
   pub to_state : (state : SymState) → All P (exps_of_state state) → EachInState P state
   to_state state h =
@@ -82,7 +86,8 @@ module _ (P : Exp → Type 0) where
   pub from_state : (state : SymState) → EachInState P state → All P (exps_of_state state)
   from_state state h =
       All-append P state.locals (exps_of_heap state.heap) h.locals
-      (All-append P (exps_of_atoms state.heap.spatial) (exps_of_facts state.heap.pure) (from_atoms state.heap.spatial h.heap.atoms) (from_facts state.heap.pure h.heap.facts))
+      (All-append P (exps_of_atoms state.heap.spatial) (exps_of_facts state.heap.pure) (from_atoms state.heap.spatial h.heap.atoms)
+      (from_facts state.heap.pure h.heap.facts))
 
 -- ---- above all variables
 
@@ -93,7 +98,8 @@ IsUnder limit (Const n) = Unit {0}
 
 pub above-first : (first : ℕ) (es : List Exp) → first ≤ above first es
 above-first first [] = omega arith
-above-first first (Var x ∷ es) = let later : max first (x + 1) ≤ above (max first (x + 1)) es = above-first (max first (x + 1)) es in omega (arith, later)
+above-first first (Var x ∷ es) =
+    let later : max first (x + 1) ≤ above (max first (x + 1)) es = above-first (max first (x + 1)) es in omega (arith, later)
 above-first first (Const n ∷ es) = above-first first es
 
 pub above-each : (first : ℕ) (es : List Exp) → All (IsUnder (above first es)) es

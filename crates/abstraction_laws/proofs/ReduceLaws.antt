@@ -23,7 +23,8 @@ module _ (structs : List StructDef) (t : ℕ → ℤ) (joins : Bool) (locals : L
   once-holds shape h =
       let atoms : List Atom = join_inner joins locals (keep_reached locals shape.spatial) in
       record {
-        facts = facts-fewer t (λ fact. not (is_disequality_of (is_lost_among 65536 (locals ++ exps_of_atoms atoms)) fact)) shape.pure h.facts;
+        facts =
+            facts-fewer t (λ fact. not (is_disequality_of (is_lost_among 65536 (locals ++ exps_of_atoms atoms)) fact)) shape.pure h.facts;
         atoms = inner-holds joins (keep_reached locals shape.spatial) (reached-kept structs t locals shape.spatial heap h.atoms);
       }
 

@@ -1,5 +1,6 @@
 -- What abstraction answers is well formed where what was given is.
-use Rattle.std.specs.Prelude.{◌≡◌, ℕ, zero, suc, ◌+◌, ◌*◌, ◌<◌, ◌≤◌, Bool, true, false, not, ◌==◌, ◌&&◌, if◌then◌else◌, List, [], ◌∷◌, ◌++◌, length, slice_get, position, All}
+use Rattle.std.specs.Prelude.{◌≡◌, ℕ, zero, suc, ◌+◌, ◌*◌, ◌<◌, ◌≤◌, Bool, true, false, not, ◌==◌, ◌&&◌, if◌then◌else◌, List, [], ◌∷◌, ◌++◌}
+use Rattle.std.specs.Prelude.{length, slice_get, position, All}
 use Rattle.std.specs.Option.{IsSomeAnd}
 use Rattle.std.specs.Str.{bytes_eq}
 use Rattle.std.specs.declared.option.Option.{Option}
@@ -30,7 +31,8 @@ use Rattle.sym_pure.proofs.EachLaws.{All-get}
 use Rattle.sym_canon.specs.Canonical.{as_state, canon_post, canon_state}
 use Rattle.sym_forms.specs.Sizes.{bounded, fields_in, fields_of, most_exps}
 use Rattle.sym_forms.proofs.WellFormedLaws.{canon_state_is_well_formed}
-use Rattle.abstraction_laws.specs.Forgetting.{first_new, forget, forget_atom, forget_atoms, forget_cell, forget_fields, forget_slots, forget_value, is_constant, is_forgotten, is_int}
+use Rattle.abstraction_laws.specs.Forgetting.{first_new, forget, forget_atom, forget_atoms, forget_cell, forget_fields, forget_slots}
+use Rattle.abstraction_laws.specs.Forgetting.{forget_value, is_constant, is_forgotten, is_int}
 use Rattle.abstraction_laws.specs.Heads.{at_exit, at_head, forget_at_exit, post_of, reduced}
 use Rattle.abstraction_laws.specs.Joining.{end_by, segment_by, segment_of, segment_to, start_of}
 use Rattle.abstraction_laws.specs.Losing.{is_disequality_of, is_lost_among}
@@ -70,14 +72,17 @@ module _ (limit : ℕ) (wide : 2147483648 ≤ limit) (structs : List StructDef) 
 
   -- ---- constants forgotten
 
-  slots-fit : (mark : HeadMark) (next slot : ℕ) (es : List Exp) → next + length es ≤ limit → All (IsExp widest params) es → All (IsExp (bounded limit) params) (forget_slots mark next slot es)
+  slots-fit : (mark : HeadMark) (next slot : ℕ) (es : List Exp) → next + length es ≤ limit → All (IsExp widest params) es →
+      All (IsExp (bounded limit) params) (forget_slots mark next slot es)
   slots-fit mark next slot [] room is = All-nil (IsExp (bounded limit) params)
   slots-fit mark next slot (e ∷ es) room is =
-      All-cons (IsExp (bounded limit) params) (if is_forgotten mark slot e then Var next else e) (forget_slots mark (next + 1) (slot + 1) es)
+      All-cons (IsExp (bounded limit) params) (if is_forgotten mark slot e then Var next else e)
+      (forget_slots mark (next + 1) (slot + 1) es)
       (or-new (is_forgotten mark slot e) next e (omega (arith, room)) (All-head (IsExp widest params) e es is))
       (slots-fit mark (next + 1) (slot + 1) es (omega (arith, room)) (All-tail (IsExp widest params) e es is))
 
-  fields-fit : (next : ℕ) (fields : List Field) (es : List Exp) → next + length es ≤ limit → All (IsExp widest params) es → All (IsExp (bounded limit) params) (forget_fields next fields es)
+  fields-fit : (next : ℕ) (fields : List Field) (es : List Exp) → next + length es ≤ limit → All (IsExp widest params) es →
+      All (IsExp (bounded limit) params) (forget_fields next fields es)
   fields-fit next fields [] room is = All-nil (IsExp (bounded limit) params)
   fields-fit next [] (e ∷ es) room is = loosen-all (e ∷ es) is
   fields-fit next (field ∷ fields) (e ∷ es) room is =
@@ -90,22 +95,26 @@ module _ (limit : ℕ) (wide : 2147483648 ≤ limit) (structs : List StructDef) 
   fields-long next [] (e ∷ es) = refl
   fields-long next (field ∷ fields) (e ∷ es) = ap suc (fields-long (next + 1) fields es)
 
-  cell-fits : (next : ℕ) (o : Option StructDef) (es : List Exp) → next + length es ≤ limit → All (IsExp widest params) es → All (IsExp (bounded limit) params) (forget_cell next o es) × (length (forget_cell next o es) ≡ length es)
+  cell-fits : (next : ℕ) (o : Option StructDef) (es : List Exp) → next + length es ≤ limit → All (IsExp widest params) es →
+      All (IsExp (bounded limit) params) (forget_cell next o es) × (length (forget_cell next o es) ≡ length es)
   cell-fits next None es room is = (loosen-all es is, refl)
   cell-fits next (Some def) es room is = (fields-fit next def.fields es room is, fields-long next def.fields es)
 
-  as-long : (values new : List Exp) (def : Option StructDef) → length new ≡ length values → IsSomeAnd def (λ d. length values ≡ length d.fields) → IsSomeAnd def (λ d. length new ≡ length d.fields)
+  as-long : (values new : List Exp) (def : Option StructDef) → length new ≡ length values →
+      IsSomeAnd def (λ d. length values ≡ length d.fields) → IsSomeAnd def (λ d. length new ≡ length d.fields)
   as-long values new None same h = h
   as-long values new (Some def) same h = same ∙ h
 
-  atom-fits : (kinds : List StructDef) (next : ℕ) (atom : Atom) → next + fields_of atom ≤ limit → IsAtom widest structs params atom → IsAtom (bounded limit) structs params (forget_atom kinds next atom)
+  atom-fits : (kinds : List StructDef) (next : ℕ) (atom : Atom) → next + fields_of atom ≤ limit → IsAtom widest structs params atom →
+      IsAtom (bounded limit) structs params (forget_atom kinds next atom)
   atom-fits kinds next (Points at kind fields) room is =
       let cell = cell-fits next (struct_named kinds kind) fields room is.2 in
       (loosen at is.0, as-long fields (forget_cell next (struct_named kinds kind) fields) (struct_named structs kind) cell.1 is.1, cell.0)
   atom-fits kinds next (Seg kind link from to) room is = loosen-atom (Seg kind link from to) is
   atom-fits kinds next Junk room is = tt
 
-  atoms-fit : (kinds : List StructDef) (next : ℕ) (atoms : List Atom) → next + fields_in atoms ≤ limit → All (IsAtom widest structs params) atoms → All (IsAtom (bounded limit) structs params) (forget_atoms kinds next atoms)
+  atoms-fit : (kinds : List StructDef) (next : ℕ) (atoms : List Atom) → next + fields_in atoms ≤ limit →
+      All (IsAtom widest structs params) atoms → All (IsAtom (bounded limit) structs params) (forget_atoms kinds next atoms)
   atoms-fit kinds next [] room is = All-nil (IsAtom (bounded limit) structs params)
   atoms-fit kinds next (atom ∷ atoms) room is =
       All-cons (IsAtom (bounded limit) structs params) (forget_atom kinds next atom) (forget_atoms kinds (next + fields_of atom) atoms)
@@ -114,20 +123,24 @@ module _ (limit : ℕ) (wide : 2147483648 ≤ limit) (structs : List StructDef) 
 
   -- ---- segments that joins make
 
-  end-fits : (kind : List ℕ) (link : ℕ) (atom : Atom) (to : Exp) → end_by kind link atom ≡ Some to → IsAtom (bounded limit) structs params atom → IsExp (bounded limit) params to
+  end-fits : (kind : List ℕ) (link : ℕ) (atom : Atom) (to : Exp) → end_by kind link atom ≡ Some to →
+      IsAtom (bounded limit) structs params atom → IsExp (bounded limit) params to
   end-fits kind link (Points other fields-kind fields) to ends is = by_kind (bytes_eq fields-kind kind) refl
     where
       by_kind : (b : Bool) → bytes_eq fields-kind kind ≡ b → IsExp (bounded limit) params to
-      by_kind true e = let got : slice_get fields link ≡ Some to = rw e at ends in All-get (IsExp (bounded limit) params) fields link to got is.2
+      by_kind true e = let got : slice_get fields link
+          ≡ Some to = rw e at ends in All-get (IsExp (bounded limit) params) fields link to got is.2
       by_kind false e = let bad : None ≡ Some to = rw e at ends in cc
   end-fits kind link (Seg other field from end) to ends is = by_kind (bytes_eq other kind && field == link) refl
     where
       by_kind : (b : Bool) → (bytes_eq other kind && field == link) ≡ b → IsExp (bounded limit) params to
-      by_kind true e = let same : Some end ≡ Some to = rw e at ends in let equal : end ≡ to = cc in subst (IsExp (bounded limit) params) equal is.2
+      by_kind true e = let same : Some end ≡ Some to = rw e at ends in let equal : end
+          ≡ to = cc in subst (IsExp (bounded limit) params) equal is.2
       by_kind false e = let bad : None ≡ Some to = rw e at ends in cc
   end-fits kind link Junk to ends is = cc
 
-  to-fits : (kind : List ℕ) (link : ℕ) (from : Exp) (other segment : Atom) (o : Option Exp) → end_by kind link other ≡ o → segment_to kind link from o ≡ Some segment → IsField structs kind link → IsExp (bounded limit) params from →
+  to-fits : (kind : List ℕ) (link : ℕ) (from : Exp) (other segment : Atom) (o : Option Exp) → end_by kind link other ≡ o →
+      segment_to kind link from o ≡ Some segment → IsField structs kind link → IsExp (bounded limit) params from →
       IsAtom (bounded limit) structs params other → IsAtom (bounded limit) structs params segment
   to-fits kind link from other segment None ends makes field start is = cc
   to-fits kind link from other segment (Some to) ends makes field start is =
@@ -139,35 +152,47 @@ module _ (limit : ℕ) (wide : 2147483648 ≤ limit) (structs : List StructDef) 
   got-low (f ∷ fs) zero e h = omega arith
   got-low (f ∷ fs) (suc link) e h = let rest : link < length fs = got-low fs link e h in omega (arith, rest)
 
-  field-there : (fields : List Exp) (link : ℕ) (def : Option StructDef) → link < length fields → IsSomeAnd def (λ d. length fields ≡ length d.fields) → IsSomeAnd def (λ d. link < length d.fields)
+  field-there : (fields : List Exp) (link : ℕ) (def : Option StructDef) → link < length fields →
+      IsSomeAnd def (λ d. length fields ≡ length d.fields) → IsSomeAnd def (λ d. link < length d.fields)
   field-there fields link None low h = h
   field-there fields link (Some def) low h = subst (λ n. link < n) h low
 
-  pub joined-fits : (v : Exp) (one other segment : Atom) → start_of other ≡ Some v → segment_of v one other ≡ Some segment → IsAtom (bounded limit) structs params one → IsAtom (bounded limit) structs params other → IsAtom (bounded limit) structs params segment
+  pub joined-fits : (v : Exp) (one other segment : Atom) → start_of other ≡ Some v → segment_of v one other ≡ Some segment →
+      IsAtom (bounded limit) structs params one → IsAtom (bounded limit) structs params other →
+      IsAtom (bounded limit) structs params segment
   joined-fits v (Points at kind fields) other segment starts makes is also = by_link (position (same_exp v) fields) refl makes
     where
-      by_link : (o : Option ℕ) → position (same_exp v) fields ≡ o → segment_by kind at other o ≡ Some segment → IsAtom (bounded limit) structs params segment
+      by_link : (o : Option ℕ) → position (same_exp v) fields ≡ o → segment_by kind at other o ≡ Some segment →
+          IsAtom (bounded limit) structs params segment
       by_link None e f = cc
       by_link (Some link) e f =
           let found = position-found (same_exp v) fields link e in
-          to-fits kind link at other segment (end_by kind link other) refl f (field-there fields link (struct_named structs kind) (got-low fields link found.0 found.1) is.1) is.0 also
+          to-fits kind link at other segment (end_by kind link other) refl f
+          (field-there fields link (struct_named structs kind) (got-low fields link found.0 found.1) is.1) is.0 also
   joined-fits v (Seg kind link from to) other segment starts makes is also = by_test (same_exp v to) makes
     where
-      by_test : (b : Bool) → (if b then segment_to kind link from (end_by kind link other) else None) ≡ Some segment → IsAtom (bounded limit) structs params segment
+      by_test : (b : Bool) → (if b then segment_to kind link from (end_by kind link other) else None) ≡ Some segment →
+          IsAtom (bounded limit) structs params segment
       by_test true f = to-fits kind link from other segment (end_by kind link other) refl f is.0 is.1 also
       by_test false f = cc
   joined-fits v Junk other segment starts makes is also = cc
 
   -- ---- reduced
 
-  times-facts : (turns : ℕ) (joins : Bool) (locals : List Exp) (heap : SymHeap) → All (IsFact (bounded limit) params) heap.pure → All (IsFact (bounded limit) params) (reduce_times turns joins locals heap).pure
+  times-facts : (turns : ℕ) (joins : Bool) (locals : List Exp) (heap : SymHeap) → All (IsFact (bounded limit) params) heap.pure →
+      All (IsFact (bounded limit) params) (reduce_times turns joins locals heap).pure
   times-facts zero joins locals heap h = h
   times-facts (suc turns) joins locals heap h =
       times-facts turns joins locals (reduce_once joins locals heap)
-      (All-filter (λ fact. not (is_disequality_of (is_lost_among 65536 (locals ++ exps_of_atoms (join_inner joins locals (keep_reached locals heap.spatial)))) fact)) (IsFact (bounded limit) params) heap.pure h)
+      (All-filter (λ fact. not
+      (is_disequality_of (is_lost_among 65536 (locals ++ exps_of_atoms (join_inner joins locals (keep_reached locals heap.spatial)))) fact))
+      (IsFact (bounded limit) params) heap.pure h)
 
-  reduced-fits : (parts slots : ℕ) (joins : Bool) (state small : SymState) → HasNoMoreParts small (reduced joins state) → length small.heap.pure + length small.heap.spatial ≤ parts → length state.locals ≡ slots → All (IsExp (bounded limit) params) state.locals →
-      All (IsFact (bounded limit) params) state.heap.pure → All (IsAtom (bounded limit) structs params) state.heap.spatial → IsState (record (bounded limit) { parts = parts }) structs params slots (reduced joins state)
+  reduced-fits : (parts slots : ℕ) (joins : Bool) (state small : SymState) → HasNoMoreParts small (reduced joins state) →
+      length small.heap.pure + length small.heap.spatial ≤ parts → length state.locals ≡ slots →
+      All (IsExp (bounded limit) params) state.locals →
+      All (IsFact (bounded limit) params) state.heap.pure → All (IsAtom (bounded limit) structs params) state.heap.spatial →
+      IsState (record (bounded limit) { parts = parts }) structs params slots (reduced joins state)
   reduced-fits parts slots joins state small less few one_each locals facts atoms = record {
     one_each = one_each;
     locals = locals;
@@ -181,9 +206,11 @@ module _ (limit : ℕ) (wide : 2147483648 ≤ limit) (structs : List StructDef) 
 -- ---- canonical
 
 module _ (structs : List StructDef) (params : ℕ) where
-  canon-fits : (slots : ℕ) (state : SymState) → AreStructs structs → slots ≤ 32768 → IsState (bounded 4294967296) structs params slots state → IsState widest structs params slots (canon_state state params)
+  canon-fits : (slots : ℕ) (state : SymState) → AreStructs structs → slots ≤ 32768 →
+      IsState (bounded 4294967296) structs params slots state → IsState widest structs params slots (canon_state state params)
   canon-fits slots state are few is =
-      let fields : fields_in state.heap.spatial ≤ length state.heap.spatial * 32768 = few-fields (bounded 4294967296) structs params are.each state.heap.spatial is.heap.atoms in
+      let fields : fields_in state.heap.spatial ≤ length state.heap.spatial * 32768 =
+      few-fields (bounded 4294967296) structs params are.each state.heap.spatial is.heap.atoms in
       let parts : length state.heap.pure + length state.heap.spatial ≤ 4000 = is.heap.parts in
       let one_each : length state.locals ≡ slots = is.one_each in
       let most : most_exps state ≤ 131200000 = omega (arith, fields, parts, one_each, few) in
@@ -195,17 +222,23 @@ module _ (structs : List StructDef) (params : ℕ) where
       }) is
 
 -- a state that has room at the head of a loop, however many parts there are
-pub head-fits-within : (parts : ℕ) (structs kinds : List StructDef) (params slots : ℕ) (state : SymState) (mark : HeadMark) → HasRoom state → IsState (with_at_most parts) structs params slots state →
+pub head-fits-within : (parts : ℕ) (structs kinds : List StructDef) (params slots : ℕ) (state : SymState) (mark : HeadMark) →
+    HasRoom state → IsState (with_at_most parts) structs params slots state →
     IsState (record (bounded 4294967296) { parts = parts }) structs params slots (at_head kinds mark state)
 head-fits-within parts structs kinds params slots state mark room is =
-    reduced-fits 4294967296 (lit≤ tt) structs params parts slots true (forget kinds mark state) state (at_head-small kinds mark state) is.heap.parts (forgotten-slots mark (first_new state) 0 state.locals ∙ is.one_each)
+    reduced-fits 4294967296 (lit≤ tt) structs params parts slots true (forget kinds mark state) state
+    (at_head-small kinds mark state) is.heap.parts (forgotten-slots mark (first_new state) 0 state.locals ∙ is.one_each)
     (slots-fit 4294967296 (lit≤ tt) structs params mark (first_new state) 0 state.locals (omega (arith, room)) is.locals)
-    (All-weaker (IsFact widest params) (IsFact (bounded 4294967296) params) (loosen-fact 4294967296 (lit≤ tt) structs params) state.heap.pure is.heap.facts)
-    (atoms-fit 4294967296 (lit≤ tt) structs params kinds (first_new state + length state.locals) state.heap.spatial (omega (arith, room)) is.heap.atoms)
+    (All-weaker (IsFact widest params) (IsFact (bounded 4294967296) params)
+    (loosen-fact 4294967296 (lit≤ tt) structs params) state.heap.pure is.heap.facts)
+    (atoms-fit 4294967296 (lit≤ tt) structs params kinds (first_new state + length state.locals) state.heap.spatial
+    (omega (arith, room)) is.heap.atoms)
 
-head-fits : (structs kinds : List StructDef) (params slots : ℕ) (state : SymState) (mark : HeadMark) → AreStructs structs → slots ≤ 32768 → IsState widest structs params slots state → IsState (bounded 4294967296) structs params slots (at_head kinds mark state)
+head-fits : (structs kinds : List StructDef) (params slots : ℕ) (state : SymState) (mark : HeadMark) → AreStructs structs → slots ≤ 32768 →
+    IsState widest structs params slots state → IsState (bounded 4294967296) structs params slots (at_head kinds mark state)
 head-fits structs kinds params slots state mark are few is =
-    head-fits-within 4000 structs kinds params slots state mark (well_formed_is_within_room structs params slots state are few is).variables is
+    head-fits-within 4000 structs kinds params slots state mark
+    (well_formed_is_within_room structs params slots state are few is).variables is
 
 pub abstract_head_is_well_formed : AbstractHeadIsWellFormed
 abstract_head_is_well_formed structs kinds slots state answer flow mark are few is h =
@@ -213,25 +246,38 @@ abstract_head_is_well_formed structs kinds slots state answer flow mark are few 
     let made = made-of (λ form. canon_state form params) (at_head kinds mark state) answer h in
     subst (IsState widest structs params slots) made.made
     (canon-fits structs params slots made.form are few
-    (form_is_well_formed (bounded 4294967296) structs params slots (at_head kinds mark state) made.form made.form_is (head-fits structs kinds params slots state mark are few is)))
+    (form_is_well_formed (bounded 4294967296) structs params slots (at_head kinds mark state) made.form made.form_is
+    (head-fits structs kinds params slots state mark are few is)))
 
 -- a post as a state
-as_state-fits : (structs : List StructDef) (params : ℕ) (post : Post) → IsPost widest structs params post → IsState widest structs params 1 (as_state post)
-as_state-fits structs params post is = record { one_each = refl; locals = All-cons (IsExp widest params) post.ret [] is.ret (All-nil (IsExp widest params)); heap = is.heap }
+as_state-fits : (structs : List StructDef) (params : ℕ) (post : Post) → IsPost widest structs params post →
+    IsState widest structs params 1 (as_state post)
+as_state-fits structs params post is =
+    record { one_each = refl; locals = All-cons (IsExp widest params) post.ret [] is.ret (All-nil (IsExp widest params)); heap = is.heap }
 
-exit-fits : (structs kinds : List StructDef) (params : ℕ) (flow : Flow) (post : Post) (recursive : Bool) → AreStructs structs → IsPost widest structs params post → IsState (bounded 4294967296) structs params 1 (at_exit recursive kinds flow post)
+exit-fits : (structs kinds : List StructDef) (params : ℕ) (flow : Flow) (post : Post) (recursive : Bool) → AreStructs structs →
+    IsPost widest structs params post → IsState (bounded 4294967296) structs params 1 (at_exit recursive kinds flow post)
 exit-fits structs kinds params flow post true are is =
-    let room : HasRoom (as_state post) = (well_formed_is_within_room structs params 1 (as_state post) are (omega arith) (as_state-fits structs params post is)).variables in
-    reduced-fits 4294967296 (lit≤ tt) structs params 4000 1 true (as_state (forget_at_exit kinds flow post)) (as_state post) (at_exit-small true kinds flow post) is.heap.parts refl
+    let room : HasRoom (as_state post) =
+    (well_formed_is_within_room structs params 1 (as_state post) are (omega arith) (as_state-fits structs params post is)).variables in
+    reduced-fits 4294967296 (lit≤ tt) structs params 4000 1 true (as_state (forget_at_exit kinds flow post)) (as_state post)
+    (at_exit-small true kinds flow post) is.heap.parts refl
     (All-cons (IsExp (bounded 4294967296) params) (forget_value (first_new (as_state post)) flow.ret post.ret) []
-    (or-new 4294967296 (lit≤ tt) structs params (is_int flow.ret && is_constant post.ret) (first_new (as_state post)) post.ret (omega (arith, room)) is.ret) (All-nil (IsExp (bounded 4294967296) params)))
-    (All-weaker (IsFact widest params) (IsFact (bounded 4294967296) params) (loosen-fact 4294967296 (lit≤ tt) structs params) post.heap.pure is.heap.facts)
-    (atoms-fit 4294967296 (lit≤ tt) structs params kinds (first_new (as_state post) + 1) post.heap.spatial (omega (arith, room)) is.heap.atoms)
+    (or-new 4294967296 (lit≤ tt) structs params (is_int flow.ret && is_constant post.ret) (first_new (as_state post)) post.ret
+    (omega (arith, room)) is.ret) (All-nil (IsExp (bounded 4294967296) params)))
+    (All-weaker (IsFact widest params) (IsFact (bounded 4294967296) params)
+    (loosen-fact 4294967296 (lit≤ tt) structs params) post.heap.pure is.heap.facts)
+    (atoms-fit 4294967296 (lit≤ tt) structs params kinds (first_new (as_state post) + 1) post.heap.spatial
+    (omega (arith, room)) is.heap.atoms)
 exit-fits structs kinds params flow post false are is =
-    reduced-fits 4294967296 (lit≤ tt) structs params 4000 1 false (as_state post) (as_state post) (at_exit-small false kinds flow post) is.heap.parts refl
-    (All-cons (IsExp (bounded 4294967296) params) post.ret [] (loosen 4294967296 (lit≤ tt) structs params post.ret is.ret) (All-nil (IsExp (bounded 4294967296) params)))
-    (All-weaker (IsFact widest params) (IsFact (bounded 4294967296) params) (loosen-fact 4294967296 (lit≤ tt) structs params) post.heap.pure is.heap.facts)
-    (All-weaker (IsAtom widest structs params) (IsAtom (bounded 4294967296) structs params) (loosen-atom 4294967296 (lit≤ tt) structs params) post.heap.spatial is.heap.atoms)
+    reduced-fits 4294967296 (lit≤ tt) structs params 4000 1 false (as_state post) (as_state post)
+    (at_exit-small false kinds flow post) is.heap.parts refl
+    (All-cons (IsExp (bounded 4294967296) params) post.ret [] (loosen 4294967296 (lit≤ tt) structs params post.ret is.ret)
+    (All-nil (IsExp (bounded 4294967296) params)))
+    (All-weaker (IsFact widest params) (IsFact (bounded 4294967296) params)
+    (loosen-fact 4294967296 (lit≤ tt) structs params) post.heap.pure is.heap.facts)
+    (All-weaker (IsAtom widest structs params) (IsAtom (bounded 4294967296) structs params)
+    (loosen-atom 4294967296 (lit≤ tt) structs params) post.heap.spatial is.heap.atoms)
 
 pub abstract_exit_is_well_formed : AbstractExitIsWellFormed
 abstract_exit_is_well_formed structs kinds post answer flow recursive are is h =
@@ -239,9 +285,13 @@ abstract_exit_is_well_formed structs kinds post answer flow recursive are is h =
     let make : SymState → Post = λ form. canon_post (post_of post.ret form) params in
     let made = made-of make (at_exit recursive kinds flow post) answer h in
     let form_fits : IsState (bounded 4294967296) structs params 1 made.form =
-    form_is_well_formed (bounded 4294967296) structs params 1 (at_exit recursive kinds flow post) made.form made.form_is (exit-fits structs kinds params flow post recursive are is) in
-    let same : as_state (post_of post.ret made.form) ≡ made.form = one-local post.ret made.form (exit-locals recursive kinds flow post made.form made.form_is) in
-    let post_fits : IsState (bounded 4294967296) structs params 1 (as_state (post_of post.ret made.form)) = subst (IsState (bounded 4294967296) structs params 1) (sym same) form_fits in
-    let fits : IsState widest structs params 1 (canon_state (as_state (post_of post.ret made.form)) params) = canon-fits structs params 1 (as_state (post_of post.ret made.form)) are (omega arith) post_fits in
+    form_is_well_formed (bounded 4294967296) structs params 1 (at_exit recursive kinds flow post) made.form made.form_is
+    (exit-fits structs kinds params flow post recursive are is) in
+    let same : as_state (post_of post.ret made.form) ≡ made.form =
+    one-local post.ret made.form (exit-locals recursive kinds flow post made.form made.form_is) in
+    let post_fits : IsState (bounded 4294967296) structs params 1 (as_state (post_of post.ret made.form)) =
+    subst (IsState (bounded 4294967296) structs params 1) (sym same) form_fits in
+    let fits : IsState widest structs params 1 (canon_state (as_state (post_of post.ret made.form)) params) =
+    canon-fits structs params 1 (as_state (post_of post.ret made.form)) are (omega arith) post_fits in
     subst (IsPost widest structs params) made.made
     (record { ret = All-head (IsExp widest params) (canon_post (post_of post.ret made.form) params).ret [] fits.locals; heap = fits.heap })

@@ -29,7 +29,8 @@ use Rattle.annotation_laws.proofs.Turns.{Annotates, IsFinished, IsGood, IsTurnPo
 
 -- ---- small
 
-small-first : (task : Task) (pre : SymHeap) (posts : List Post) (cert : Cert) (all : Annotates task pre posts cert) → IsSmallCert (cert_of all.finishes.last)
+small-first : (task : Task) (pre : SymHeap) (posts : List Post) (cert : Cert) (all : Annotates task pre posts cert) →
+    IsSmallCert (cert_of all.finishes.last)
 small-first task pre posts cert all = all.finishes.grows.small (started-small task pre all.first all.starts)
 
 pub done_is_small : DoneIsSmall
@@ -45,12 +46,15 @@ done_is_small task pre posts cert h =
 
 module _ (task : Task) (good : IsTask task) (pre : SymHeap) (last : Listing) (is : IsFinished task pre last) where
   -- a listed state is its own normal form, so what holds of its execution is what the rules ask for
-  each-execution : (P : Step → Type 0) → ((at : ℕ) (state : SymState) → IsTurnState task state → IsGood task last (execution task at state) → P (execution task at state)) → OfExecutions task (cert_of last) P
+  each-execution : (P : Step → Type 0) →
+      ((at : ℕ) (state : SymState) → IsTurnState task state → IsGood task last (execution task at state) → P (execution task at state)) →
+      OfExecutions task (cert_of last) P
   each-execution P each at k d below =
       let states = listed_at at last in
       let state = slice_index_or states k d in
       let turn = listed-each (IsTurnState task) (IsTurnPost task) last is.listed at k d below in
-      subst (λ form. IfSome form (λ one. P (execution task at one))) (sym (normal-state-itself state turn.1)) (each at state turn (is.done at state (Contains-get_or states k d below)))
+      subst (λ form. IfSome form (λ one. P (execution task at one))) (sym (normal-state-itself state turn.1))
+      (each at state turn (is.done at state (Contains-get_or states k d below)))
 
   nexts-covered : (one : Step) → GoesOnWithin task one → OfNexts (λ item. Arrived task item last) one →
       OfNexts (λ (next : ℕ × SymState). IfSome (at_node task next.0 next.1) (IsCovered (states_at (cert_of last) next.0))) one
@@ -70,8 +74,11 @@ module _ (task : Task) (good : IsTask task) (pre : SymHeap) (last : Listing) (is
   finished-inductive = record {
     start = is.start;
     runs = each-execution DoesNotFail (λ at state turn done. done.runs);
-    nexts = each-execution (OfNexts (λ (next : ℕ × SymState). IfSome (at_node task next.0 next.1) (IsCovered (states_at (cert_of last) next.0))))
-        (λ at state turn done. nexts-covered (execution task at state) (step-within task good at state turn.0 (execution task at state) refl) done.nexts);
+    nexts =
+        each-execution
+        (OfNexts (λ (next : ℕ × SymState). IfSome (at_node task next.0 next.1) (IsCovered (states_at (cert_of last) next.0))))
+        (λ at state turn done. nexts-covered (execution task at state)
+        (step-within task good at state turn.0 (execution task at state) refl) done.nexts);
     exits = each-execution (OfExits (λ exit. HasLeft task exit last)) (λ at state turn done. done.exits);
     posts = posts-cover;
   }
@@ -83,14 +90,19 @@ module _ (task : Task) (good : IsTask task) (pre : SymHeap) (last : Listing) (is
         let few : length last.exits ≤ MOST_STATES = small.exits in record {
           pre = is_pre;
           countable = omega arith;
-          posts = kept-each (IsGivenPost task) last.exits (All-weaker (IsTurnPost task) (IsGivenPost task) (λ post turn. turn.0) last.exits is.listed.exits);
+          posts =
+              kept-each (IsGivenPost task) last.exits
+              (All-weaker (IsTurnPost task) (IsGivenPost task) (λ post turn. turn.0) last.exits is.listed.exits);
         }
 
     finished-states : All (AreStates analysable task.structs (length task.flow.params) (length task.flow.slots)) last.nodes
     finished-states k d below =
         let states = slice_index_or last.nodes k d in
         let few : length states ≤ MOST_STATES = small.nodes k d below in
-        record { few = omega arith; each = All-weaker (IsTurnState task) (IsGivenState task) (λ state turn. turn.0) states (is.listed.nodes k d below) }
+        record {
+          few = omega arith;
+          each = All-weaker (IsTurnState task) (IsGivenState task) (λ state turn. turn.0) states (is.listed.nodes k d below);
+        }
 
     finished-cert : IsTaskCert task (cert_of last)
     finished-cert =
@@ -101,7 +113,8 @@ module _ (task : Task) (good : IsTask task) (pre : SymHeap) (last : Listing) (is
           exits = All-weaker (IsTurnPost task) (IsGivenPost task) (λ post turn. turn.0) last.exits is.listed.exits;
         }
 
-pre-wide : (task : Task) (pre : SymHeap) → IsSymHeap analysable task.structs (length task.flow.params) pre → IsSymHeap widest task.structs (length task.flow.params) pre
+pre-wide : (task : Task) (pre : SymHeap) → IsSymHeap analysable task.structs (length task.flow.params) pre →
+    IsSymHeap widest task.structs (length task.flow.params) pre
 pre-wide task pre is = limits.heap analysable widest limits.storable_is_analysable.1 (length task.flow.params) task.structs pre is
 
 pub done_is_inductive : DoneIsInductive
@@ -109,7 +122,8 @@ done_is_inductive task pre posts cert good is_pre h =
     let all = annotates task pre posts cert h in
     let last = all.finishes.last in
     let inductive = finished-inductive task good pre last (is-finished task pre posts cert good (pre-wide task pre is_pre) all) in
-    subst (λ one. IsInductiveCert task (spec_of pre posts) one) all.finishes.cert_is (subst (λ (ones : List Post). IsInductiveCert task (spec_of pre ones) (cert_of last)) all.finishes.posts_are inductive)
+    subst (λ one. IsInductiveCert task (spec_of pre posts) one) all.finishes.cert_is
+    (subst (λ (ones : List Post). IsInductiveCert task (spec_of pre ones) (cert_of last)) all.finishes.posts_are inductive)
 
 pub done_is_well_formed : DoneIsWellFormed
 done_is_well_formed task pre posts cert good is_pre h =
@@ -117,6 +131,7 @@ done_is_well_formed task pre posts cert good is_pre h =
     let last = all.finishes.last in
     let finished = is-finished task pre posts cert good (pre-wide task pre is_pre) all in
     let small = small-first task pre posts cert all in (
-      subst (λ (ones : List Post). IsTaskSpec task (spec_of pre ones)) all.finishes.posts_are (finished-spec task good pre last finished is_pre small),
+      subst (λ (ones : List Post). IsTaskSpec task (spec_of pre ones)) all.finishes.posts_are
+          (finished-spec task good pre last finished is_pre small),
       subst (IsTaskCert task) all.finishes.cert_is (finished-cert task good pre last finished is_pre small),
     )

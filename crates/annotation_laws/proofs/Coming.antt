@@ -17,8 +17,10 @@ use Rattle.certificate_laws.proofs.CoveringLaws.{is_covered-Decides, is_post_cov
 use Rattle.annotation_laws.specs.declared.parts.Annotated.{Annotated}
 use Rattle.annotation_laws.specs.declared.parts.Annotated.TheVariants.{Done, Fail, Spent}
 use Rattle.annotation_laws.specs.Annotation.{after_step, empty_listing, post_comes, result_comes, started}
-use Rattle.annotation_laws.specs.Listing.{Course, Ends, Goes, Listing, MOST_PARTS, MOST_STATES, all_come, exit_comes, listed_at, parts_of, state_comes, then_on, unless_none, with_exit, with_state}
-use Rattle.annotation_laws.proofs.Growing.{Grows, Leads, covered-grows, exit-covered-grows, exit-leads, leads-refl, leads-trans, state-is-there, state-leads}
+use Rattle.annotation_laws.specs.Listing.{Course, Ends, Goes, Listing, MOST_PARTS, MOST_STATES, all_come, exit_comes, listed_at, parts_of}
+use Rattle.annotation_laws.specs.Listing.{state_comes, then_on, unless_none, with_exit, with_state}
+use Rattle.annotation_laws.proofs.Growing.{Grows, Leads, covered-grows, exit-covered-grows, exit-leads, leads-refl, leads-trans}
+use Rattle.annotation_laws.proofs.Growing.{state-is-there, state-leads}
 
 -- ---- one comes
 
@@ -41,19 +43,26 @@ came : (parts : ℕ) (covered : Bool) (count : ℕ) (large full : Annotated) (fr
     Came parts covered count from more to
 came parts covered count large full from more to h =
     let all = tested (ltb MOST_PARTS parts) covered (leb MOST_STATES count) large full from more to h in
-    record { few_parts = ltb-false MOST_PARTS parts all.0; course = ⊎_elim inl (λ listed. inr (leb-false MOST_STATES count listed.0, listed.1)) all.1 }
+    record {
+      few_parts = ltb-false MOST_PARTS parts all.0;
+      course = ⊎_elim inl (λ listed. inr (leb-false MOST_STATES count listed.0, listed.1)) all.1;
+    }
 
 pub state-came : (node : ℕ) (state : SymState) (from to : Listing) → state_comes node state from ≡ Goes to →
     Came (parts_of state.heap) (is_covered (listed_at node from) state) (length (listed_at node from)) from (with_state node state from) to
 state-came node state from to h =
-    came (parts_of state.heap) (is_covered (listed_at node from) state) (length (listed_at node from)) (Spent budget.Parts 97) (Spent budget.States 17) from (with_state node state from) to h
+    came (parts_of state.heap) (is_covered (listed_at node from) state) (length (listed_at node from)) (Spent budget.Parts 97)
+    (Spent budget.States 17) from (with_state node state from) to h
 
-pub exit-came : (post : Post) (from to : Listing) → exit_comes post from ≡ Goes to → Came (parts_of post.heap) (is_post_covered from.exits post) (length from.exits) from (with_exit post from) to
+pub exit-came : (post : Post) (from to : Listing) → exit_comes post from ≡ Goes to →
+    Came (parts_of post.heap) (is_post_covered from.exits post) (length from.exits) from (with_exit post from) to
 exit-came post from to h =
-    came (parts_of post.heap) (is_post_covered from.exits post) (length from.exits) (Spent budget.Parts 97) (Spent budget.States 17) from (with_exit post from) to h
+    came (parts_of post.heap) (is_post_covered from.exits post) (length from.exits) (Spent budget.Parts 97) (Spent budget.States 17) from
+    (with_exit post from) to h
 
 -- a course went on to a listing, and from there
-pub then-went : (go_on : Listing → Course) (course : Course) (to : Listing) → then_on go_on course ≡ Goes to → (mid : Listing) × (course ≡ Goes mid) × (go_on mid ≡ Goes to)
+pub then-went : (go_on : Listing → Course) (course : Course) (to : Listing) → then_on go_on course ≡ Goes to →
+    (mid : Listing) × (course ≡ Goes mid) × (go_on mid ≡ Goes to)
 then-went go_on (Goes mid) to h = (mid, refl, h)
 then-went go_on (Ends annotated) to h = cc
 
@@ -61,13 +70,16 @@ then-went go_on (Ends annotated) to h = cc
 
 pub state-comes-leads : (node : ℕ) (state : SymState) (from to : Listing) → state_comes node state from ≡ Goes to → Leads from to
 state-comes-leads node state from to h =
-    ⊎_elim (λ out. subst (Leads from) out.1 (leads-refl from)) (λ listed. subst (Leads from) listed.1 (state-leads node state from listed.0)) (state-came node state from to h).course
+    ⊎_elim (λ out. subst (Leads from) out.1 (leads-refl from))
+    (λ listed. subst (Leads from) listed.1 (state-leads node state from listed.0)) (state-came node state from to h).course
 
 pub exit-comes-leads : (post : Post) (from to : Listing) → exit_comes post from ≡ Goes to → Leads from to
 exit-comes-leads post from to h =
-    ⊎_elim (λ out. subst (Leads from) out.1 (leads-refl from)) (λ listed. subst (Leads from) listed.1 (exit-leads post from listed.0)) (exit-came post from to h).course
+    ⊎_elim (λ out. subst (Leads from) out.1 (leads-refl from)) (λ listed. subst (Leads from) listed.1 (exit-leads post from listed.0))
+    (exit-came post from to h).course
 
-module _ {A : Type 0} (comes : A → Listing → Course) (leads : (thing : A) (from to : Listing) → comes thing from ≡ Goes to → Leads from to) where
+module _ {A : Type 0} (comes : A → Listing → Course)
+    (leads : (thing : A) (from to : Listing) → comes thing from ≡ Goes to → Leads from to) where
   pub unless-none-leads : (thing : Option A) (from to : Listing) → unless_none comes thing from ≡ Goes to → Leads from to
   unless-none-leads None from to h = let same : from ≡ to = cc in subst (Leads from) same (leads-refl from)
   unless-none-leads (Some thing) from to h = leads thing from to h
@@ -85,7 +97,9 @@ module _ {A : Type 0} (comes : A → Listing → Course) (leads : (thing : A) (f
     all-come-arrive [] from to h = All-nil (λ thing. Q thing to)
     all-come-arrive (thing ∷ things) from to h =
         let went = then-went (all_come comes things) (comes thing from) to h in
-        All-cons (λ one. Q one to) thing things (stays thing went.0 to (all-come-leads things went.0 to went.2).grows (each thing from went.0 went.1)) (all-come-arrive things went.0 to went.2)
+        All-cons (λ one. Q one to) thing things
+        (stays thing went.0 to (all-come-leads things went.0 to went.2).grows (each thing from went.0 went.1))
+        (all-come-arrive things went.0 to went.2)
 
 -- what each keeps, all keep
 module _ {A : Type 0} (comes : A → Listing → Course) (P : A → Type 0) (K : Listing → Type 0)
@@ -98,11 +112,13 @@ module _ {A : Type 0} (comes : A → Listing → Course) (P : A → Type 0) (K :
   all-come-keep [] from to are kept h = let same : from ≡ to = cc in subst K same kept
   all-come-keep (thing ∷ things) from to are kept h =
       let went = then-went (all_come comes things) (comes thing from) to h in
-      all-come-keep things went.0 to (All-tail P thing things are) (keeps thing from went.0 (All-head P thing things are) kept went.1) went.2
+      all-come-keep things went.0 to (All-tail P thing things are)
+      (keeps thing from went.0 (All-head P thing things are) kept went.1) went.2
 
 module _ (task : Task) where
   pub result-comes-leads : (item : ℕ × SymState) (from to : Listing) → result_comes task item from ≡ Goes to → Leads from to
-  result-comes-leads item from to h = unless-none-leads (state_comes item.0) (state-comes-leads item.0) (at_node task item.0 item.1) from to h
+  result-comes-leads item from to h =
+      unless-none-leads (state_comes item.0) (state-comes-leads item.0) (at_node task item.0 item.1) from to h
 
   pub post-comes-leads : (post : Post) (from to : Listing) → post_comes task post from ≡ Goes to → Leads from to
   post-comes-leads post from to h = unless-none-leads exit_comes exit-comes-leads (at_exit task post) from to h
@@ -110,7 +126,8 @@ module _ (task : Task) where
   pub after-step-leads : (one : Step) (from to : Listing) → after_step task one from ≡ Goes to → Leads from to
   after-step-leads (step.Next nexts exits) from to h =
       let went = then-went (all_come (post_comes task) exits) (all_come (result_comes task) nexts from) to h in
-      leads-trans from went.0 to (all-come-leads (result_comes task) result-comes-leads nexts from went.0 went.1) (all-come-leads (post_comes task) post-comes-leads exits went.0 to went.2)
+      leads-trans from went.0 to (all-come-leads (result_comes task) result-comes-leads nexts from went.0 went.1)
+      (all-come-leads (post_comes task) post-comes-leads exits went.0 to went.2)
   after-step-leads (step.Fail cause line) from to h = cc
 
   pub started-leads : (pre : SymHeap) (first : Listing) → started task pre ≡ Goes first → Leads (empty_listing task) first
@@ -118,24 +135,28 @@ module _ (task : Task) where
 
 -- ---- what came is covered
 
-pub state-comes-covered : (node : ℕ) (state : SymState) (from to : Listing) → state_comes node state from ≡ Goes to → node < length to.nodes → IsCovered (listed_at node to) state
+pub state-comes-covered : (node : ℕ) (state : SymState) (from to : Listing) → state_comes node state from ≡ Goes to →
+    node < length to.nodes → IsCovered (listed_at node to) state
 state-comes-covered node state from to h within = ⊎_elim left_out listed (state-came node state from to h).course
   where
     left_out : (is_covered (listed_at node from) state ≡ true) × (from ≡ to) → IsCovered (listed_at node to) state
-    left_out (covered, same) = subst (λ (one : Listing). IsCovered (listed_at node one) state) same ((is_covered-Decides (listed_at node from) state).0 covered)
+    left_out (covered, same) =
+        subst (λ (one : Listing). IsCovered (listed_at node one) state) same ((is_covered-Decides (listed_at node from) state).0 covered)
 
     listed : (length (listed_at node from) < MOST_STATES) × (with_state node state from ≡ to) → IsCovered (listed_at node to) state
     listed (few, same) =
         let leads = state-leads node state from few in
         let as_many : length (with_state node state from).nodes ≡ length from.nodes = leads.grows.one_each in
-        let there : node < length (with_state node state from).nodes = subst (λ (one : Listing). node < length one.nodes) (sym same) within in
+        let there : node < length (with_state node state from).nodes =
+        subst (λ (one : Listing). node < length one.nodes) (sym same) within in
         let inside : node < length from.nodes = omega arith in
         subst (λ (one : Listing). IsCovered (listed_at node one) state) same (state, state-is-there node state from inside, inl refl)
 
 pub exit-comes-covered : (post : Post) (from to : Listing) → exit_comes post from ≡ Goes to → IsPostCovered to.exits post
 exit-comes-covered post from to h =
     ⊎_elim (λ out. subst (λ (one : Listing). IsPostCovered one.exits post) out.1 ((is_post_covered-Decides from.exits post).0 out.0))
-    (λ listed. subst (λ (one : Listing). IsPostCovered one.exits post) listed.1 (post, Contains-push from.exits post, inl refl)) (exit-came post from to h).course
+    (λ listed. subst (λ (one : Listing). IsPostCovered one.exits post) listed.1 (post, Contains-push from.exits post, inl refl))
+    (exit-came post from to h).course
 
 -- a state, abstracted, is covered at its node, if there is such a node
 abbrev pub Arrived : Task → ℕ × SymState → Listing → Type 0
@@ -177,10 +198,12 @@ module _ (task : Task) where
       by_form None k = tt
       by_form (Some form) k = exit-comes-covered form from to k
 
-  pub start-arrives : (pre : SymHeap) (first : Listing) → started task pre ≡ Goes first → 0 < length first.nodes → IfSome (start_at_node task pre) (IsCovered (listed_at 0 first))
+  pub start-arrives : (pre : SymHeap) (first : Listing) → started task pre ≡ Goes first → 0 < length first.nodes →
+      IfSome (start_at_node task pre) (IsCovered (listed_at 0 first))
   start-arrives pre first h within = by_form (start_at_node task pre) h
     where
-      by_form : (o : Option SymState) → unless_none (state_comes 0) o (empty_listing task) ≡ Goes first → IfSome o (IsCovered (listed_at 0 first))
+      by_form : (o : Option SymState) → unless_none (state_comes 0) o (empty_listing task) ≡ Goes first →
+          IfSome o (IsCovered (listed_at 0 first))
       by_form None k = tt
       by_form (Some form) k = state-comes-covered 0 form (empty_listing task) first k within
 
@@ -204,13 +227,17 @@ tests-open false false false parts states from more one other = tt
 
 pub state-comes-open : (node : ℕ) (state : SymState) (from : Listing) → IsOpen (state_comes node state from)
 state-comes-open node state from =
-    tests-open (ltb MOST_PARTS (parts_of state.heap)) (is_covered (listed_at node from) state) (leb MOST_STATES (length (listed_at node from))) (Spent budget.Parts 97) (Spent budget.States 17) from (with_state node state from) tt tt
+    tests-open (ltb MOST_PARTS (parts_of state.heap)) (is_covered (listed_at node from) state)
+    (leb MOST_STATES (length (listed_at node from))) (Spent budget.Parts 97) (Spent budget.States 17) from
+    (with_state node state from) tt tt
 
 pub exit-comes-open : (post : Post) (from : Listing) → IsOpen (exit_comes post from)
 exit-comes-open post from =
-    tests-open (ltb MOST_PARTS (parts_of post.heap)) (is_post_covered from.exits post) (leb MOST_STATES (length from.exits)) (Spent budget.Parts 97) (Spent budget.States 17) from (with_exit post from) tt tt
+    tests-open (ltb MOST_PARTS (parts_of post.heap)) (is_post_covered from.exits post) (leb MOST_STATES (length from.exits))
+    (Spent budget.Parts 97) (Spent budget.States 17) from (with_exit post from) tt tt
 
-then-open : (go_on : Listing → Course) → ((listing : Listing) → IsOpen (go_on listing)) → (course : Course) → IsOpen course → IsOpen (then_on go_on course)
+then-open : (go_on : Listing → Course) → ((listing : Listing) → IsOpen (go_on listing)) → (course : Course) → IsOpen course →
+    IsOpen (then_on go_on course)
 then-open go_on each (Goes listing) is = each listing
 then-open go_on each (Ends annotated) is = is
 
@@ -232,7 +259,8 @@ module _ (task : Task) where
 
   pub after-step-open : (one : Step) (from : Listing) → IsOpen (after_step task one from)
   after-step-open (step.Next nexts exits) from =
-      then-open (all_come (post_comes task) exits) (all-come-open (post_comes task) post-comes-open exits) (all_come (result_comes task) nexts from) (all-come-open (result_comes task) result-comes-open nexts from)
+      then-open (all_come (post_comes task) exits) (all-come-open (post_comes task) post-comes-open exits)
+      (all_come (result_comes task) nexts from) (all-come-open (result_comes task) result-comes-open nexts from)
   after-step-open (step.Fail cause line) from = tt
 
   pub started-open : (pre : SymHeap) → IsOpen (started task pre)

@@ -26,7 +26,8 @@ pub record Grows (from to : Listing) : Type 0 where
 pub record Leads (from to : Listing) : Type 0 where
   pub grows : Grows from to
   pub waits : (item : ℕ × SymState) → Contains from.queue item → Contains to.queue item
-  pub news : (at : ℕ) (state : SymState) → Contains (listed_at at to) state → Contains (listed_at at from) state ⊎ Contains to.queue (at, state)
+  pub news : (at : ℕ) (state : SymState) → Contains (listed_at at to) state →
+      Contains (listed_at at from) state ⊎ Contains to.queue (at, state)
 
 pub grows-refl : (listing : Listing) → Grows listing listing
 grows-refl listing = record { one_each = refl; states = λ at state is. is; exits = λ exit is. is; small = λ small. small }
@@ -46,11 +47,14 @@ pub leads-trans : (from mid to : Listing) → Leads from mid → Leads mid to �
 leads-trans from mid to first second = record {
   grows = grows-trans from mid to first.grows second.grows;
   waits = λ item is. second.waits item (first.waits item is);
-  news = λ at state is. ⊎_elim (λ there. ⊎_elim inl (λ waits. inr (second.waits (at, state) waits)) (first.news at state there)) inr (second.news at state is);
+  news =
+      λ at state is. ⊎_elim (λ there. ⊎_elim inl (λ waits. inr (second.waits (at, state) waits)) (first.news at state there)) inr
+      (second.news at state is);
 }
 
 -- what is covered stays covered
-pub covered-grows : (from to : Listing) → Grows from to → (at : ℕ) (state : SymState) → IsCovered (listed_at at from) state → IsCovered (listed_at at to) state
+pub covered-grows : (from to : Listing) → Grows from to → (at : ℕ) (state : SymState) → IsCovered (listed_at at from) state →
+    IsCovered (listed_at at to) state
 covered-grows from to grows at state is = (is.0, grows.states at is.0 is.1, is.2)
 
 pub exit-covered-grows : (from to : Listing) → Grows from to → (exit : Post) → IsPostCovered from.exits exit → IsPostCovered to.exits exit
@@ -68,29 +72,44 @@ module _ (node : ℕ) (state : SymState) (from : Listing) where
   listed-here within = get_or-set_same from.nodes node (listed_at node from ++ state ∷ []) [] within
 
   -- what is listed at a node is as it was, or has the state more
-  listed-after : (at : ℕ) → (listed_at at (with_state node state from) ≡ listed_at at from) ⊎ ((node ≡ at) × (listed_at at (with_state node state from) ≡ listed_at at from ++ state ∷ []))
+  listed-after : (at : ℕ) →
+      (listed_at at (with_state node state from) ≡ listed_at at from)
+      ⊎ ((node ≡ at) × (listed_at at (with_state node state from) ≡ listed_at at from ++ state ∷ []))
   listed-after at = ⊎_elim here other (cases_eq at node)
     where
-      here : at ≡ node → (listed_at at (with_state node state from) ≡ listed_at at from) ⊎ ((node ≡ at) × (listed_at at (with_state node state from) ≡ listed_at at from ++ state ∷ []))
+      here : at ≡ node →
+          (listed_at at (with_state node state from) ≡ listed_at at from)
+          ⊎ ((node ≡ at) × (listed_at at (with_state node state from) ≡ listed_at at from ++ state ∷ []))
       here same =
-          ⊎_elim (λ within. inr (sym same, subst (λ place. listed_at place (with_state node state from) ≡ listed_at place from ++ state ∷ []) (sym same) (listed-here within)))
-          (λ beyond. inl (ap (λ nodes. slice_index_or nodes at []) (set_past from.nodes node (listed_at node from ++ state ∷ []) beyond))) (cases_lt node (length from.nodes))
+          ⊎_elim (λ within. inr (
+            sym same,
+            subst (λ place. listed_at place (with_state node state from) ≡ listed_at place from ++ state ∷ []) (sym same)
+                (listed-here within),
+          ))
+          (λ beyond. inl (ap (λ nodes. slice_index_or nodes at []) (set_past from.nodes node (listed_at node from ++ state ∷ []) beyond)))
+          (cases_lt node (length from.nodes))
 
-      other : (at ≡ node → ⊥) → (listed_at at (with_state node state from) ≡ listed_at at from) ⊎ ((node ≡ at) × (listed_at at (with_state node state from) ≡ listed_at at from ++ state ∷ []))
+      other : (at ≡ node → ⊥) →
+          (listed_at at (with_state node state from) ≡ listed_at at from)
+          ⊎ ((node ≡ at) × (listed_at at (with_state node state from) ≡ listed_at at from ++ state ∷ []))
       other differ = inl (get_or-set_other from.nodes node at (listed_at node from ++ state ∷ []) [] differ)
 
   states-grow : (at : ℕ) (one : SymState) → Contains (listed_at at from) one → Contains (listed_at at (with_state node state from)) one
   states-grow at one is =
       ⊎_elim (λ same. subst (λ all. Contains all one) (sym same) is)
-      (λ more. subst (λ all. Contains all one) (sym more.1) (Contains-append_left (listed_at at from) (state ∷ []) one is)) (listed-after at)
+      (λ more. subst (λ all. Contains all one) (sym more.1) (Contains-append_left (listed_at at from) (state ∷ []) one is))
+      (listed-after at)
 
-  states-new : (at : ℕ) (one : SymState) → Contains (listed_at at (with_state node state from)) one → Contains (listed_at at from) one ⊎ Contains (from.queue ++ (node, state) ∷ []) (at, one)
+  states-new : (at : ℕ) (one : SymState) → Contains (listed_at at (with_state node state from)) one →
+      Contains (listed_at at from) one ⊎ Contains (from.queue ++ (node, state) ∷ []) (at, one)
   states-new at one is = ⊎_elim (λ same. inl (subst (λ all. Contains all one) same is)) grown (listed-after at)
     where
       grown : (node ≡ at) × (listed_at at (with_state node state from) ≡ listed_at at from ++ state ∷ []) →
           Contains (listed_at at from) one ⊎ Contains (from.queue ++ (node, state) ∷ []) (at, one)
       grown (there, more) =
-          ⊎_elim inl (λ it. inr (subst (λ (item : ℕ × SymState). Contains (from.queue ++ (node, state) ∷ []) item) (λ i. (there i, it i)) (Contains-push from.queue (node, state))))
+          ⊎_elim inl (λ it. inr
+          (subst (λ (item : ℕ × SymState). Contains (from.queue ++ (node, state) ∷ []) item) (λ i. (there i, it i))
+          (Contains-push from.queue (node, state))))
           (Contains-push_cases (listed_at at from) state one (subst (λ all. Contains all one) more is))
 
   pub state-leads : length (listed_at node from) < MOST_STATES → Leads from (with_state node state from)
@@ -100,7 +119,9 @@ module _ (node : ℕ) (state : SymState) (from : Listing) where
       states = states-grow;
       exits = λ exit is. is;
       small = λ small. record {
-        nodes = All-set (λ (states : List SymState). length states ≤ MOST_STATES) from.nodes node (listed_at node from ++ state ∷ []) (one-more (listed_at node from) state few) small.nodes;
+        nodes =
+            All-set (λ (states : List SymState). length states ≤ MOST_STATES) from.nodes node (listed_at node from ++ state ∷ [])
+            (one-more (listed_at node from) state few) small.nodes;
         exits = small.exits;
       };
     };

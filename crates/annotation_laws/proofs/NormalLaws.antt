@@ -38,12 +38,14 @@ normal-post-itself post is = ap (λ form. of_form (post_of post.ret) form) ((nor
 form-normal : (params : ℕ) (state : SymState) → IsForm params state → is_normal state ≡ true
 form-normal params state is = subst (λ one. is_normal one ≡ true) (sym is.2) (canon_state_is_normal is.0 params is.1)
 
-mark-normal : (task : Task) (mark : Option HeadMark) (state form : SymState) → is_normal state ≡ true → at_mark task mark state ≡ Some form → is_normal form ≡ true
+mark-normal : (task : Task) (mark : Option HeadMark) (state form : SymState) → is_normal state ≡ true → at_mark task mark state ≡ Some form
+    → is_normal form ≡ true
 mark-normal task None state form is h = let same : state ≡ form = cc in subst (λ one. is_normal one ≡ true) same is
 mark-normal task (Some mark) state form is h = abstract_head_is_normal state form task.flow mark task.structs h
 
 -- a state that comes to a node is normal, if it was
-pub at-node-normal : (task : Task) (at : ℕ) (state form : SymState) → is_normal state ≡ true → at_node task at state ≡ Some form → is_normal form ≡ true
+pub at-node-normal : (task : Task) (at : ℕ) (state form : SymState) → is_normal state ≡ true → at_node task at state ≡ Some form
+    → is_normal form ≡ true
 at-node-normal task at state form is h = mark-normal task (mark_at task.flow at) state form is h
 
 -- and so is a post that comes to an exit
@@ -54,7 +56,8 @@ start-form-normal : (task : Task) (pre : SymHeap) (start : SymState) → start_f
 start-form-normal task pre start h =
     let params = length task.flow.params in
     let made = made-of (λ one. canon_state one params) (start_state task.flow pre) start h in
-    subst (λ one. is_normal one ≡ true) made.made (canon_state_is_normal made.form params (form_is_normal (start_state task.flow pre) made.form made.form_is))
+    subst (λ one. is_normal one ≡ true) made.made
+    (canon_state_is_normal made.form params (form_is_normal (start_state task.flow pre) made.form made.form_is))
 
 -- the start state is
 pub start-normal : (task : Task) (pre : SymHeap) (form : SymState) → start_at_node task pre ≡ Some form → is_normal form ≡ true
@@ -65,8 +68,10 @@ start-normal task pre form h = by_start (start_form task.flow pre) refl h
     by_start (Some start) e k = at-node-normal task 0 start form (start-form-normal task pre start e) k
 
 -- the states that an execution gives are
-pub nexts-normal : (task : Task) (at : ℕ) (state : SymState) (one : Step) → one ≡ execution task at state → OfNexts (λ (next : ℕ × SymState). is_normal next.1 ≡ true) one
+pub nexts-normal : (task : Task) (at : ℕ) (state : SymState) (one : Step) → one ≡ execution task at state
+    → OfNexts (λ (next : ℕ × SymState). is_normal next.1 ≡ true) one
 nexts-normal task at state (step.Next nexts exits) same =
     All-weaker (λ (next : ℕ × SymState). IsForm (length task.flow.params) next.1) (λ (next : ℕ × SymState). is_normal next.1 ≡ true)
-    (λ next is. form-normal (length task.flow.params) next.1 is) nexts (answers_are_forms task.flow task.structs at state task.table nexts exits (sym same)).0
+    (λ next is. form-normal (length task.flow.params) next.1 is) nexts
+    (answers_are_forms task.flow task.structs at state task.table nexts exits (sym same)).0
 nexts-normal task at state (step.Fail cause line) same = tt

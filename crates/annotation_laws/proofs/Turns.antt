@@ -23,13 +23,17 @@ use Rattle.certificate_laws.proofs.GivenLaws.{step-given}
 use Rattle.certificate_laws.proofs.ResultLaws.{at_exit_is_well_formed, at_node_is_well_formed, start_at_node_is_well_formed}
 use Rattle.annotation_laws.specs.declared.parts.Annotated.{Annotated}
 use Rattle.annotation_laws.specs.declared.parts.Annotated.TheVariants.{Done}
-use Rattle.annotation_laws.specs.Annotation.{after_step, all_done, annotate, empty_listing, end_of, kept, post_comes, result_comes, started, turn_of, turns, with_turn, without_turns, MOST_TURNS}
+use Rattle.annotation_laws.specs.Annotation.{after_step, all_done, annotate, empty_listing, end_of, kept, post_comes, result_comes, started}
+use Rattle.annotation_laws.specs.Annotation.{turn_of, turns, with_turn, without_turns, MOST_TURNS}
 use Rattle.annotation_laws.specs.Laws.{IsSmallCert}
 use Rattle.annotation_laws.specs.Listing.{Course, Ends, Goes, Listing, MOST_STATES, all_come, listed_at}
-use Rattle.annotation_laws.proofs.Coming.{Arrived, HasLeft, IsNotDone, IsOpen, after-step-leads, after-step-open, all-come-arrive, all-come-leads, arrived-stays, left-stays, post-comes-leads, post-leaves, result-arrives, result-comes-leads, start-arrives, started-leads, started-open, then-went}
+use Rattle.annotation_laws.proofs.Coming.{Arrived, HasLeft, IsNotDone, IsOpen, after-step-leads, after-step-open, all-come-arrive}
+use Rattle.annotation_laws.proofs.Coming.{all-come-leads, arrived-stays, left-stays, post-comes-leads, post-leaves, result-arrives}
+use Rattle.annotation_laws.proofs.Coming.{result-comes-leads, start-arrives, started-leads, started-open, then-went}
 use Rattle.annotation_laws.proofs.Growing.{Grows, Leads, cert_of, covered-grows, grows-refl, grows-trans}
 use Rattle.annotation_laws.proofs.KeptLaws.{Contains-cons_cases}
-use Rattle.annotation_laws.proofs.ListedLaws.{AreListed, IfFew, IfPostFew, MayCome, MayLeave, after-step-listed, few-given, few-post-given, popped-listed, started-listed}
+use Rattle.annotation_laws.proofs.ListedLaws.{AreListed, IfFew, IfPostFew, MayCome, MayLeave, after-step-listed, few-given, few-post-given}
+use Rattle.annotation_laws.proofs.ListedLaws.{popped-listed, started-listed}
 use Rattle.annotation_laws.proofs.NormalLaws.{at-exit-normal, at-node-normal, nexts-normal, start-normal}
 
 -- ---- a state leads to listed ones
@@ -43,8 +47,12 @@ pub record IsGood (task : Task) (listing : Listing) (one : Step) : Type 0 where
 good-grows : (task : Task) (from to : Listing) → Grows from to → (one : Step) → IsGood task from one → IsGood task to one
 good-grows task from to grows (step.Next nexts exits) is = record {
   runs = tt;
-  nexts = All-weaker (λ item. Arrived task item from) (λ item. Arrived task item to) (λ item here. arrived-stays task item from to grows here) nexts is.nexts;
-  exits = All-weaker (λ exit. HasLeft task exit from) (λ exit. HasLeft task exit to) (λ exit here. left-stays task exit from to grows here) exits is.exits;
+  nexts =
+      All-weaker (λ item. Arrived task item from) (λ item. Arrived task item to)
+      (λ item here. arrived-stays task item from to grows here) nexts is.nexts;
+  exits =
+      All-weaker (λ exit. HasLeft task exit from) (λ exit. HasLeft task exit to)
+      (λ exit here. left-stays task exit from to grows here) exits is.exits;
 }
 good-grows task from to grows (step.Fail cause line) is = absurd is.runs
 
@@ -52,10 +60,16 @@ after-step-good : (task : Task) (one : Step) (from to : Listing) → after_step 
 after-step-good task (step.Next nexts exits) from to h =
     let went = then-went (all_come (post_comes task) exits) (all_come (result_comes task) nexts from) to h in
     let later = all-come-leads (post_comes task) (post-comes-leads task) exits went.0 to went.2 in
-    let arrived = all-come-arrive (result_comes task) (result-comes-leads task) (Arrived task) (arrived-stays task) (result-arrives task) nexts from went.0 went.1 in record {
+    let arrived =
+    all-come-arrive (result_comes task) (result-comes-leads task) (Arrived task) (arrived-stays task)
+    (result-arrives task) nexts from went.0 went.1 in record {
       runs = tt;
-      nexts = All-weaker (λ item. Arrived task item went.0) (λ item. Arrived task item to) (λ item here. arrived-stays task item went.0 to later.grows here) nexts arrived;
-      exits = all-come-arrive (post_comes task) (post-comes-leads task) (HasLeft task) (left-stays task) (post-leaves task) exits went.0 to went.2;
+      nexts =
+          All-weaker (λ item. Arrived task item went.0) (λ item. Arrived task item to)
+          (λ item here. arrived-stays task item went.0 to later.grows here) nexts arrived;
+      exits =
+          all-come-arrive (post_comes task) (post-comes-leads task) (HasLeft task) (left-stays task)
+          (post-leaves task) exits went.0 to went.2;
     }
 after-step-good task (step.Fail cause line) from to h = cc
 
@@ -72,48 +86,66 @@ IsTurnPost task post = IsGivenPost task post × (is_normal (as_state post) ≡ t
 pub record IsUnderWay (task : Task) (listing : Listing) : Type 0 where
   pub one_each : length listing.nodes ≡ length task.flow.nodes
   pub listed : AreListed (IsTurnState task) (IsTurnPost task) listing
-  pub done : (at : ℕ) (state : SymState) → Contains (listed_at at listing) state → Contains listing.queue (at, state) ⊎ IsGood task listing (execution task at state)
+  pub done : (at : ℕ) (state : SymState) → Contains (listed_at at listing) state →
+      Contains listing.queue (at, state) ⊎ IsGood task listing (execution task at state)
 
 -- the listing only grows in a turn
 turn-grows : (task : Task) (from : Listing) (at : ℕ) (state : SymState) (rest : List (ℕ × SymState)) (mid : Listing) →
     turn_of task at state (record { nodes = from.nodes; exits = from.exits; queue = rest }) ≡ Goes mid → Grows from mid
 turn-grows task from at state rest mid h =
-    let grows = (after-step-leads task (execution task at state) (record { nodes = from.nodes; exits = from.exits; queue = rest }) mid h).grows in
+    let grows =
+    (after-step-leads task (execution task at state) (record { nodes = from.nodes; exits = from.exits; queue = rest }) mid h).grows in
     record { one_each = grows.one_each; states = grows.states; exits = grows.exits; small = grows.small }
 
 module _ (task : Task) (good : IsTask task) where
-  may-come : (item : ℕ × SymState) → IsTaskState task item.1 → is_normal item.1 ≡ true → MayCome (IsTurnState task) (IsTurnPost task) task item
+  may-come : (item : ℕ × SymState) → IsTaskState task item.1 → is_normal item.1 ≡ true →
+      MayCome (IsTurnState task) (IsTurnPost task) task item
   may-come item is normal = by_form (at_node task item.0 item.1) refl
     where
       by_form : (o : Option SymState) → at_node task item.0 item.1 ≡ o → IfSome o (IfFew (IsTurnState task))
       by_form None e = tt
       by_form (Some form) e =
-          λ few. (few-given task form (at_node_is_well_formed task item.0 (length task.flow.slots) item.1 form good.structs good.flow.slots is e) few, at-node-normal task item.0 item.1 form normal e)
+          λ few. (
+            few-given task form
+                (at_node_is_well_formed task item.0
+                (length task.flow.slots) item.1 form good.structs good.flow.slots is e) few,
+            at-node-normal task item.0 item.1 form normal e,
+          )
 
   may-leave : (post : Post) → IsTaskPost task post → MayLeave (IsTurnState task) (IsTurnPost task) task post
   may-leave post is = by_form (at_exit task post) refl
     where
       by_form : (o : Option Post) → at_exit task post ≡ o → IfSome o (IfPostFew (IsTurnPost task))
       by_form None e = tt
-      by_form (Some form) e = λ few. (few-post-given task form (at_exit_is_well_formed task post form good.structs is e) few, at-exit-normal task post form e)
+      by_form (Some form) e =
+          λ few. (few-post-given task form (at_exit_is_well_formed task post form good.structs is e) few, at-exit-normal task post form e)
 
-  start-may-come : (pre : SymHeap) → IsSymHeap widest task.structs (length task.flow.params) pre → IfSome (start_at_node task pre) (IfFew (IsTurnState task))
+  start-may-come : (pre : SymHeap) → IsSymHeap widest task.structs (length task.flow.params) pre →
+      IfSome (start_at_node task pre) (IfFew (IsTurnState task))
   start-may-come pre is = by_form (start_at_node task pre) refl
     where
       by_form : (o : Option SymState) → start_at_node task pre ≡ o → IfSome o (IfFew (IsTurnState task))
       by_form None e = tt
-      by_form (Some form) e = λ few. (few-given task form (start_at_node_is_well_formed task pre form good.structs good.flow is e) few, start-normal task pre form e)
+      by_form (Some form) e =
+          λ few. (
+            few-given task form
+                (start_at_node_is_well_formed task pre form good.structs good.flow is e) few,
+            start-normal task pre form e,
+          )
 
-  nexts-may-come : (one : Step) → IsGivenStep task one → OfNexts (λ (next : ℕ × SymState). is_normal next.1 ≡ true) one → OfNexts (MayCome (IsTurnState task) (IsTurnPost task) task) one
+  nexts-may-come : (one : Step) → IsGivenStep task one → OfNexts (λ (next : ℕ × SymState). is_normal next.1 ≡ true) one →
+      OfNexts (MayCome (IsTurnState task) (IsTurnPost task) task) one
   nexts-may-come (step.Next nexts exits) is normal = λ k d below. may-come (slice_index_or nexts k d) (is.0 k d below) (normal k d below)
   nexts-may-come (step.Fail cause line) is normal = tt
 
   exits-may-leave : (one : Step) → IsGivenStep task one → OfExits (MayLeave (IsTurnState task) (IsTurnPost task) task) one
-  exits-may-leave (step.Next nexts exits) is = All-weaker (IsTaskPost task) (MayLeave (IsTurnState task) (IsTurnPost task) task) may-leave exits is.1
+  exits-may-leave (step.Next nexts exits) is =
+      All-weaker (IsTaskPost task) (MayLeave (IsTurnState task) (IsTurnPost task) task) may-leave exits is.1
   exits-may-leave (step.Fail cause line) is = tt
 
   -- the first of the queue has its turn
-  turn-goes : (from : Listing) (at : ℕ) (state : SymState) (rest : List (ℕ × SymState)) (to : Listing) → from.queue ≡ (at, state) ∷ rest → IsUnderWay task from →
+  turn-goes : (from : Listing) (at : ℕ) (state : SymState) (rest : List (ℕ × SymState)) (to : Listing) → from.queue ≡ (at, state) ∷ rest →
+      IsUnderWay task from →
       turn_of task at state (record { nodes = from.nodes; exits = from.exits; queue = rest }) ≡ Goes to → IsUnderWay task to
   turn-goes from at state rest to queued way h =
       let popped : Listing = record { nodes = from.nodes; exits = from.exits; queue = rest } in
@@ -122,17 +154,24 @@ module _ (task : Task) (good : IsTask task) where
       let given = step-given task good at state all.0.0 one refl in
       let leads = after-step-leads task one popped to h in record {
         one_each = leads.grows.one_each ∙ way.one_each;
-        listed = after-step-listed (IsTurnState task) (IsTurnPost task) task one popped to (nexts-may-come one given (nexts-normal task at state one refl)) (exits-may-leave one given) all.1 h;
+        listed =
+            after-step-listed (IsTurnState task) (IsTurnPost task) task one popped to
+            (nexts-may-come one given (nexts-normal task at state one refl)) (exits-may-leave one given) all.1 h;
         done = λ there other is. ⊎_elim (before leads there other) inl (leads.news there other is);
       }
     where
-      before : Leads (record { nodes = from.nodes; exits = from.exits; queue = rest }) to → (there : ℕ) (other : SymState) → Contains (listed_at there from) other →
+      before : Leads (record { nodes = from.nodes; exits = from.exits; queue = rest }) to → (there : ℕ) (other : SymState) →
+          Contains (listed_at there from) other →
           Contains to.queue (there, other) ⊎ IsGood task to (execution task there other)
-      before leads there other is = ⊎_elim waiting (λ was. inr (good-grows task from to (turn-grows task from at state rest to h) (execution task there other) was)) (way.done there other is)
+      before leads there other is =
+          ⊎_elim waiting (λ was. inr (good-grows task from to (turn-grows task from at state rest to h) (execution task there other) was))
+          (way.done there other is)
         where
           waiting : Contains from.queue (there, other) → Contains to.queue (there, other) ⊎ IsGood task to (execution task there other)
           waiting has =
-              ⊎_elim (λ same. inr (subst (λ (item : ℕ × SymState). IsGood task to (execution task item.0 item.1)) same (after-step-good task (execution task at state) (record { nodes = from.nodes; exits = from.exits; queue = rest }) to h)))
+              ⊎_elim (λ same. inr
+              (subst (λ (item : ℕ × SymState). IsGood task to (execution task item.0 item.1)) same
+              (after-step-good task (execution task at state) (record { nodes = from.nodes; exits = from.exits; queue = rest }) to h)))
               (λ later. inl (leads.waits (there, other) later))
               (Contains-cons_cases (at, state) rest (there, other) (subst (λ all. Contains all (there, other)) queued has))
 
@@ -147,32 +186,45 @@ pub record Finishes (task : Task) (from : Listing) (posts : List Post) (cert : C
   pub empty : last.queue ≡ []
   pub under_way : IsTask task → IsUnderWay task from → IsUnderWay task last
 
-finishes-here : (task : Task) (listing : Listing) (posts : List Post) (cert : Cert) → listing.queue ≡ [] → all_done listing ≡ Done posts cert → Finishes task listing posts cert
+finishes-here : (task : Task) (listing : Listing) (posts : List Post) (cert : Cert) → listing.queue ≡ [] →
+    all_done listing ≡ Done posts cert → Finishes task listing posts cert
 finishes-here task listing posts cert empty h =
     let same_posts : kept listing.exits ≡ posts = cc in
     let same_cert : cert_of listing ≡ cert = cc in
-    record { last = listing; grows = grows-refl listing; posts_are = same_posts; cert_is = same_cert; empty = empty; under_way = λ good way. way }
+    record {
+      last = listing;
+      grows = grows-refl listing;
+      posts_are = same_posts;
+      cert_is = same_cert;
+      empty = empty;
+      under_way = λ good way. way;
+    }
 
 -- what was done is what further turns give
-pub end-went : (again : Listing → Annotated) (course : Course) (posts : List Post) (cert : Cert) → IsOpen course → end_of again course ≡ Done posts cert →
+pub end-went : (again : Listing → Annotated) (course : Course) (posts : List Post) (cert : Cert) → IsOpen course →
+    end_of again course ≡ Done posts cert →
     (mid : Listing) × (course ≡ Goes mid) × (again mid ≡ Done posts cert)
 end-went again (Goes mid) posts cert is_open h = (mid, refl, h)
 end-went again (Ends annotated) posts cert is_open h = absurd (subst IsNotDone h is_open)
 
-pub turns-finish : (left : ℕ) (task : Task) (listing : Listing) (posts : List Post) (cert : Cert) → turns left task listing ≡ Done posts cert → Finishes task listing posts cert
+pub turns-finish : (left : ℕ) (task : Task) (listing : Listing) (posts : List Post) (cert : Cert) →
+    turns left task listing ≡ Done posts cert → Finishes task listing posts cert
 turns-finish zero task listing posts cert h = by_queue listing.queue refl h
   where
-    by_queue : (queue : List (ℕ × SymState)) → listing.queue ≡ queue → without_turns listing queue ≡ Done posts cert → Finishes task listing posts cert
+    by_queue : (queue : List (ℕ × SymState)) → listing.queue ≡ queue → without_turns listing queue ≡ Done posts cert →
+        Finishes task listing posts cert
     by_queue [] e k = finishes-here task listing posts cert e k
     by_queue (item ∷ queue) e k = cc
 turns-finish (suc left) task listing posts cert h = by_queue (λ mid k. turns-finish left task mid posts cert k) listing.queue refl h
   where
-    by_queue : ((mid : Listing) → turns left task mid ≡ Done posts cert → Finishes task mid posts cert) → (queue : List (ℕ × SymState)) → listing.queue ≡ queue →
+    by_queue : ((mid : Listing) → turns left task mid ≡ Done posts cert → Finishes task mid posts cert) → (queue : List (ℕ × SymState)) →
+        listing.queue ≡ queue →
         with_turn (turns left task) task listing queue ≡ Done posts cert → Finishes task listing posts cert
     by_queue again [] e k = finishes-here task listing posts cert e k
     by_queue again ((at, state) ∷ queue) e k =
         let popped : Listing = record { nodes = listing.nodes; exits = listing.exits; queue = queue } in
-        let went = end-went (turns left task) (turn_of task at state popped) posts cert (after-step-open task (execution task at state) popped) k in
+        let went =
+        end-went (turns left task) (turn_of task at state popped) posts cert (after-step-open task (execution task at state) popped) k in
         let later = again went.0 went.2 in record {
           last = later.last;
           grows = grows-trans listing went.0 later.last (turn-grows task listing at state queue went.0 went.1) later.grows;
@@ -184,18 +236,25 @@ turns-finish (suc left) task listing posts cert h = by_queue (λ mid k. turns-fi
 
 -- ---- from the start
 
-listed-nowhere : {A : Type 0} (nodes : List A) (at : ℕ) (state : SymState) → Contains (slice_index_or (map (λ (node : A). []) nodes) at []) state → ⊥
+listed-nowhere : {A : Type 0} (nodes : List A) (at : ℕ) (state : SymState) →
+    Contains (slice_index_or (map (λ (node : A). []) nodes) at []) state → ⊥
 listed-nowhere [] at state (place, within, is) = omega arith
 listed-nowhere (node ∷ nodes) zero state (place, within, is) = omega arith
 listed-nowhere (node ∷ nodes) (suc at) state has = listed-nowhere nodes at state has
 
 empty-small : (task : Task) → IsSmallCert (cert_of (empty_listing task))
-empty-small task = record { nodes = All-map (λ (states : List SymState). length states ≤ MOST_STATES) (λ (node : Node). []) task.flow.nodes (λ k d below. omega arith); exits = omega arith }
+empty-small task =
+    record {
+      nodes = All-map (λ (states : List SymState). length states ≤ MOST_STATES) (λ (node : Node). []) task.flow.nodes
+          (λ k d below. omega arith);
+      exits = omega arith;
+    }
 
 pub started-small : (task : Task) (pre : SymHeap) (first : Listing) → started task pre ≡ Goes first → IsSmallCert (cert_of first)
 started-small task pre first h = (started-leads task pre first h).grows.small (empty-small task)
 
-started-under-way : (task : Task) (pre : SymHeap) (first : Listing) → IsTask task → IsSymHeap widest task.structs (length task.flow.params) pre → started task pre ≡ Goes first → IsUnderWay task first
+started-under-way : (task : Task) (pre : SymHeap) (first : Listing) → IsTask task →
+    IsSymHeap widest task.structs (length task.flow.params) pre → started task pre ≡ Goes first → IsUnderWay task first
 started-under-way task pre first good is h =
     let leads = started-leads task pre first h in record {
       one_each = leads.grows.one_each ∙ length-map task.flow.nodes (λ (node : Node). []);
@@ -216,13 +275,15 @@ pub record IsFinished (task : Task) (pre : SymHeap) (listing : Listing) : Type 0
   pub start : IfSome (start_at_node task pre) (IsCovered (listed_at 0 listing))
   pub done : (at : ℕ) (state : SymState) → Contains (listed_at at listing) state → IsGood task listing (execution task at state)
 
-pub annotates : (task : Task) (pre : SymHeap) (posts : List Post) (cert : Cert) → annotate task pre ≡ Done posts cert → Annotates task pre posts cert
+pub annotates : (task : Task) (pre : SymHeap) (posts : List Post) (cert : Cert) → annotate task pre ≡ Done posts cert →
+    Annotates task pre posts cert
 unfolding annotate
 annotates task pre posts cert h =
     let went = end-went (turns MOST_TURNS task) (started task pre) posts cert (started-open task pre) h in
     record { first = went.0; starts = went.1; finishes = turns-finish MOST_TURNS task went.0 posts cert went.2 }
 
-pub is-finished : (task : Task) (pre : SymHeap) (posts : List Post) (cert : Cert) → IsTask task → IsSymHeap widest task.structs (length task.flow.params) pre →
+pub is-finished : (task : Task) (pre : SymHeap) (posts : List Post) (cert : Cert) → IsTask task →
+    IsSymHeap widest task.structs (length task.flow.params) pre →
     (all : Annotates task pre posts cert) → IsFinished task pre all.finishes.last
 is-finished task pre posts cert good is all =
     let last = all.finishes.last in
@@ -236,7 +297,8 @@ is-finished task pre posts cert good is all =
     some_nodes : 0 < length all.first.nodes
     some_nodes =
         let leads = started-leads task pre all.first all.starts in
-        let as_many : length all.first.nodes ≡ length task.flow.nodes = leads.grows.one_each ∙ length-map task.flow.nodes (λ (node : Node). []) in
+        let as_many : length all.first.nodes ≡ length task.flow.nodes =
+        leads.grows.one_each ∙ length-map task.flow.nodes (λ (node : Node). []) in
         let entry : 0 < length task.flow.nodes = good.flow.entry in
         omega arith
 

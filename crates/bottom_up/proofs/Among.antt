@@ -1,5 +1,6 @@
 -- The first summary of a name among answers, one after the other.
-use Rattle.std.proofs.Common.{◌≡◌, ℕ, suc, ◌+◌, ◌<◌, List, ◌∷◌, length, drop, get_or, Some, None, Option, sym, ap, ◌∙◌, find, flat_map, bytes_eq, arith}
+use Rattle.std.proofs.Common.{◌≡◌, ℕ, suc, ◌+◌, ◌<◌, List, ◌∷◌, length, drop, get_or, Some, None, Option, sym, ap, ◌∙◌, find, flat_map}
+use Rattle.std.proofs.Common.{bytes_eq, arith}
 use Rattle.std.specs.Option.{option_or}
 use Rattle.std.proofs.lemmas.List.Folds.{find-append}
 use Rattle.std.proofs.Math.Seq.{drop-cons}
@@ -9,7 +10,8 @@ use Rattle.shape_data.specs.declared.answer.ProcSummary.{ProcSummary}
 use Rattle.bottom_up.specs.Placed.{answers_kept, summary_among}
 
 module _ (kept : List Kept) (i : ℕ) (item : Kept) (name : List ℕ) (lt : i < length kept) (is : item ≡ get_or kept i item)
-    (found : Option ProcSummary) (found_is : found ≡ find (λ (summary : ProcSummary). bytes_eq summary.name name) item.answer.value.procs) where
+    (found : Option ProcSummary)
+    (found_is : found ≡ find (λ (summary : ProcSummary). bytes_eq summary.name name) item.answer.value.procs) where
   abbrev rest : Option ProcSummary
   rest = summary_among (answers_kept (drop (i + 1) kept)) name
 

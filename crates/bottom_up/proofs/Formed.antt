@@ -31,7 +31,8 @@ pub record IsOutside (program : Program) (place : ℕ) (outer : Outer) : Type 0 
   pub name : flow.name ≡ outer.name
   pub params : flow.params ≡ outer.params
 
-pub is_outside : (program : Program) → IsProgram program → (place : ℕ) (part : Component) (k : ℕ) (outer : Outer) → slice_get (program_components program) place ≡ Some part →
+pub is_outside : (program : Program) → IsProgram program → (place : ℕ) (part : Component) (k : ℕ) (outer : Outer) →
+    slice_get (program_components program) place ≡ Some part →
     slice_get part.outer k ≡ Some outer → IsOutside program place outer
 is_outside program formed place part k outer at at_k =
     let one = component_at program formed place part at in
@@ -48,7 +49,8 @@ is_outside program formed place part k outer at at_k =
       params = own.6;
     }
 
-module _ (limits : Limits) (answer_of : Key → Answer) (answers_fit : (key : Key) → IsKey limits key → IsAnswer limits key (answer_of key)) (program : Program) (formed : IsProgram program) where
+module _ (limits : Limits) (answer_of : Key → Answer) (answers_fit : (key : Key) → IsKey limits key → IsAnswer limits key (answer_of key))
+    (program : Program) (formed : IsProgram program) where
   -- the answers, and the key of a component over them
   abbrev pub answers : List Answer
   answers = answers_in (known_by answer_of program)
@@ -59,33 +61,45 @@ module _ (limits : Limits) (answer_of : Key → Answer) (answers_fit : (key : Ke
   pub has_structs : (part : Component) → ContainsStructures program.structs (key_at part).structs
   has_structs part = used_contained program.structs formed.structs part.flows (map (callee_from answers) part.outer)
 
-  callee_is : (place : ℕ) (outer : Outer) → ((i : ℕ) (part : Component) → i < place → slice_get (program_components program) i ≡ Some part → IsKey limits (key_at part)) →
+  callee_is : (place : ℕ) (outer : Outer) →
+      ((i : ℕ) (part : Component) → i < place → slice_get (program_components program) i ≡ Some part → IsKey limits (key_at part)) →
       IsOutside program place outer → IsCallee limits program.structs (callee_from answers outer)
   callee_is place outer below out =
       let key : Key = key_at out.part in
       let is_key : IsKey limits key = below outer.component out.part out.before out.at in
-      let made : IsCallee limits program.structs (record { name = out.flow.name; params = out.flow.params; specs = specs_in (answer_of key) out.flow.name }) =
-      answers_are_callees limits program.structs key (answer_of key) out.flow is_key (answers_fit key is_key) (has_structs out.part) (contained_at out.part.flows out.member out.flow out.flow_at) in
-      let named : IsCallee limits program.structs (record { name = outer.name; params = out.flow.params; specs = specs_in (answer_of key) outer.name }) =
-      subst (λ n. IsCallee limits program.structs (record { name = n; params = out.flow.params; specs = specs_in (answer_of key) n })) out.name made in
+      let made : IsCallee limits program.structs
+      (record { name = out.flow.name; params = out.flow.params; specs = specs_in (answer_of key) out.flow.name }) =
+      answers_are_callees limits program.structs key (answer_of key) out.flow is_key (answers_fit key is_key) (has_structs out.part)
+      (contained_at out.part.flows out.member out.flow out.flow_at) in
+      let named : IsCallee limits program.structs
+      (record { name = outer.name; params = out.flow.params; specs = specs_in (answer_of key) outer.name }) =
+      subst (λ n. IsCallee limits program.structs
+      (record { name = n; params = out.flow.params; specs = specs_in (answer_of key) n })) out.name made in
       let whole : IsCallee limits program.structs (callee_by outer (Some (answer_of key))) =
-      subst (λ p. IsCallee limits program.structs (record { name = outer.name; params = p; specs = specs_in (answer_of key) outer.name })) out.params named in
-      subst (λ o. IsCallee limits program.structs (callee_by outer o)) (sym (answer_is answer_of program outer.component out.part out.at)) whole
+      subst (λ p. IsCallee limits program.structs
+      (record { name = outer.name; params = p; specs = specs_in (answer_of key) outer.name })) out.params named in
+      subst (λ o. IsCallee limits program.structs (callee_by outer o))
+      (sym (answer_is answer_of program outer.component out.part out.at)) whole
 
   -- over answers that are well formed for the keys before, it is well formed
   key_over_formed : (place : ℕ) (part : Component) → slice_get (program_components program) place ≡ Some part →
-      ((i : ℕ) (other : Component) → i < place → slice_get (program_components program) i ≡ Some other → IsKey limits (key_at other)) → IsKey limits (key_at part)
+      ((i : ℕ) (other : Component) → i < place → slice_get (program_components program) i ≡ Some other → IsKey limits (key_at other)) →
+      IsKey limits (key_at part)
   key_over_formed place part at below =
       composed_are_formed limits program place part (map (callee_from answers) part.outer) formed at
       (zip_mapped IsCalleeFor (callee_from answers) part.outer (λ outer. record { name = refl; params = refl }))
       (all_of (IsCallee limits program.structs) (map (callee_from answers) part.outer)
       (λ k callee at_k.
-      let from = mapped_some (callee_from answers) (slice_get part.outer k) callee (sym (slice_get-map (callee_from answers) part.outer k) ∙ at_k) in
-      subst (IsCallee limits program.structs) (sym from.2) (callee_is place from.0 below (is_outside program formed place part k from.0 at from.1))))
+      let from =
+      mapped_some (callee_from answers) (slice_get part.outer k) callee (sym (slice_get-map (callee_from answers) part.outer k) ∙ at_k) in
+      subst (IsCallee limits program.structs) (sym from.2)
+      (callee_is place from.0 below (is_outside program formed place part k from.0 at from.1))))
 
-  keys_below : (bound place : ℕ) (part : Component) → place < bound → slice_get (program_components program) place ≡ Some part → IsKey limits (key_at part)
+  keys_below : (bound place : ℕ) (part : Component) → place < bound → slice_get (program_components program) place ≡ Some part →
+      IsKey limits (key_at part)
   keys_below zero place part lt at = absurd (omega (arith, lt))
-  keys_below (suc bound) place part lt at = key_over_formed place part at (λ i other less at_i. keys_below bound i other (omega (arith, less, lt)) at_i)
+  keys_below (suc bound) place part lt at =
+      key_over_formed place part at (λ i other less at_i. keys_below bound i other (omega (arith, less, lt)) at_i)
 
   -- each component's key is well formed
   pub key_is : (place : ℕ) (part : Component) → slice_get (program_components program) place ≡ Some part → IsKey limits (key_at part)

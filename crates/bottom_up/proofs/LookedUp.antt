@@ -14,11 +14,13 @@ use Rattle.loaded_answers.specs.Lookup.{lookup}
 use Rattle.bottom_up.specs.Laws.{AreRight, IsRight, LookedUpAreRight}
 
 -- what holds of each loaded entry, and of what solving gives, holds of it
-pub looked_up : (Q : Solution → Type 0) (loaded : List Solution) → All Q loaded → (P : Key → Answer → Type 0) → ((one : Solution) → Q one → P one.key one.answer) →
+pub looked_up : (Q : Solution → Type 0) (loaded : List Solution) → All Q loaded → (P : Key → Answer → Type 0) →
+    ((one : Solution) → Q one → P one.key one.answer) →
     (key : Key) → P key (solve key) → P key (lookup loaded key)
 looked_up Q loaded all P holds key solved = by_entry (find (λ (one : Solution). key_test.0 one.key key) loaded) refl
   where
-    by_entry : (o : Option Solution) → find (λ (one : Solution). key_test.0 one.key key) loaded ≡ o → P key (unwrap_or (option_map (λ (one : Solution). one.answer) o) (solve key))
+    by_entry : (o : Option Solution) → find (λ (one : Solution). key_test.0 one.key key) loaded ≡ o →
+        P key (unwrap_or (option_map (λ (one : Solution). one.answer) o) (solve key))
     by_entry None e = solved
     by_entry (Some entry) e =
         let there = found (λ (one : Solution). key_test.0 one.key key) loaded entry e in
@@ -28,5 +30,7 @@ pub looked_up_are_right : AreRight solve → LookedUpAreRight
 looked_up_are_right solved loaded right = record {
   inductive = λ key is. looked_up IsRight loaded right Inductive (λ one own. own.inductive) key (solved.inductive key is);
   formed = λ key is. looked_up IsRight loaded right (IsAnswer analysable) (λ one own. own.formed) key (solved.formed key is);
-  reasons = λ key is. looked_up IsRight loaded right (λ k answer. All HasReason answer.procs) (λ one own. own.reasons) key (solved.reasons key is);
+  reasons =
+      λ key is. looked_up IsRight loaded right (λ k answer. All HasReason answer.procs) (λ one own. own.reasons) key
+      (solved.reasons key is);
 }

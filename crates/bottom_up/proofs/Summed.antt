@@ -30,18 +30,22 @@ given_of f (x ∷ xs) = ap (cons_option (f x)) (given_of f xs)
 
 -- ---- the summaries of names among answers
 
-module _ (answers : List Answer) (places : List Place) (procs : List Proc) (are : map (summary_in answers) places ≡ map (λ (proc : Proc). summary_among answers proc.flow.name) procs) where
+module _ (answers : List Answer) (places : List Place) (procs : List Proc)
+    (are : map (summary_in answers) places ≡ map (λ (proc : Proc). summary_among answers proc.flow.name) procs) where
   pub one_place_each : length places ≡ length procs
-  one_place_each = sym (length-map places (summary_in answers)) ∙ ap length are ∙ length-map procs (λ (proc : Proc). summary_among answers proc.flow.name)
+  one_place_each = sym (length-map places (summary_in answers)) ∙ ap length are
+      ∙ length-map procs (λ (proc : Proc). summary_among answers proc.flow.name)
 
-  pub all_are_there : All (λ (proc : Proc). IsSome (summary_among answers proc.flow.name)) procs → All (λ place. IsSome (summary_in answers place)) places
+  pub all_are_there : All (λ (proc : Proc). IsSome (summary_among answers proc.flow.name)) procs
+      → All (λ place. IsSome (summary_in answers place)) places
   all_are_there named =
       all_unmapped (λ o. IsSome o) (summary_in answers) places
       (subst (All (λ o. IsSome o)) (sym are) (All-map (λ o. IsSome o) (λ (proc : Proc). summary_among answers proc.flow.name) procs named))
 
   pub summaries_are : filter_map (summary_in answers) places ≡ filter_map (λ (proc : Proc). summary_among answers proc.flow.name) procs
   summaries_are =
-      sym (given_of (summary_in answers) places) ∙ ap (filter_map (λ o. o)) are ∙ given_of (λ (proc : Proc). summary_among answers proc.flow.name) procs
+      sym (given_of (summary_in answers) places) ∙ ap (filter_map (λ o. o)) are
+      ∙ given_of (λ (proc : Proc). summary_among answers proc.flow.name) procs
 
 -- ---- the summaries of what is known
 
@@ -49,7 +53,8 @@ known_are : (known : List Solution) → summaries_in (answers_in known) ≡ all_
 known_are known = flat_map-map (λ (answer : Answer). answer.procs) (λ (one : Solution). one.answer) known
 
 -- the answers are those of what is known
-module _ (limits : Limits) (answer_of : Key → Answer) (answers_fit : (key : Key) → IsKey limits key → IsAnswer limits key (answer_of key)) (program : Program) (formed : IsProgram program)
+module _ (limits : Limits) (answer_of : Key → Answer) (answers_fit : (key : Key) → IsKey limits key → IsAnswer limits key (answer_of key))
+    (program : Program) (formed : IsProgram program)
     (answers : List Answer) (same : answers ≡ answers_in (known_by answer_of program)) where
   -- each procedure's name has a summary
   pub all_are_named : All (λ (proc : Proc). IsSome (summary_among answers proc.flow.name)) program.procs
@@ -58,11 +63,13 @@ module _ (limits : Limits) (answer_of : Key → Answer) (answers_fit : (key : Ke
       (λ number proc at.
       let own = each_summarized limits answer_of answers_fit program formed number proc at in
       let named : summary_among answers proc.flow.name ≡ Some own.summary =
-      ap (λ a. summary_among a proc.flow.name) same ∙ ap (λ all. first_named all proc.flow.name) (known_are (known_by answer_of program)) ∙ own.found in
+      ap (λ a. summary_among a proc.flow.name) same ∙ ap (λ all. first_named all proc.flow.name) (known_are (known_by answer_of program))
+      ∙ own.found in
       subst (λ o. IsSome o) (sym named) refl)
 
   -- which is what is known of the procedure
-  pub summaries_known : filter_map (λ (proc : Proc). summary_among answers proc.flow.name) program.procs ≡ summaries_for (known_by answer_of program) program.procs
+  pub summaries_known : filter_map (λ (proc : Proc). summary_among answers proc.flow.name) program.procs
+      ≡ summaries_for (known_by answer_of program) program.procs
   summaries_known =
       ap (λ a. filter_map (λ (proc : Proc). summary_among a proc.flow.name) program.procs) same ∙
       ap (λ all. filter_map (λ (proc : Proc). first_named all proc.flow.name) program.procs) (known_are (known_by answer_of program))

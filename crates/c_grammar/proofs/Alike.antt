@@ -12,10 +12,18 @@ use Rattle.c_grammar.specs.declared.class.Class.TheVariants as class
 use Rattle.c_grammar.specs.Classes
 use Rattle.c_grammar.specs.Classes.{class_in, signs, number_of}
 use Rattle.c_grammar.specs.Words.{Word, begins_cast, class_of, words_of}
-use Rattle.c_grammar.specs.Trees.{Name, Specifier, Param, Params, Expr, Links, Args, Simple, Initialized, Local, ForInit, Stmt, Stmts, Item, File}
-use Rattle.c_grammar.specs.Spelling.{Rule, ◌⨾◌, word, word_at, open_paren, name, number, each, maybe, specifier, stars, declarator, fields, struct_body, param, is_void, is_void_alone, params, head, class_of_binary, level_of, class_of_prefix, cast, size_of, malloc, expr_at, links_at, call_args, more_args, class_of_assign, class_of_step, simple, initialized, local, for_init, NoElse, stmt, stmts, item, Spells}
-use Rattle.c_grammar.specs.Nesting.{nesting, links_nesting, args_nesting, deepest, maybe_nesting, simple_nesting, initialized_nesting, local_nesting, init_nesting, stmt_nesting, stmts_nesting, item_nesting, file_nesting}
-use Rattle.c_grammar.specs.Placeless.{nowhere, placeless_maybe, placeless_name, placeless_specifier, placeless_declarator, placeless_fields, placeless_param, placeless_params, placeless_head, placeless_expr, placeless_links, placeless_args, placeless_simple, placeless_initialized, placeless_local, placeless_init, placeless_stmt, placeless_stmts, placeless_item, placeless}
+use Rattle.c_grammar.specs.Trees.{Name, Specifier, Param, Params, Expr, Links, Args, Simple, Initialized, Local, ForInit, Stmt, Stmts, Item}
+use Rattle.c_grammar.specs.Trees.{File}
+use Rattle.c_grammar.specs.Spelling.{Rule, ◌⨾◌, word, word_at, open_paren, name, number, each, maybe, specifier, stars, declarator, fields}
+use Rattle.c_grammar.specs.Spelling.{struct_body, param, is_void, is_void_alone, params, head, class_of_binary, level_of, class_of_prefix}
+use Rattle.c_grammar.specs.Spelling.{cast, size_of, malloc, expr_at, links_at, call_args, more_args, class_of_assign, class_of_step, simple}
+use Rattle.c_grammar.specs.Spelling.{initialized, local, for_init, NoElse, stmt, stmts, item, Spells}
+use Rattle.c_grammar.specs.Nesting.{nesting, links_nesting, args_nesting, deepest, maybe_nesting, simple_nesting, initialized_nesting}
+use Rattle.c_grammar.specs.Nesting.{local_nesting, init_nesting, stmt_nesting, stmts_nesting, item_nesting, file_nesting}
+use Rattle.c_grammar.specs.Placeless.{nowhere, placeless_maybe, placeless_name, placeless_specifier, placeless_declarator, placeless_fields}
+use Rattle.c_grammar.specs.Placeless.{placeless_param, placeless_params, placeless_head, placeless_expr, placeless_links, placeless_args}
+use Rattle.c_grammar.specs.Placeless.{placeless_simple, placeless_initialized, placeless_local, placeless_init, placeless_stmt}
+use Rattle.c_grammar.specs.Placeless.{placeless_stmts, placeless_item, placeless}
 
 abbrev pub IsAlike : Word → Word → Type 0
 IsAlike one other = (one.class ≡ other.class) × (one.text ≡ other.text)
@@ -71,8 +79,13 @@ again_number : (place : Place) (value : ℕ) (from to from' : List Word) → num
     → (place' : Place) × (to' : List Word) × number place' value from' to' × AreAlike to to'
 again_number place value [] to from' h alike = absurd h
 again_number place value (first ∷ others) to [] h alike = absurd alike
-again_number place value (first ∷ others) to (first' ∷ others') h alike =
-    (first'.place, others', (sym alike.0.0 ∙ h.0, refl, h.2 ∙ ap (digits_value 10) alike.0.1, refl), subst (λ w. AreAlike w others') h.3 alike.1)
+again_number place value (first ∷ others) to (first' ∷ others') h alike = (
+  first'.place,
+  others',
+  (sym alike.0.0 ∙ h.0, refl, h.2 ∙ ap (digits_value 10) alike.0.1, refl),
+  subst
+      (λ w. AreAlike w others') h.3 alike.1,
+)
 
 again_each : {A : Type 0} (rule : A → Rule) (strip : A → A) → Repeats rule strip → Repeats (each rule) (map strip)
 again_each rule strip again [] from to from' h alike = ([], from', refl, subst (λ w. AreAlike w from') h alike, refl)
@@ -87,7 +100,8 @@ again_maybe rule strip again (Some one) from to from' h alike =
     let (one', to', h', b, e) = again one from to from' h alike in
     (Some one', to', h', b, λ i. Some (e i))
 
-again_behind : {A : Type 0} (class : ℕ) (rule : A → Rule) (strip : A → A) → Repeats rule strip → Repeats (λ one. word class ⨾ rule one) strip
+again_behind : {A : Type 0} (class : ℕ) (rule : A → Rule) (strip : A → A) → Repeats rule strip
+    → Repeats (λ one. word class ⨾ rule one) strip
 again_behind class rule strip again one from to from' (m, h, k) alike =
     let (m', h', b) = again_word class from m from' h alike in
     let (one', to', k', c, e) = again one m to m' k b in
@@ -122,9 +136,17 @@ again_fields : Repeats fields placeless_fields
 again_fields line from to from' (m, h, (n, k, (o, l, q))) alike =
     let (s', m', h', b, e) = again_specifier line.specifier from m from' h alike in
     let (d', n', k', c, f) = again_declarator line.first m n m' k b in
-    let (ds', o', l', d, g) = again_each _ placeless_declarator (again_behind Classes.COMMA declarator placeless_declarator again_declarator) line.others n o n' l c in
-    let (to', q', t) = again_word Classes.SEMICOLON o to o' q d in
-    (record { specifier = s'; first = d'; others = ds' }, to', (m', h', (n', k', (o', l', q'))), t, λ i. record { specifier = e i; first = f i; others = g i })
+    let (ds', o', l', d, g) =
+    again_each _ placeless_declarator
+    (again_behind Classes.COMMA declarator placeless_declarator again_declarator) line.others n o n' l c in
+    let (to', q', t) = again_word Classes.SEMICOLON o to o' q d in (
+      record { specifier = s'; first = d'; others = ds' },
+      to',
+      (m', h', (n', k', (o', l', q'))),
+      t,
+      λ i.
+          record { specifier = e i; first = f i; others = g i },
+    )
 
 again_struct_body : Repeats struct_body (map placeless_fields)
 again_struct_body lines from to from' (m, h, (n, k, l)) alike =
@@ -137,10 +159,17 @@ again_param : Repeats param placeless_param
 again_param p from to from' (m, h, (n, k, l)) alike =
     let (s', m', h', b, e) = again_specifier p.specifier from m from' h alike in
     let (n', k', c) = again_stars p.stars m n m' k b in
-    let (name', to', l', d, f) = again_maybe name placeless_name again_name p.name n to n' l c in
-    (record { specifier = s'; stars = p.stars; name = name' }, to', (m', h', (n', k', l')), d, λ i. record { specifier = e i; stars = p.stars; name = f i })
+    let (name', to', l', d, f) = again_maybe name placeless_name again_name p.name n to n' l c in (
+      record { specifier = s'; stars = p.stars; name = name' },
+      to',
+      (m', h', (n', k', l')),
+      d,
+      λ i.
+          record { specifier = e i; stars = p.stars; name = f i },
+    )
 
-void_placeless : (s : Specifier) (count : ℕ) (n : Option Name) → is_void (placeless_specifier s) count (placeless_maybe placeless_name n) ≡ is_void s count n
+void_placeless : (s : Specifier) (count : ℕ) (n : Option Name)
+    → is_void (placeless_specifier s) count (placeless_maybe placeless_name n) ≡ is_void s count n
 void_placeless (Specifier.Int place) count n = refl
 void_placeless (Specifier.Void place) zero None = refl
 void_placeless (Specifier.Void place) zero (Some n) = refl
@@ -148,7 +177,8 @@ void_placeless (Specifier.Void place) (suc count) n = refl
 void_placeless (Specifier.Struct place tag) count n = refl
 void_placeless (Specifier.Alias alias) count n = refl
 
-alone_placeless : (first : Param) (others : List Param) → is_void_alone (placeless_param first) (map placeless_param others) ≡ is_void_alone first others
+alone_placeless : (first : Param) (others : List Param)
+    → is_void_alone (placeless_param first) (map placeless_param others) ≡ is_void_alone first others
 alone_placeless first [] = void_placeless first.specifier first.stars first.name
 alone_placeless first (other ∷ others) = refl
 
@@ -158,7 +188,8 @@ again_params (Params.VoidParams place) from to from' h alike =
     let (p, to', h', b) = again_word_at place Classes.VOID from to from' h alike in (Params.VoidParams p, to', h', b, refl)
 again_params (Params.Listed first others) from to from' (alone, (m, h, k)) alike =
     let (first', m', h', b, e) = again_param first from m from' h alike in
-    let (others', to', k', c, f) = again_each _ placeless_param (again_behind Classes.COMMA param placeless_param again_param) others m to m' k b in
+    let (others', to', k', c, f) =
+    again_each _ placeless_param (again_behind Classes.COMMA param placeless_param again_param) others m to m' k b in
     let same : is_void_alone first' others' ≡ false =
     sym (alone_placeless first' others') ∙ ((λ i. is_void_alone (e i) (f i)) ∙ (alone_placeless first others ∙ alone)) in
     (Params.Listed first' others', to', (same, (m', h', k')), c, λ i. Params.Listed (e i) (f i))
@@ -169,8 +200,14 @@ again_head x from to from' (m, h, (n, k, (o, l, (q, r, s)))) alike =
     let (d', n', k', c, f) = again_declarator x.declarator m n m' k b in
     let (o', l', d) = again_open n o n' l c in
     let (ps', q', r', t, g) = again_params x.params o q o' r d in
-    let (to', v', u) = again_word Classes.CLOSE q to q' s t in
-    (record { specifier = s'; declarator = d'; params = ps' }, to', (m', h', (n', k', (o', l', (q', r', v')))), u, λ i. record { specifier = e i; declarator = f i; params = g i })
+    let (to', v', u) = again_word Classes.CLOSE q to q' s t in (
+      record { specifier = s'; declarator = d'; params = ps' },
+      to',
+      (m', h', (n', k', (o', l', (q', r', v')))),
+      u,
+      λ i.
+          record { specifier = e i; declarator = f i; params = g i },
+    )
 
 again_size_of : Repeats size_of placeless_specifier
 again_size_of target from to from' (m, h, (n, k, (o, l, (p, q, (r, s, t))))) alike =
@@ -183,7 +220,8 @@ again_size_of target from to from' (m, h, (n, k, (o, l, (p, q, (r, s, t))))) ali
     (target', to', (m', h', (n', k', (o', l', (p', q', (r', s', t'))))), u, f)
 
 again_cast : (place : Place) (target : Specifier) (from to from' : List Word) → cast place target from to → AreAlike from from'
-    → (place' : Place) × (target' : Specifier) × (to' : List Word) × cast place' target' from' to' × AreAlike to to' × (placeless_specifier target' ≡ placeless_specifier target)
+    → (place' : Place) × (target' : Specifier) × (to' : List Word) × cast place' target' from' to' × AreAlike to to'
+    × (placeless_specifier target' ≡ placeless_specifier target)
 again_cast place target from to from' (m, h, (n, k, (o, l, q))) alike =
     let (p, m', h', b) = again_word_at place Classes.CAST from m from' h alike in
     let (target', n', k', c, e) = again_specifier target m n m' k b in
@@ -191,7 +229,8 @@ again_cast place target from to from' (m, h, (n, k, (o, l, q))) alike =
     let (to', q', t) = again_word Classes.CLOSE o to o' q d in
     (p, target', to', (m', h', (n', k', (o', l', q'))), t, e)
 
-again_malloc : (level : ℕ) (place : Place) (as_type : Option Specifier) (target : Specifier) (from to from' : List Word) → malloc place as_type target from to → AreAlike from from'
+again_malloc : (level : ℕ) (place : Place) (as_type : Option Specifier) (target : Specifier) (from to from' : List Word)
+    → malloc place as_type target from to → AreAlike from from'
     → Again (expr_at level) placeless_expr (Expr.Malloc place as_type target) to from'
 again_malloc level place None target from to from' (m, h, k) alike =
     let (p, m', h', b) = again_word_at place Classes.MALLOC from m from' h alike in
@@ -210,8 +249,14 @@ mutual
       let (first', m', h', b, e) = again_expr (level_of op + 1) first from m from' h alike in
       let (n', k', c) = again_word (class_of_binary op) m n m' k b in
       let (second', o', l', d, f) = again_expr (level_of op + 1) second n o n' l c in
-      let (others', to', q', t, g) = again_links (level_of op) others o to o' q d in
-      (Expr.Chain first' (Links.Link op second' others'), to', (least, (m', h', (n', k', (o', l', q')))), t, λ i. Expr.Chain (e i) (Links.Link op (f i) (g i)))
+      let (others', to', q', t, g) = again_links (level_of op) others o to o' q d in (
+        Expr.Chain first' (Links.Link op second' others'),
+        to',
+        (least, (m', h', (n', k', (o', l', q')))),
+        t,
+        λ i. Expr.Chain (e i)
+            (Links.Link op (f i) (g i)),
+      )
   again_expr level (Expr.Prefix place op inner) from to from' (least, (m, h, k)) alike =
       let (p, m', h', b) = again_word_at place (class_of_prefix op) from m from' h alike in
       let (inner', to', k', c, e) = again_expr 6 inner m to m' k b in
@@ -220,7 +265,8 @@ mutual
       let (base', m', h', b, e) = again_expr 8 base from m from' h alike in
       let (n', k', c) = again_word Classes.ARROW m n m' k b in
       let (first', o', l', d, f) = again_name first n o n' l c in
-      let (others', to', q', t, g) = again_each _ placeless_name (again_behind Classes.ARROW name placeless_name again_name) others o to o' q d in
+      let (others', to', q', t, g) =
+      again_each _ placeless_name (again_behind Classes.ARROW name placeless_name again_name) others o to o' q d in
       (Expr.Members base' first' others', to', (least, (m', h', (n', k', (o', l', q')))), t, λ i. Expr.Members (e i) (f i) (g i))
   again_expr level (Expr.Variable n) from to from' h alike =
       let (n', to', h', b, e) = again_name n from to from' h alike in (Expr.Variable n', to', h', b, λ i. Expr.Variable (e i))
@@ -290,15 +336,24 @@ again_simple (Simple.Free place pointer) from to from' (m, h, (n, k, (o, l, q)))
 again_initialized : Repeats initialized placeless_initialized
 again_initialized one from to from' (m, h, k) alike =
     let (d', m', h', b, e) = again_declarator one.declarator from m from' h alike in
-    let (value', to', k', c, f) = again_maybe _ placeless_expr (again_behind Classes.SET (expr_at 0) placeless_expr (again_expr 0)) one.value m to m' k b in
+    let (value', to', k', c, f) =
+    again_maybe _ placeless_expr (again_behind Classes.SET (expr_at 0) placeless_expr (again_expr 0)) one.value m to m' k b in
     (record { declarator = d'; value = value' }, to', (m', h', k'), c, λ i. record { declarator = e i; value = f i })
 
 again_local : Repeats local placeless_local
 again_local x from to from' (m, h, (n, k, l)) alike =
     let (s', m', h', b, e) = again_specifier x.specifier from m from' h alike in
     let (first', n', k', c, f) = again_initialized x.first m n m' k b in
-    let (others', to', l', d, g) = again_each _ placeless_initialized (again_behind Classes.COMMA initialized placeless_initialized again_initialized) x.others n to n' l c in
-    (record { specifier = s'; first = first'; others = others' }, to', (m', h', (n', k', l')), d, λ i. record { specifier = e i; first = f i; others = g i })
+    let (others', to', l', d, g) =
+    again_each _ placeless_initialized
+    (again_behind Classes.COMMA initialized placeless_initialized again_initialized) x.others n to n' l c in (
+      record { specifier = s'; first = first'; others = others' },
+      to',
+      (m', h', (n', k', l')),
+      d,
+      λ i.
+          record { specifier = e i; first = f i; others = g i },
+    )
 
 again_init : Repeats for_init placeless_init
 again_init ForInit.NoInit from to from' h alike = (ForInit.NoInit, from', refl, subst (λ w. AreAlike w from') h alike, refl)
@@ -335,8 +390,14 @@ mutual
       let (n', k', c) = again_open m n m' k b in
       let (test', o', l', d, e) = again_expr 0 test n o n' l c in
       let (q', r', t) = again_word Classes.CLOSE o q o' r d in
-      let (body', to', s', u, f) = again_stmt body q to q' s t in
-      (Stmt.If p test' body', to', (no_else_alike to to' u none, (m', h', (n', k', (o', l', (q', r', s'))))), u, λ i. Stmt.If nowhere (e i) (f i))
+      let (body', to', s', u, f) = again_stmt body q to q' s t in (
+        Stmt.If p test' body',
+        to',
+        (no_else_alike to to' u none, (m', h', (n', k', (o', l', (q', r', s'))))),
+        u,
+        λ i. Stmt.If nowhere (e i)
+            (f i),
+      )
   again_stmt (Stmt.IfElse place test body other) from to from' (m, h, (n, k, (o, l, (q, r, (v, s, (w, x, y)))))) alike =
       let (p, m', h', b) = again_word_at place Classes.IF from m from' h alike in
       let (n', k', c) = again_open m n m' k b in
@@ -344,8 +405,14 @@ mutual
       let (q', r', t) = again_word Classes.CLOSE o q o' r d in
       let (body', v', s', u, f) = again_stmt body q v q' s t in
       let (w', x', z) = again_word Classes.ELSE v w v' x u in
-      let (other', to', y', a, g) = again_stmt other w to w' y z in
-      (Stmt.IfElse p test' body' other', to', (m', h', (n', k', (o', l', (q', r', (v', s', (w', x', y')))))), a, λ i. Stmt.IfElse nowhere (e i) (f i) (g i))
+      let (other', to', y', a, g) = again_stmt other w to w' y z in (
+        Stmt.IfElse p test' body' other',
+        to',
+        (m', h', (n', k', (o', l', (q', r', (v', s', (w', x', y')))))),
+        a,
+        λ i. Stmt.IfElse nowhere
+            (e i) (f i) (g i),
+      )
   again_stmt (Stmt.While place test body) from to from' (m, h, (n, k, (o, l, (q, r, s)))) alike =
       let (p, m', h', b) = again_word_at place Classes.WHILE from m from' h alike in
       let (n', k', c) = again_open m n m' k b in
@@ -360,9 +427,16 @@ mutual
       let (q', r', t) = again_open o q o' r d in
       let (test', v', s', u, f) = again_expr 0 test q v q' s t in
       let (w', x', z) = again_word Classes.CLOSE v w v' x u in
-      let (to', y', a) = again_word Classes.SEMICOLON w to w' y z in
-      (Stmt.DoWhile p body' test', to', (m', h', (n', k', (o', l', (q', r', (v', s', (w', x', y')))))), a, λ i. Stmt.DoWhile nowhere (e i) (f i))
-  again_stmt (Stmt.For place init test step body) from to from' (m0, h0, (m1, h1, (m2, h2, (m3, h3, (m4, h4, (m5, h5, (m6, h6, (m7, h7, h8)))))))) alike =
+      let (to', y', a) = again_word Classes.SEMICOLON w to w' y z in (
+        Stmt.DoWhile p body' test',
+        to',
+        (m', h', (n', k', (o', l', (q', r', (v', s', (w', x', y')))))),
+        a,
+        λ i. Stmt.DoWhile nowhere (e i)
+            (f i),
+      )
+  again_stmt (Stmt.For place init test step body) from to from'
+      (m0, h0, (m1, h1, (m2, h2, (m3, h3, (m4, h4, (m5, h5, (m6, h6, (m7, h7, h8)))))))) alike =
       let (p, m0', h0', a0) = again_word_at place Classes.FOR from m0 from' h0 alike in
       let (m1', h1', a1) = again_open m0 m1 m0' h1 a0 in
       let (init', m2', h2', a2, e) = again_init init m1 m2 m1' h2 a1 in
@@ -412,8 +486,14 @@ again_item (Item.TypedefStruct place tag lines alias) from to from' (m, h, (n, k
     let (tag', o', l', d, e) = again_maybe name placeless_name again_name tag n o n' l c in
     let (lines', q', r', t, f) = again_struct_body lines o q o' r d in
     let (alias', v', s', u, g) = again_name alias q v q' s t in
-    let (to', w', x) = again_word Classes.SEMICOLON v to v' w u in
-    (Item.TypedefStruct p tag' lines' alias', to', (m', h', (n', k', (o', l', (q', r', (v', s', w'))))), x, λ i. Item.TypedefStruct nowhere (e i) (f i) (g i))
+    let (to', w', x) = again_word Classes.SEMICOLON v to v' w u in (
+      Item.TypedefStruct p tag' lines' alias',
+      to',
+      (m', h', (n', k', (o', l', (q', r', (v', s', w'))))),
+      x,
+      λ i. Item.TypedefStruct nowhere
+          (e i) (f i) (g i),
+    )
 again_item (Item.TypedefAlias place tag alias) from to from' (m, h, (n, k, (o, l, (q, r, s)))) alike =
     let (p, m', h', b) = again_word_at place Classes.TYPEDEF from m from' h alike in
     let (n', k', c) = again_word Classes.STRUCT m n m' k b in
@@ -463,7 +543,8 @@ mutual
   args_placeless Args.NoArgs = refl
   args_placeless (Args.Arg first others) = λ i. max (nesting_placeless first i) (args_placeless others i)
 
-deepest_placeless : {A : Type 0} (depth : A → ℕ) (strip : A → A) → ((one : A) → depth (strip one) ≡ depth one) → (all : List A) → deepest depth (map strip all) ≡ deepest depth all
+deepest_placeless : {A : Type 0} (depth : A → ℕ) (strip : A → A) → ((one : A) → depth (strip one) ≡ depth one) → (all : List A)
+    → deepest depth (map strip all) ≡ deepest depth all
 deepest_placeless depth strip same [] = refl
 deepest_placeless depth strip same (one ∷ others) = λ i. max (same one i) (deepest_placeless depth strip same others i)
 
@@ -482,7 +563,8 @@ initialized_nests : (one : Initialized) → initialized_nesting (placeless_initi
 initialized_nests one = maybe_placeless nesting placeless_expr nesting_placeless one.value
 
 local_nests : (x : Local) → local_nesting (placeless_local x) ≡ local_nesting x
-local_nests x = λ i. max (initialized_nests x.first i) (deepest_placeless initialized_nesting placeless_initialized initialized_nests x.others i)
+local_nests x =
+    λ i. max (initialized_nests x.first i) (deepest_placeless initialized_nesting placeless_initialized initialized_nests x.others i)
 
 init_nests : (init : ForInit) → init_nesting (placeless_init init) ≡ init_nesting init
 init_nests ForInit.NoInit = refl
@@ -538,11 +620,13 @@ casts_unplaced (one ∷ two ∷ three ∷ others) = refl
 casts_alike : (tokens tokens' : List Token) → map spelling tokens ≡ map spelling tokens' → begins_cast tokens ≡ begins_cast tokens'
 casts_alike tokens tokens' same = sym (casts_unplaced tokens) ∙ (ap (λ s. begins_cast (map token_of s)) same ∙ casts_unplaced tokens')
 
-class_alike : (k : TokenKind) (text : List ℕ) (tokens tokens' : List Token) → begins_cast tokens ≡ begins_cast tokens' → class_of k text tokens ≡ class_of k text tokens'
+class_alike : (k : TokenKind) (text : List ℕ) (tokens tokens' : List Token) → begins_cast tokens ≡ begins_cast tokens'
+    → class_of k text tokens ≡ class_of k text tokens'
 class_alike kind.Word text tokens tokens' same = refl
 class_alike kind.Key text tokens tokens' same = refl
 class_alike kind.Number text tokens tokens' same = refl
-class_alike kind.Sign text tokens tokens' same = ap (λ c. if bytes_eq text (codes "(") then (if c then class.Cast else class.Open) else class_in signs class.OtherKey text) same
+class_alike kind.Sign text tokens tokens' same =
+    ap (λ c. if bytes_eq text (codes "(") then (if c then class.Cast else class.Open) else class_in signs class.OtherKey text) same
 class_alike kind.End text tokens tokens' same = refl
 
 pub words_alike : (tokens tokens' : List Token) → map spelling tokens ≡ map spelling tokens' → AreAlike (words_of tokens) (words_of tokens')
@@ -554,7 +638,11 @@ words_alike (one ∷ others) (one' ∷ others') same =
     let rest : map spelling others ≡ map spelling others' = cc in
     let known : class_of one.kind one.text others ≡ class_of one'.kind one'.text others =
     ap (λ (s : Spelling). class_of s.kind s.text others) first in (
-      (ap number_of (known ∙ class_alike one'.kind one'.text others others' (casts_alike others others' rest)), ap (λ (s : Spelling). s.text) first),
+      (
+        ap number_of (known ∙ class_alike one'.kind one'.text others others' (casts_alike others others' rest)),
+        ap
+            (λ (s : Spelling). s.text) first,
+      ),
       words_alike others others' rest,
     )
 

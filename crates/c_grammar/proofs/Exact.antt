@@ -1,5 +1,6 @@
 -- The reading of a file is exact: it ends where some file spells the words, and else stops where they are refused.
-use Rattle.std.proofs.Common.{◌≡◌, inl, inr, ℕ, zero, suc, ◌+◌, ◌≤◌, Bool, true, false, cond, List, [], ◌∷◌, ◌++◌, length, refl, sym, ap, ◌∙◌, subst, append_assoc, append-nil, length-append, arith}
+use Rattle.std.proofs.Common.{◌≡◌, inl, inr, ℕ, zero, suc, ◌+◌, ◌≤◌, Bool, true, false, cond, List, [], ◌∷◌, ◌++◌, length, refl, sym, ap}
+use Rattle.std.proofs.Common.{◌∙◌, subst, append_assoc, append-nil, length-append, arith}
 use Rattle.std.proofs.lemmas.List.{append_cancel_right}
 use Rattle.grammar_laws.specs.Form.{Derives}
 use Rattle.grammar_laws.specs.Reading.{Read, Done, Stop, reads, LeavesLess, Follows}
@@ -22,17 +23,21 @@ use Rattle.c_grammar.proofs.SpelledFiles.{is_file}
 use Rattle.c_grammar.proofs.FoundFiles.{file_found}
 
 -- what a file spells is read to its end
-pub read_file : (n : ℕ) (file : File) (words : List Word) → Spells file words → file_nesting file ≤ n → reads (file_form n) (classes words) ≡ Done []
+pub read_file : (n : ℕ) (file : File) (words : List Word) → Spells file words → file_nesting file ≤ n
+    → reads (file_form n) (classes words) ≡ Done []
 read_file n file words spells fits =
     let f : IsForm (file_form n) words [] = is_file file n words fits spells in
-    ap (reads (file_form n)) (classes_of (file_form n) words [] f) ∙ complete (file_form n) (file_good n) (classes f.front) [] f.derives refl
+    ap (reads (file_form n)) (classes_of (file_form n) words [] f)
+    ∙ complete (file_form n) (file_good n) (classes f.front) [] f.derives refl
 
 -- words whose classes are derived are spelled by a file
-file_of : (n : ℕ) (words : List Word) → Derives (file_form n) (classes words) [] → (file : File) × Spells file words × (file_nesting file ≤ n)
+file_of : (n : ℕ) (words : List Word) → Derives (file_form n) (classes words) []
+    → (file : File) × Spells file words × (file_nesting file ≤ n)
 file_of n words derives = file_found n words (record { front = words; splits = sym (append-nil words); derives = derives })
 
 -- what is read to its end is spelled by a file
-pub accepted : (n : ℕ) (words : List Word) → reads (file_form n) (classes words) ≡ Done [] → (file : File) × Spells file words × (file_nesting file ≤ n)
+pub accepted : (n : ℕ) (words : List Word) → reads (file_form n) (classes words) ≡ Done []
+    → (file : File) × Spells file words × (file_nesting file ≤ n)
 accepted n words e =
     let t = takes (file_form n) (file_good n) (classes words) [] e in
     file_of n words (subst (λ w. Derives (file_form n) w []) (sym (t.splits ∙ append-nil t.words)) t.derives)
@@ -49,7 +54,8 @@ classes-words_for (class ∷ others) = ap (λ o. class ∷ o) (classes-words_for
 -- words before more that is derived with them begin a file
 begin_of : (n : ℕ) (front : List Word) (more : List ℕ) → Derives (file_form n) (classes front ++ more) [] → BeginWithin n front
 begin_of n front more derives =
-    let same : classes (front ++ words_for more) ≡ classes front ++ more = classes-append front (words_for more) ∙ ap (λ m. classes front ++ m) (classes-words_for more) in
+    let same : classes (front ++ words_for more) ≡ classes front ++ more =
+    classes-append front (words_for more) ∙ ap (λ m. classes front ++ m) (classes-words_for more) in
     let (file, spells, fits) = file_of n (front ++ words_for more) (subst (λ w. Derives (file_form n) w []) (sym same) derives) in
     (file, words_for more, spells, fits)
 
@@ -85,7 +91,8 @@ deeper : (n : ℕ) (from at : List ℕ) → reads (file_form n) from ≡ Stop tr
 deeper n from at e = subst (λ r. Follows r (reads (file_form (suc n)) from)) e (follows (file_opens n) from)
 
 begins_deeper : (n : ℕ) (front : List Word) (first : Word) (others : List Word) (read : Read)
-    → reads (file_form n) (classes (front ++ first ∷ others)) ≡ read → LeavesLess read (length (classes (first ∷ others))) → BeginWithin n (front ++ first ∷ [])
+    → reads (file_form n) (classes (front ++ first ∷ others)) ≡ read → LeavesLess read (length (classes (first ∷ others)))
+    → BeginWithin n (front ++ first ∷ [])
 begins_deeper n front first others (Done rest) e less =
     let t = takes (file_form n) (file_good n) (classes (front ++ first ∷ others)) rest e in
     let d : Derives (file_form n) t.words [] = clears (file_form n) (file_good n) t.words rest [] refl t.derives in
@@ -109,18 +116,23 @@ begins_deeper n front first others (Stop deep rest) e less =
 abbrev pub code_of : Bool → ℕ
 code_of deep = cond deep 112 111
 
-module _ (front : List Word) (first : Word) (others : List Word) (deep : Bool) (e : reads (file_form MOST_LEVELS) (classes (front ++ first ∷ others)) ≡ Stop deep (first.class ∷ classes others)) where
+module _ (front : List Word) (first : Word) (others : List Word) (deep : Bool)
+    (e : reads (file_form MOST_LEVELS) (classes (front ++ first ∷ others)) ≡ Stop deep (first.class ∷ classes others)) where
   halt : Halts (file_form MOST_LEVELS) deep (classes (front ++ first ∷ others)) (first.class ∷ classes others)
   halt = halts (file_form MOST_LEVELS) (file_good MOST_LEVELS) deep (classes (front ++ first ∷ others)) (first.class ∷ classes others) e
 
   before : halt.words ≡ classes front
-  before = append_cancel_right halt.words (classes front) (first.class ∷ classes others) (sym halt.splits ∙ classes-append front (first ∷ others))
+  before =
+      append_cancel_right halt.words (classes front) (first.class ∷ classes others)
+      (sym halt.splits ∙ classes-append front (first ∷ others))
 
   -- it stops there whatever follows
-  here : (more : List Word) → reads (file_form MOST_LEVELS) (classes ((front ++ first ∷ []) ++ more)) ≡ Stop deep (first.class ∷ classes more)
+  here : (more : List Word)
+      → reads (file_form MOST_LEVELS) (classes ((front ++ first ∷ []) ++ more)) ≡ Stop deep (first.class ∷ classes more)
   here more =
       ap (reads (file_form MOST_LEVELS))
-      (ap classes (append_assoc front (first ∷ []) more) ∙ classes-append front (first ∷ more) ∙ ap (λ w. w ++ first.class ∷ classes more) (sym before))
+      (ap classes (append_assoc front (first ∷ []) more) ∙ classes-append front (first ∷ more)
+      ∙ ap (λ w. w ++ first.class ∷ classes more) (sym before))
       ∙ halt.anywhere (first.class ∷ classes more) refl
 
   front_begins : BeginWithin MOST_LEVELS front
@@ -138,7 +150,8 @@ module _ (front : List Word) (first : Word) (others : List Word) (deep : Bool) (
 pub refused : (words front : List Word) (first : Word) (others : List Word) (deep : Bool) → words ≡ front ++ first ∷ others
     → reads (file_form MOST_LEVELS) (classes words) ≡ Stop deep (first.class ∷ classes others) → IsRefused words front first (code_of deep)
 refused words front first others false split e =
-    let f : reads (file_form MOST_LEVELS) (classes (front ++ first ∷ others)) ≡ Stop false (first.class ∷ classes others) = sym (ap (λ w. reads (file_form MOST_LEVELS) (classes w)) split) ∙ e in record {
+    let f : reads (file_form MOST_LEVELS) (classes (front ++ first ∷ others)) ≡ Stop false (first.class ∷ classes others) =
+    sym (ap (λ w. reads (file_form MOST_LEVELS) (classes w)) split) ∙ e in record {
       others = others;
       splits = split;
       begins = front_begins front first others false f;
@@ -149,12 +162,15 @@ refused words front first others false split e =
             let n = raised (file_nesting file) MOST_LEVELS in
             let fits = raised_is (file_nesting file) MOST_LEVELS in
             let r = read_file n file ((front ++ first ∷ []) ++ more) spells (omega arith) in
-            let s = stays (file_nesting file) MOST_LEVELS (classes ((front ++ first ∷ []) ++ more)) (first.class ∷ classes more) (here front first others false f more) in
+            let s =
+            stays (file_nesting file) MOST_LEVELS (classes ((front ++ first ∷ []) ++ more)) (first.class ∷ classes more)
+            (here front first others false f more) in
             let z : Done [] ≡ Stop false (first.class ∷ classes more) = sym r ∙ s in cc,
       );
     }
 refused words front first others true split e =
-    let f : reads (file_form MOST_LEVELS) (classes (front ++ first ∷ others)) ≡ Stop true (first.class ∷ classes others) = sym (ap (λ w. reads (file_form MOST_LEVELS) (classes w)) split) ∙ e in record {
+    let f : reads (file_form MOST_LEVELS) (classes (front ++ first ∷ others)) ≡ Stop true (first.class ∷ classes others) =
+    sym (ap (λ w. reads (file_form MOST_LEVELS) (classes w)) split) ∙ e in record {
       others = others;
       splits = split;
       begins = front_begins front first others true f;
@@ -162,7 +178,8 @@ refused words front first others true split e =
       cause = inr (
         refl,
         let l = deeper MOST_LEVELS (classes (front ++ first ∷ others)) (first.class ∷ classes others) f in
-            let (file, more, spells, fits) = begins_deeper 65 front first others (reads (file_form 65) (classes (front ++ first ∷ others))) refl l in
+            let (file, more, spells, fits) =
+            begins_deeper 65 front first others (reads (file_form 65) (classes (front ++ first ∷ others))) refl l in
             (file, more, spells),
       );
     }

@@ -22,7 +22,8 @@ unary_right (suc n) = record {
   sample_right = λ rest clear. inr (inr (_, _, refl, inl (_, _, refl, refl, inr refl), ([], refl, tt)));
 }
 
-expr_right : (n : ℕ) → IsGood (Forms.chain_form 6 (Forms.unary_form n)) → AreRight Forms.expr_facts (Forms.chain_form 6 (Forms.unary_form n))
+expr_right : (n : ℕ) → IsGood (Forms.chain_form 6 (Forms.unary_form n))
+    → AreRight Forms.expr_facts (Forms.chain_form 6 (Forms.unary_form n))
 expr_right n good = record {
   starts_right = refl;
   continues_right = refl;
@@ -134,7 +135,9 @@ item_right zero = record {
   lacks_right = refl;
   some = refl;
   empty_right = λ e. e;
-  sample_right = λ rest clear. inl (_, _, refl, refl, (_, _, refl, refl, inl (_, _, refl, (_, _, refl, refl, (_, _, refl, ([], refl, tt), refl)), refl)));
+  sample_right =
+      λ rest clear. inl
+      (_, _, refl, refl, (_, _, refl, refl, inl (_, _, refl, (_, _, refl, refl, (_, _, refl, ([], refl, tt), refl)), refl)));
 }
 item_right (suc n) = record {
   starts_right = refl;
@@ -142,7 +145,9 @@ item_right (suc n) = record {
   lacks_right = refl;
   some = refl;
   empty_right = λ e. e;
-  sample_right = λ rest clear. inl (_, _, refl, refl, (_, _, refl, refl, inl (_, _, refl, (_, _, refl, refl, (_, _, refl, ([], refl, tt), refl)), refl)));
+  sample_right =
+      λ rest clear. inl
+      (_, _, refl, refl, (_, _, refl, refl, inl (_, _, refl, (_, _, refl, refl, (_, _, refl, ([], refl, tt), refl)), refl)));
 }
 
 pub item_good : (n : ℕ) → IsGood (Forms.item_form n)

@@ -1,5 +1,6 @@
 -- What the reader of files gives: the file that spells the words, or where they are refused.
-use Rattle.std.proofs.Common.{◌≡◌, ℕ, zero, suc, ◌≤◌, Bool, true, false, List, [], ◌∷◌, ◌++◌, length, refl, sym, ap, ◌∙◌, subst, append_assoc, append-nil, arith, rules}
+use Rattle.std.proofs.Common.{◌≡◌, ℕ, zero, suc, ◌≤◌, Bool, true, false, List, [], ◌∷◌, ◌++◌, length, refl, sym, ap, ◌∙◌, subst}
+use Rattle.std.proofs.Common.{append_assoc, append-nil, arith, rules}
 use Rattle.std.specs.Prelude.{◌==◌, ◌||◌, Result, Ok, Err}
 use Rattle.grammar_laws.specs.Form.{Many, is_in, Derives, Avoids}
 use Rattle.grammar_laws.specs.Reading.{Done, Stop, reads}
@@ -70,7 +71,8 @@ end_is_last (class ∷ front) (word ∷ []) back ended e = absurd (nothing_behin
     nothing_behind : (f : List ℕ) → [] ≡ f ++ 0 ∷ back → ⊥
     nothing_behind [] g = cc
     nothing_behind (c ∷ f) g = cc
-end_is_last (class ∷ front) (word ∷ next ∷ words) back ended e = end_is_last front (next ∷ words) back ended.1 (let r : classes (next ∷ words) ≡ front ++ 0 ∷ back = cc in r)
+end_is_last (class ∷ front) (word ∷ next ∷ words) back ended e =
+    end_is_last front (next ∷ words) back ended.1 (let r : classes (next ∷ words) ≡ front ++ 0 ∷ back = cc in r)
 
 no_classes : (words : List Word) → classes words ≡ [] → words ≡ []
 no_classes [] e = refl
@@ -85,7 +87,8 @@ not_at_end n words deep ended e =
   where
     by_more : (taken : List ℕ) → classes words ≡ taken → (more : List ℕ) → Derives (Forms.file_form n) (taken ++ more) [] → ⊥
     by_more taken same [] d =
-        let r : reads (Forms.file_form n) ((taken ++ []) ++ []) ≡ Done [] = complete (Forms.file_form n) (file_good n) (taken ++ []) [] d refl in
+        let r : reads (Forms.file_form n) ((taken ++ []) ++ []) ≡ Done [] =
+        complete (Forms.file_form n) (file_good n) (taken ++ []) [] d refl in
         let t : (taken ++ []) ++ [] ≡ classes words = append-nil (taken ++ []) ∙ append-nil taken ∙ sym same in
         let z : Done [] ≡ Stop deep [] = sym r ∙ ap (reads (Forms.file_form n)) t ∙ e in cc
     by_more taken same (m ∷ more) (front, back, split, items, last) =
@@ -100,7 +103,8 @@ not_at_end n words deep ended e =
 abbrev pub ParseIs : Result File Halt → List Word → Type 0
 ParseIs (Ok file) words = Spells file words × (file_nesting file ≤ MOST_LEVELS)
 ParseIs (Err halt) words =
-    (front : List Word) × (first : Word) × (others : List Word) × (words ≡ front ++ first ∷ others) × (halt.at ≡ first ∷ others) × IsRefused words front first (code_of halt.deep)
+    (front : List Word) × (first : Word) × (others : List Word) × (words ≡ front ++ first ∷ others) × (halt.at ≡ first ∷ others)
+    × IsRefused words front first (code_of halt.deep)
 
 abbrev drop_rest : FileGot → Result File Halt
 drop_rest (Ok got) = Ok got.0
@@ -110,12 +114,14 @@ same_file : (n : ℕ) (words : List Word) → read_file n words ≡ drop_rest (r
 unfolding read_file
 same_file n words = by_items (read_each (length words) begins_item (read_item n) words)
   where
-    by_take : (items : List Rattle.c_grammar.specs.Trees.Item) (t : Result (List Word) Halt) → (t >>= (λ rest. Ok (record { items = items }))) ≡ drop_rest (t >>= (λ rest. Ok (record { items = items }, rest)))
+    by_take : (items : List Rattle.c_grammar.specs.Trees.Item) (t : Result (List Word) Halt)
+        → (t >>= (λ rest. Ok (record { items = items }))) ≡ drop_rest (t >>= (λ rest. Ok (record { items = items }, rest)))
     by_take items (Ok rest) = refl
     by_take items (Err halt) = refl
 
     by_items : (got : Result (List Rattle.c_grammar.specs.Trees.Item × List Word) Halt)
-        → (got >>= (λ items. take class.End items.1 >>= (λ rest. Ok (record { items = items.0 })))) ≡ drop_rest (got >>= (λ items. take class.End items.1 >>= (λ rest. Ok (record { items = items.0 }, rest))))
+        → (got >>= (λ items. take class.End items.1 >>= (λ rest. Ok (record { items = items.0 }))))
+        ≡ drop_rest (got >>= (λ items. take class.End items.1 >>= (λ rest. Ok (record { items = items.0 }, rest))))
     by_items (Ok got) = by_take got.0 (take class.End got.1)
     by_items (Err halt) = refl
 
@@ -125,18 +131,22 @@ parsed words proper ended =
     subst (λ r. ParseIs r words) (sym (same_file MOST_LEVELS words))
     (by_got (read_file_with MOST_LEVELS words) (file_agrees MOST_LEVELS words proper) (same_file MOST_LEVELS words))
   where
-    by_rest : (file : File) (rest : List Word) → reads (Forms.file_form MOST_LEVELS) (classes words) ≡ Done (classes rest) → file_rule file words rest → Spells file words
+    by_rest : (file : File) (rest : List Word) → reads (Forms.file_form MOST_LEVELS) (classes words) ≡ Done (classes rest)
+        → file_rule file words rest → Spells file words
     by_rest file rest e h =
         let t = takes (Forms.file_form MOST_LEVELS) (file_good MOST_LEVELS) (classes words) (classes rest) e in
         let (front, back, split, items, last) = t.derives in
-        let whole : classes words ≡ front ++ 0 ∷ classes rest = t.splits ∙ ap (λ w. w ++ classes rest) (split ∙ ap (λ b. front ++ b) last) ∙ append_assoc front (0 ∷ []) (classes rest) in
+        let whole : classes words ≡ front ++ 0 ∷ classes rest =
+        t.splits ∙ ap (λ w. w ++ classes rest) (split ∙ ap (λ b. front ++ b) last) ∙ append_assoc front (0 ∷ []) (classes rest) in
         subst (λ r. file_rule file words r) (no_classes rest (end_is_last front words (classes rest) ended whole)) h
 
-    by_at : (deep : Bool) (at : List Word) → reads (Forms.file_form MOST_LEVELS) (classes words) ≡ Stop deep (classes at) → IsBehind at words → ParseIs (Err (record { deep = deep; at = at })) words
+    by_at : (deep : Bool) (at : List Word) → reads (Forms.file_form MOST_LEVELS) (classes words) ≡ Stop deep (classes at)
+        → IsBehind at words → ParseIs (Err (record { deep = deep; at = at })) words
     by_at deep [] e b = absurd (not_at_end MOST_LEVELS words deep ended e)
     by_at deep (first ∷ others) e (front, split) = (front, first, others, split, refl, refused words front first others deep split e)
 
-    by_got : (got : FileGot) → AgreesAs file_rule words got (reads (Forms.file_form MOST_LEVELS) (classes words)) → read_file MOST_LEVELS words ≡ drop_rest got → ParseIs (drop_rest got) words
+    by_got : (got : FileGot) → AgreesAs file_rule words got (reads (Forms.file_form MOST_LEVELS) (classes words))
+        → read_file MOST_LEVELS words ≡ drop_rest got → ParseIs (drop_rest got) words
     by_got (Ok got) h same = (by_rest got.0 got.1 h.0 h.1, file_within MOST_LEVELS words got.0 same)
     by_got (Err halt) h same = by_at halt.deep halt.at h.0 h.1
 
@@ -149,4 +159,5 @@ spelled words proper ended file spells fits = by_read (read_file MOST_LEVELS wor
         → (read : File) × (read_file MOST_LEVELS words ≡ Ok read) × Spells read words × (file_nesting read ≤ MOST_LEVELS)
     by_read (Ok read) e h = (read, e, h.0, h.1)
     by_read (Err halt) e (front, first, others, split, at, refusal) =
-        absurd (refusal.stops (file, others, subst (λ w. Spells file w) (split ∙ sym (append_assoc front (first ∷ []) others)) spells, fits))
+        absurd (refusal.stops
+        (file, others, subst (λ w. Spells file w) (split ∙ sym (append_assoc front (first ∷ []) others)) spells, fits))

@@ -1,5 +1,6 @@
 -- Two ways to read a form from the same words end at the same words.
-use Rattle.std.proofs.Common.{◌≡◌, ℕ, ◌+◌, ◌≤◌, ◌<◌, false, List, [], ◌∷◌, ◌++◌, length, refl, sym, ap, ap₂, ◌∙◌, subst, length-append, arith}
+use Rattle.std.proofs.Common.{◌≡◌, ℕ, ◌+◌, ◌≤◌, ◌<◌, false, List, [], ◌∷◌, ◌++◌, length, refl, sym, ap, ap₂, ◌∙◌, subst, length-append}
+use Rattle.std.proofs.Common.{arith}
 use Rattle.grammar_laws.specs.Form.{Form, Both, Many, begins_in, may_be_empty, starts, continues, IsGood}
 use Rattle.grammar_laws.specs.Reading.{Done, reads}
 use Rattle.grammar_laws.proofs.Complete.{complete, not_continued}
@@ -27,22 +28,27 @@ same_end (w ∷ front) [] mid end e l =
     let n = length-append front mid in absurd (omega arith)
 same_end (v ∷ front) (w ∷ other) mid end e l = same_end front other mid end (let f : front ++ mid ≡ other ++ end = cc in f) l
 
-pub synced : (form : Form) → IsGood form → (from mid end : List Word) → IsForm form from mid → IsForm form from end → Ends form mid → Ends form end → mid ≡ end
+pub synced : (form : Form) → IsGood form → (from mid end : List Word) → IsForm form from mid → IsForm form from end → Ends form mid
+    → Ends form end → mid ≡ end
 synced form good from mid end f g ends other =
-    let one : reads form (classes from) ≡ Done (classes mid) = ap (reads form) (classes_of form from mid f) ∙ complete form good (classes f.front) (classes mid) f.derives ends in
-    let two : reads form (classes from) ≡ Done (classes end) = ap (reads form) (classes_of form from end g) ∙ complete form good (classes g.front) (classes end) g.derives other in
+    let one : reads form (classes from) ≡ Done (classes mid) =
+    ap (reads form) (classes_of form from mid f) ∙ complete form good (classes f.front) (classes mid) f.derives ends in
+    let two : reads form (classes from) ≡ Done (classes end) =
+    ap (reads form) (classes_of form from end g) ∙ complete form good (classes g.front) (classes end) g.derives other in
     let both : Done (classes mid) ≡ Done (classes end) = sym one ∙ two in
     let same : classes mid ≡ classes end = cc in
     same_end f.front g.front mid end (sym f.splits ∙ g.splits) (sym (length-classes mid) ∙ ap length same ∙ length-classes end)
 
 -- what stands behind the first part of a form does not continue that part
-pub ends_first : (one other : Form) → IsGood (Both one other) → (mid to : List Word) → IsForm other mid to → Ends (Both one other) to → Ends one mid
+pub ends_first : (one other : Form) → IsGood (Both one other) → (mid to : List Word) → IsForm other mid to → Ends (Both one other) to
+    → Ends one mid
 ends_first one other good mid to g ends =
     subst (λ w. begins_in (continues one) w ≡ false) (sym (classes_of other mid to g))
     (not_continued one other good.1 good.4 (classes g.front) (classes to) g.derives ends)
 
 -- the parts of a form meet at one place
-pub synced_both : (one other : Form) → IsGood (Both one other) → (from mid end to : List Word) → IsForm one from mid → IsForm other mid to → IsForm one from end → IsForm other end to → Ends (Both one other) to → mid ≡ end
+pub synced_both : (one other : Form) → IsGood (Both one other) → (from mid end to : List Word) → IsForm one from mid → IsForm other mid to
+    → IsForm one from end → IsForm other end to → Ends (Both one other) to → mid ≡ end
 synced_both one other good from mid end to f g h k ends =
     synced one good.0 from mid end f h (ends_first one other good mid to g ends) (ends_first one other good end to k ends)
 
@@ -86,12 +92,18 @@ unique_each rule form good leads unique (a ∷ all) [] from to (mid, k, l) h end
 unique_each rule form good leads unique (a ∷ all) (b ∷ others) from to (mid, h, i) (end, k, l) ends =
     let pair = good_pair form good in
     let ends_pair : Ends (Both form (Many form)) to = ends_behind in
-    let same : mid ≡ end = synced_both form (Many form) pair from mid end to (leads a from mid h) (is_each rule form leads all mid to i) (leads b from end k) (is_each rule form leads others end to l) ends_pair in
+    let same : mid
+    ≡ end =
+    synced_both form (Many form) pair from mid end to (leads a from mid h) (is_each rule form leads all mid to i) (leads b from end k)
+    (is_each rule form leads others end to l) ends_pair in
     let k' : rule b from mid = subst (λ w. rule b from w) (sym same) k in
     let l' : each rule others mid to = subst (λ w. each rule others w to) (sym same) l in
-    let first : a ≡ b = unique a b from mid h k' (ends_first form (Many form) pair mid to (is_each rule form leads all mid to i) ends_pair) in
+    let first : a
+    ≡ b = unique a b from mid h k' (ends_first form (Many form) pair mid to (is_each rule form leads all mid to i) ends_pair) in
     let rest : all ≡ others = unique_each rule form good leads unique all others mid to i l' ends in
     ap₂ (λ x y. x ∷ y) first rest
   where
     ends_behind : Ends (Both form (Many form)) to
-    ends_behind = begins_neither (starts form ++ continues form) (continues form) (classes to) ends (begins_not_right (starts form) (continues form) (classes to) ends)
+    ends_behind =
+        begins_neither (starts form ++ continues form) (continues form) (classes to) ends
+        (begins_not_right (starts form) (continues form) (classes to) ends)

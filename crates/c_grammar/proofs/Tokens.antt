@@ -34,10 +34,12 @@ some_class : (entries : List Entry) → no_end entries ≡ true → (text : List
 some_class [] e text = λ zero. cc
 some_class (entry ∷ entries) e text = by_test (bytes_eq entry.text text) (number_of entry.is == 0) refl e (λ f. some_class entries f text)
   where
-    by_test : (b c : Bool) → (number_of entry.is == 0) ≡ c → (not c && no_end entries) ≡ true → (no_end entries ≡ true → number_of (class_in entries class.OtherKey text) ≢ 0)
+    by_test : (b c : Bool) → (number_of entry.is == 0) ≡ c → (not c && no_end entries) ≡ true
+        → (no_end entries ≡ true → number_of (class_in entries class.OtherKey text) ≢ 0)
         → number_of (cond b entry.is (class_in entries class.OtherKey text)) ≢ 0
     by_test b true same f others = absurd (cc)
-    by_test true false same f others = λ zero. let t : (number_of entry.is == 0) ≡ true = eq-eqb (number_of entry.is) 0 zero in let z : true ≡ false = sym t ∙ same in cc
+    by_test true false same f others =
+        λ zero. let t : (number_of entry.is == 0) ≡ true = eq-eqb (number_of entry.is) 0 zero in let z : true ≡ false = sym t ∙ same in cc
     by_test false false same f others = others f
 
 no_end_class : (token : Token) (tokens : List Token) → IsToken token.kind token.text → number_of (class_of token.kind token.text tokens) ≢ 0
@@ -68,12 +70,15 @@ pub file_spells : (tokens : List Token) → IsTokenList tokens → (file : File)
 file_spells tokens listed file e =
     subst (λ r. ParseIs r (words_of tokens)) e (parsed (words_of tokens) (tokens_proper tokens) (tokens_ended tokens listed))
 
-pub stop_is_refused : (tokens : List Token) → IsTokenList tokens → (halt : Halt) → read_file MOST_LEVELS (words_of tokens) ≡ Err halt → RefusedAt (words_of tokens) (refusal_of halt)
+pub stop_is_refused : (tokens : List Token) → IsTokenList tokens → (halt : Halt) → read_file MOST_LEVELS (words_of tokens) ≡ Err halt
+    → RefusedAt (words_of tokens) (refusal_of halt)
 stop_is_refused tokens listed halt e =
-    let (front, first, others, split, at, refusal) = subst (λ r. ParseIs r (words_of tokens)) e (parsed (words_of tokens) (tokens_proper tokens) (tokens_ended tokens listed)) in
+    let (front, first, others, split, at, refusal) =
+    subst (λ r. ParseIs r (words_of tokens)) e (parsed (words_of tokens) (tokens_proper tokens) (tokens_ended tokens listed)) in
     (front, first, code_of halt.deep, refusal, ap (λ w. refusal_of (record { deep = halt.deep; at = w })) at)
 
-pub spelled_is_read : (tokens : List Token) → IsTokenList tokens → (file : File) → Spells file (words_of tokens) → file_nesting file ≤ MOST_LEVELS
+pub spelled_is_read : (tokens : List Token) → IsTokenList tokens → (file : File) → Spells file (words_of tokens)
+    → file_nesting file ≤ MOST_LEVELS
     → (halt : Halt) → read_file MOST_LEVELS (words_of tokens) ≡ Err halt → ⊥
 spelled_is_read tokens listed file spells fits halt e =
     let (read, is, same, within) = spelled (words_of tokens) (tokens_proper tokens) (tokens_ended tokens listed) file spells fits in

@@ -1,5 +1,6 @@
 -- What is found in one part and then in another.
-use Rattle.std.proofs.Common.{◌≡◌, ℕ, ◌+◌, ◌<◌, List, [], ◌∷◌, ◌++◌, length, drop, get_or, Result, Ok, Err, OnOk, append_assoc, sym, ap, ◌∙◌, subst}
+use Rattle.std.proofs.Common.{◌≡◌, ℕ, ◌+◌, ◌<◌, List, [], ◌∷◌, ◌++◌, length, drop, get_or, Result, Ok, Err, OnOk, append_assoc, sym, ap}
+use Rattle.std.proofs.Common.{◌∙◌, subst}
 use Rattle.std.proofs.lemmas.List.{append-nil, at_drop_more}
 use Rattle.c_tokens.specs.declared.places.Refusal.{Refusal}
 use Rattle.c_types_rules.proofs.KnownTables.{nil_left, nil_right}
@@ -32,7 +33,8 @@ then {one = one} {other = other} {a = a} {b = b} {c = c} first next = record {
 pub same : {one : Part} {a b : Building} → Adds one a b → (other : Part) → one ≡ other → Adds other a b
 same {a = a} {b = b} now other is = subst (λ p. Adds p a b) is now
 
-pub same_on : {T E : Type 0} (r : Result T E) (one other : Part) (a b : Building) → OnOk r (Adds one a b) → one ≡ other → OnOk r (Adds other a b)
+pub same_on : {T E : Type 0} (r : Result T E) (one other : Part) (a b : Building) → OnOk r (Adds one a b) → one ≡ other
+    → OnOk r (Adds other a b)
 same_on (Ok x) one other a b now is = same now other is
 same_on (Err e) one other a b now is = tt
 
@@ -43,7 +45,8 @@ begun all b = record { whole = λ after now. now }
 -- a turn of a loop
 turn : {left all one : Part} {start now next : Building} (rest : Part) → AddsUpTo left all start now → Adds one now next → left ≡ one ⊹ rest
     → AddsUpTo rest all start next
-turn {now = now} rest before step parts = record { whole = λ after more. before.whole after (subst (λ p. Adds p now after) (sym parts) (then step more)) }
+turn {now = now} rest before step parts =
+    record { whole = λ after more. before.whole after (subst (λ p. Adds p now after) (sym parts) (then step more)) }
 
 -- behind the last turn
 pub over : {left all : Part} {start now : Building} → AddsUpTo left all start now → left ≡ no_part → Adds all start now

@@ -38,8 +38,10 @@ pub value_closed : (c : Context) (kind ty : Ty) (line first : ℕ) (o m n : Out)
     → EmitsCode (value_closing (on_line c line) kind (take_temp kind o.temps)).code (take_temp kind o.temps).temps (At (length o.nodes)) o n
 value_closed c kind ty line first o m n found is at_first makes pushes room =
     let slot = slot_taken c (take_temp kind o.temps) in
-    let e = makes (on_line c line) refl (sym at_first) (λ ts. record { code = no_nodes; make = λ to next. cmd.Any to kind next; temps = ts }) o
-    (λ _. record { before = straight_none o; is = λ to next other. ap (λ k. cmd.Any to k next) is }) (subst (λ f. HasRoom f 1 o) (sym at_first) room) in
+    let e =
+    makes (on_line c line) refl (sym at_first) (λ ts. record { code = no_nodes; make = λ to next. cmd.Any to kind next; temps = ts }) o
+    (λ _. record { before = straight_none o; is = λ to next other. ap (λ k. cmd.Any to k next) is })
+    (subst (λ f. HasRoom f 1 o) (sym at_first) room) in
     let any = straight (no_nodes ⊳ command line (cmd.Any slot kind)) in
     let ends = command line (λ next. cmd.Return (Slot slot)) in
     let returns : EmitsCode ends m.temps (At (length m.nodes)) m n =
@@ -56,24 +58,29 @@ value_closes ctype.Int c temps not = refl
 value_closes (ctype.Pointer tag) c temps not = refl
 value_closes ctype.Void c temps not = absurd (not refl)
 
-pub closed_with_value : (c : Context) (line : ℕ) (place : Place) (kind : CType) (o r n : Out) → (kind ≡ ctype.Void → ⊥) → type_seen kind ≡ c.result
+pub closed_with_value : (c : Context) (line : ℕ) (place : Place) (kind : CType) (o r n : Out) → (kind ≡ ctype.Void → ⊥)
+    → type_seen kind ≡ c.result
     → line ≡ place.line - c.first_line → r ≡ record o { temps = released o.temps }
     → (HasRoom c.first_temp 1 r → EmitsCode (value_closing (on_line c line) (type_seen kind) (take_temp (type_seen kind) r.temps)).code
     (take_temp (type_seen kind) r.temps).temps (At (length r.nodes)) r n)
     → HasRoom c.first_temp (closing c.result (at_place c place) (released o.temps)).code.size o
-    → EmitsCode (closing c.result (at_place c place) (released o.temps)).code (closing c.result (at_place c place) (released o.temps)).temps (At (length o.nodes))
+    → EmitsCode (closing c.result (at_place c place) (released o.temps)).code (closing c.result (at_place c place) (released o.temps)).temps
+    (At (length o.nodes))
     (record o { temps = released o.temps }) n
 closed_with_value c line place kind o r n not kind_is line_is releases emits =
     let o' = record o { temps = released o.temps } in
-    let is : closing c.result (at_place c place) (released o.temps) ≡ value_closing (on_line c line) (type_seen kind) (take_temp (type_seen kind) (released o.temps)) =
-    ap (λ k. closing k (at_place c place) (released o.temps)) (sym kind_is) ∙ ap (λ n. closing (type_seen kind) (on_line c n) (released o.temps)) (sym line_is)
+    let is : closing c.result (at_place c place) (released o.temps)
+    ≡ value_closing (on_line c line) (type_seen kind) (take_temp (type_seen kind) (released o.temps)) =
+    ap (λ k. closing k (at_place c place) (released o.temps)) (sym kind_is)
+    ∙ ap (λ n. closing (type_seen kind) (on_line c n) (released o.temps)) (sym line_is)
     ∙ value_closes kind (on_line c line) (released o.temps) not in
     let same = length-map o.temps released_one in
     subst (λ (k : Piece). HasRoom c.first_temp k.code.size o → EmitsCode k.code k.temps (At (length o.nodes)) o' n) (sym is)
     (λ room.
     let nodes = room.nodes in
     let temps = room.temps in
-    subst (λ x. HasRoom c.first_temp 1 x → EmitsCode (value_closing (on_line c line) (type_seen kind) (take_temp (type_seen kind) x.temps)).code
+    subst (λ x. HasRoom c.first_temp 1 x
+    → EmitsCode (value_closing (on_line c line) (type_seen kind) (take_temp (type_seen kind) x.temps)).code
     (take_temp (type_seen kind) x.temps).temps (At (length x.nodes)) x n) releases emits
     (record { nodes = omega (arith, nodes); temps = omega (arith, temps, same) }))
 
@@ -91,7 +98,8 @@ closed_is (Ptr tag) place l = refl
 closed_is Void place l = refl
 
 closed_kinds : (result : Ty) (place : Place) (l : Lowered)
-    → map temp_kind (closing result (at_place l.behind.context place) (released l.behind.temps)).temps ≡ map temp_kind (closed result place l).behind.temps
+    → map temp_kind (closing result (at_place l.behind.context place) (released l.behind.temps)).temps
+    ≡ map temp_kind (closed result place l).behind.temps
 closed_kinds Int place l = refl
 closed_kinds (Ptr tag) place l = refl
 closed_kinds Void place l = released_kinds l.behind.temps
@@ -136,17 +144,23 @@ module _ (c after : Context) (block : BlockTree) (line : ℕ) (o m n new : Out) 
   abbrev Ends : Ty → Context → List Temp → Type 0
   Ends result at temps =
       HasRoom after.first_temp (closing result at temps).code.size m
-      → EmitsCode (closing result at temps).code (closing result at temps).temps (At (length m.nodes)) (record m { temps = released m.temps }) n
+      → EmitsCode (closing result at temps).code (closing result at temps).temps (At (length m.nodes))
+      (record m { temps = released m.temps }) n
 
-  both_closed : Lays statements c 0 after laid o m → EmitsCode end.code end.temps (At (length m.nodes)) (record m { temps = released m.temps }) n
-      → EmitsCode whole.code end.temps (redirect (next_at (At (length m.nodes))) laid.begin) o (led_out (length o.nodes) (length m.nodes) (next_at (At (length m.nodes))) n)
+  both_closed : Lays statements c 0 after laid o m
+      → EmitsCode end.code end.temps (At (length m.nodes)) (record m { temps = released m.temps }) n
+      → EmitsCode whole.code end.temps (redirect (next_at (At (length m.nodes))) laid.begin) o
+      (led_out (length o.nodes) (length m.nodes) (next_at (At (length m.nodes))) n)
   both_closed lays closes =
-      subst (λ x. EmitsCode x end.temps (redirect (next_at (At (length m.nodes))) laid.begin) o (led_out (length o.nodes) (length m.nodes) (next_at (At (length m.nodes))) n))
+      subst (λ x. EmitsCode x end.temps (redirect (next_at (At (length m.nodes))) laid.begin) o
+      (led_out (length o.nodes) (length m.nodes) (next_at (At (length m.nodes))) n))
       (sym (closed_is c.result block.end statements))
-      (code_then statements.code end.code (released statements.behind.temps) end.temps laid.begin (At (length m.nodes)) o (record m { temps = released m.temps }) n
+      (code_then statements.code end.code (released statements.behind.temps) end.temps laid.begin (At (length m.nodes)) o
+      (record m { temps = released m.temps }) n
       (code_released statements.code statements.behind.temps laid.begin o m lays.emits) closes)
 
-  pub body_closed : (from past here : ℕ) → IsWithin c after → EmitsLowered statements c 0 after laid o m → Ends after.result (at_place after block.end) (released m.temps)
+  pub body_closed : (from past here : ℕ) → IsWithin c after → EmitsLowered statements c 0 after laid o m
+      → Ends after.result (at_place after block.end) (released m.temps)
       → from ≡ length o.nodes → past ≡ length m.nodes → (length m.nodes < 4294967296 → here ≡ length m.nodes)
       → (from ≤ past → past ≤ length n.nodes → new ≡ led_out from past (next_at (At here)) n)
       → HasRoom c.first_temp whole.code.size o → HasSlots c 0 whole.code.size → Closes whole (redirect (next_at (At here)) laid.begin) o new
@@ -155,7 +169,8 @@ module _ (c after : Context) (block : BlockTree) (line : ℕ) (o m n new : Out) 
       let room' = subst (λ (x : Code). HasRoom c.first_temp x.size o) is room in
       let size = ap (λ (x : Code). x.size) is in
       let lays = lowered (room_first c.first_temp statements.code.size end.code.size o room') (omega (arith, slots, size)) in
-      let context : at_place after block.end ≡ at_place statements.behind.context block.end = ap (λ (x : Context). at_place x block.end) lays.context in
+      let context : at_place after block.end ≡ at_place statements.behind.context block.end =
+      ap (λ (x : Context). at_place x block.end) lays.context in
       let ends' = subst (λ r. Ends r (at_place statements.behind.context block.end) (released statements.behind.temps)) within.result
       (subst (λ x. Ends after.result x (released statements.behind.temps)) context
       (subst (λ ts. Ends after.result (at_place after block.end) (released ts)) lays.emits.grows.temps ends)) in
@@ -169,10 +184,13 @@ module _ (c after : Context) (block : BlockTree) (line : ℕ) (o m n new : Out) 
       let led = led_out (length o.nodes) (length m.nodes) (next_at (At (length m.nodes))) n in
       let is_led : new ≡ led =
       leads (omega (arith, at, there, first)) (omega (arith, there, second)) ∙ ap (λ x. led_out x past (next_at (At here)) n) at
-      ∙ ap (λ x. led_out (length o.nodes) x (next_at (At here)) n) there ∙ ap (λ x. led_out (length o.nodes) (length m.nodes) (next_at (At x)) n) here_is in
+      ∙ ap (λ x. led_out (length o.nodes) x (next_at (At here)) n) there
+      ∙ ap (λ x. led_out (length o.nodes) (length m.nodes) (next_at (At x)) n) here_is in
       record {
         emits = subst (λ x. EmitsCode whole.code x.temps (redirect (next_at (At here)) laid.begin) o x) (sym is_led)
             (subst (λ h. EmitsCode whole.code n.temps (redirect (next_at (At h)) laid.begin) o led) (sym here_is)
-            (subst (λ ts. EmitsCode whole.code ts (redirect (next_at (At (length m.nodes))) laid.begin) o led) (sym closes.grows.temps) emits));
-        temps = ap (λ (x : Out). map temp_kind x.temps) is_led ∙ ap (map temp_kind) closes.grows.temps ∙ closed_kinds c.result block.end statements;
+            (subst (λ ts. EmitsCode whole.code ts (redirect (next_at (At (length m.nodes))) laid.begin) o led)
+            (sym closes.grows.temps) emits));
+        temps = ap (λ (x : Out). map temp_kind x.temps) is_led ∙ ap (map temp_kind) closes.grows.temps
+            ∙ closed_kinds c.result block.end statements;
       }

@@ -47,9 +47,12 @@ place_few tables (Some found) n h = omega (arith, place_within (field_kinds tabl
 
 items_few : (files : List File) → AllByRecursion HasCountableFields files → AllHaveFew (items_of files)
 items_few [] h = tt
-items_few (file ∷ files) h = all_append ItemHasCountableFields file.items (items_of files) (recursion_from_All ItemHasCountableFields file.items h.0) (items_few files h.1)
+items_few (file ∷ files) h =
+    all_append ItemHasCountableFields file.items (items_of files) (recursion_from_All ItemHasCountableFields file.items h.0)
+    (items_few files h.1)
 
 pub fields_fit : (files : List File) → All HasCountableFields files → FieldsFit (tables_of files)
 fields_fit files h = λ tag n.
     place_few (tables_of files) (structure_in (tables_of files).structures tag) n
-    (found_few (tables_of files).structures (few_structures (items_of files) (items_few files (recursion_from_All HasCountableFields files h))) tag)
+    (found_few (tables_of files).structures
+    (few_structures (items_of files) (items_few files (recursion_from_All HasCountableFields files h))) tag)

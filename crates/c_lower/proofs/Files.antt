@@ -1,5 +1,6 @@
 -- Files, one behind another.
-use Rattle.std.proofs.Common.{◌≡◌, ℕ, suc, ◌+◌, ◌<◌, ◌≤◌, List, ◌∷◌, ◌++◌, length, map, drop, get_or, append_assoc, sym, ap, ◌∙◌, subst, arith, add-one}
+use Rattle.std.proofs.Common.{◌≡◌, ℕ, suc, ◌+◌, ◌<◌, ◌≤◌, List, ◌∷◌, ◌++◌, length, map, drop, get_or, append_assoc, sym, ap, ◌∙◌, subst}
+use Rattle.std.proofs.Common.{arith, add-one}
 use Rattle.std.specs.Prelude.{All}
 use Rattle.std.proofs.lemmas.List.{at_drop_more, at_drop_all, length-map, get_or-map}
 use Rattle.c_tree.specs.declared.items.Unit.{Unit}
@@ -17,7 +18,8 @@ use Rattle.c_lower.specs.declared.building.Building.{Building}
 use Rattle.c_lower.specs.Building.{items_part, Adds, IsBuiltUpTo}
 
 -- what is so of each of some values is so of the one at a place
-pub at_map : {X Y : Type 0} (P : Y → Type 0) (f : X → Y) (xs : List X) (i : ℕ) (x : X) → i < length xs → x ≡ get_or xs i x → All P (map f xs) → P (f x)
+pub at_map : {X Y : Type 0} (P : Y → Type 0) (f : X → Y) (xs : List X) (i : ℕ) (x : X) → i < length xs → x ≡ get_or xs i x
+    → All P (map f xs) → P (f x)
 at_map P f xs i x within is h =
     subst P (get_or-map f xs i x (f x) within ∙ ap f (sym is)) (h i (f x) (omega (arith, within, length-map xs f)))
 
@@ -25,19 +27,22 @@ module _ (tables : Tables) (files : List File) (names : List (List ℕ)) where
   -- a file
   file_turn : (file : File) (rest : List File) (name : List ℕ) (rest_names : List (List ℕ)) (unit : ℕ) (before now : Building)
       → IsBuiltUpTo tables files names (file ∷ rest) (name ∷ rest_names) unit before
-      → Adds (items_part tables name file.items) (record { first = record { unit = unit; found = before.first.found }; procs = before.procs }) now
+      → Adds (items_part tables name file.items)
+      (record { first = record { unit = unit; found = before.first.found }; procs = before.procs }) now
       → IsBuiltUpTo tables files names rest rest_names (suc unit) now
   file_turn file rest name rest_names unit before now known adds =
       let all = map (in_unit unit) (items_refusals tables file.items) in
       let found_now : now.first.found ≡ first_with before.first.found all =
-      ap (λ (f : FirstRefusal). f.found) adds.first ∙ with_refusals-found (record { unit = unit; found = before.first.found }) (items_refusals tables file.items) in
+      ap (λ (f : FirstRefusal). f.found) adds.first
+      ∙ with_refusals-found (record { unit = unit; found = before.first.found }) (items_refusals tables file.items) in
       record {
         refusal = ap (λ f. first_with f (files_refusals tables (suc unit) rest)) found_now
             ∙ sym (first_with-append before.first.found all (files_refusals tables (suc unit) rest)) ∙ known.refusal;
         none = λ e. nil_right all (files_refusals tables (suc unit) rest) (known.none e);
         procs = λ e.
             ap (λ ps. ps ++ files_procs tables rest_names rest)
-            (adds.procs (nothing_mapped (in_unit unit) (items_refusals tables file.items) (nil_left all (files_refusals tables (suc unit) rest) (known.none e))))
+            (adds.procs (nothing_mapped (in_unit unit) (items_refusals tables file.items)
+            (nil_left all (files_refusals tables (suc unit) rest) (known.none e))))
             ∙ append_assoc before.procs (items_procs tables name file.items) (files_procs tables rest_names rest)
             ∙ known.procs e;
       }
@@ -52,18 +57,21 @@ module _ (tables : Tables) (files : List File) (names : List (List ℕ)) where
     here_names = at_drop_more (λ xs. xs) names i name within_names ∙ ap (λ x. x ∷ drop (i + 1) names) (sym name_is)
 
     pub next_file : (before now : Building) → IsBuiltUpTo tables files names (map unit_tree (drop i units)) (drop i names) i before
-        → Adds (items_part tables name (unit_tree one).items) (record { first = record { unit = i; found = before.first.found }; procs = before.procs }) now
+        → Adds (items_part tables name (unit_tree one).items)
+        (record { first = record { unit = i; found = before.first.found }; procs = before.procs }) now
         → IsBuiltUpTo tables files names (map unit_tree (drop (i + 1) units)) (drop (i + 1) names) (i + 1) now
     next_file before now known adds =
         let rest = map unit_tree (drop (i + 1) units) in
         let by_files = subst (λ (xs : List File). IsBuiltUpTo tables files names xs (drop i names) i before) here known in
-        let by_names = subst (λ (xs : List (List ℕ)). IsBuiltUpTo tables files names (unit_tree one ∷ rest) xs i before) here_names by_files in
+        let by_names =
+        subst (λ (xs : List (List ℕ)). IsBuiltUpTo tables files names (unit_tree one ∷ rest) xs i before) here_names by_files in
         subst (λ (n : ℕ). IsBuiltUpTo tables files names rest (drop (i + 1) names) n now) (sym (add-one i))
         (file_turn (unit_tree one) rest name (drop (i + 1) names) i before now by_names adds)
 
   -- behind the last turn
   pub last_file : (units : List Unit) (i : ℕ) (left_names : List (List ℕ)) (now : Building) → length units ≤ i
-      → IsBuiltUpTo tables files names (map unit_tree (drop i units)) left_names i now → now.first.found ≡ first_of (files_refusals tables 0 files)
+      → IsBuiltUpTo tables files names (map unit_tree (drop i units)) left_names i now
+      → now.first.found ≡ first_of (files_refusals tables 0 files)
   last_file units i left_names now past known =
       sym (first_with-nil now.first.found)
       ∙ sym (at_drop_all (λ (xs : List Unit). first_with now.first.found (files_refusals tables i (map unit_tree xs))) units i past)

@@ -46,11 +46,13 @@ refused_of sizes place =
 
 abbrev by_numbers : ℕ → ℕ → ℕ → ℕ → Place → List Refusal
 by_numbers nodes slots temps params place =
-    unless (nat_le nodes MOST_NODES) place NODES ++ unless (nat_le slots MOST_LOCALS) place SLOTS ++ unless (nat_le temps MOST_TEMPORARIES) place SLOTS
+    unless (nat_le nodes MOST_NODES) place NODES ++ unless (nat_le slots MOST_LOCALS) place SLOTS
+    ++ unless (nat_le temps MOST_TEMPORARIES) place SLOTS
     ++ unless (nat_le params MOST_PARAMETERS) place PARAMETERS
 
 sized : (tables : Tables) (head : tree.Head) (body : tree.Stmts) (l : Lowered) (sizes : Sizes) (place : Place)
-    → sizes.nodes ≡ length (l.code.nodes 0 (onto 0)) → sizes.params ≡ length (listed head.params) → sizes.locals ≡ length (stmts_kinds tables body)
+    → sizes.nodes ≡ length (l.code.nodes 0 (onto 0)) → sizes.params ≡ length (listed head.params)
+    → sizes.locals ≡ length (stmts_kinds tables body)
     → sizes.temps ≡ length l.behind.temps → place ≡ place_of_head head → refusals_of sizes place ≡ size_refusals tables head body l
 sized tables head body l sizes place nodes params locals temps at =
     let code = length (l.code.nodes 0 (onto 0)) in
@@ -63,8 +65,10 @@ sized tables head body l sizes place nodes params locals temps at =
     ∙ ap (λ p. by_numbers code (many + kinds) (length l.behind.temps) many p) at
 
 -- what is refused in a procedure whose body was lowered
-pub sized_body : (tables : Tables) (head : tree.Head) (block : BlockTree) (found : Body) (sizes : Sizes) (place : Place) → IsBodyOf tables head block found
-    → sizes.nodes ≡ length found.nodes.items → sizes.params ≡ length (listed head.params) → sizes.locals ≡ length (stmts_kinds tables block.body)
+pub sized_body : (tables : Tables) (head : tree.Head) (block : BlockTree) (found : Body) (sizes : Sizes) (place : Place)
+    → IsBodyOf tables head block found
+    → sizes.nodes ≡ length found.nodes.items → sizes.params ≡ length (listed head.params)
+    → sizes.locals ≡ length (stmts_kinds tables block.body)
     → sizes.temps ≡ length found.temps.items → place ≡ place_of_head head
     → refusals_of sizes place ≡ size_refusals tables head block.body (lowered_body tables head block.body block.end)
 sized_body tables head block found sizes place body nodes params locals temps at =
@@ -93,9 +97,11 @@ module _ (tables : Tables) (head : tree.Head) (body : tree.Stmts) (l : Lowered) 
   are_with_nodes = ap with_nodes (is_more (length (l.code.nodes 0 (onto 0))) 512 many)
 
   -- that is refused before all else
-  pub alone : (f : FirstRefusal) (place : Place) → place ≡ place_of_head head → with_refusals f (unless false place NODES) ≡ with_refusals f (size_refusals tables head body l)
+  pub alone : (f : FirstRefusal) (place : Place) → place ≡ place_of_head head
+      → with_refusals f (unless false place NODES) ≡ with_refusals f (size_refusals tables head body l)
   alone f place at =
-      ap (λ p. with_refusals f (unless false p NODES)) at ∙ sym (nodes_alone f (place_of_head head) _ _ _) ∙ ap (with_refusals f) (sym are_with_nodes)
+      ap (λ p. with_refusals f (unless false p NODES)) at ∙ sym (nodes_alone f (place_of_head head) _ _ _)
+      ∙ ap (with_refusals f) (sym are_with_nodes)
 
   pub refused_for_nodes : size_refusals tables head body l ≡ [] → ⊥
   refused_for_nodes none = not_nil _ _ (sym are_with_nodes ∙ none)

@@ -38,10 +38,12 @@ module _ (tables : Tables) (head : Head) (block : BlockTree) (o : Out) where
   abbrev start : Context
   start = at_body tables head (length (stmts_kinds tables block.body))
 
-  pub begun_closed : (c : Context) (locals : ℕ) (begin : Label) (new : Out) → IsIntNumber (length (listed head.params)) → locals ≡ stmts_locals block.body
+  pub begun_closed : (c : Context) (locals : ℕ) (begin : Label) (new : Out) → IsIntNumber (length (listed head.params))
+      → locals ≡ stmts_locals block.body
       → stmts_size block.body ≤ 512 → length o.nodes ≤ 1 → o.temps ≡ [] → HaveSizes → HaveLocalKinds → HaveANodeForEachLocal
       → (length (listed head.params) + locals < 4294967296 → c ≡ at_body tables head locals)
-      → ((line : ℕ) → HasRoom c.first_temp (closed_body (on_line c line) block o).code.size o → HasSlots c 0 (closed_body (on_line c line) block o).code.size
+      → ((line : ℕ) → HasRoom c.first_temp (closed_body (on_line c line) block o).code.size o
+      → HasSlots c 0 (closed_body (on_line c line) block o).code.size
       → Closes (closed_body (on_line c line) block o) begin o new)
       → Closes (closed_of tables head block) begin o new
   begun_closed c locals begin new params locals_are few nodes none sizes kinds fewer begins closes =
@@ -55,13 +57,15 @@ module _ (tables : Tables) (head : Head) (block : BlockTree) (o : Out) where
       let exact = sizes block.body (record { temps = []; locals = 0; context = start }) in
       let temps = ap length none in
       subst (λ (l : Lowered). HasRoom start.first_temp l.code.size o → HasSlots start 0 l.code.size → Closes l begin o new) same
-      (subst (λ x. HasRoom x.first_temp (closed_body (on_line x 0) block o).code.size o → HasSlots x 0 (closed_body (on_line x 0) block o).code.size
+      (subst (λ x. HasRoom x.first_temp (closed_body (on_line x 0) block o).code.size o
+      → HasSlots x 0 (closed_body (on_line x 0) block o).code.size
       → Closes (closed_body (on_line x 0) block o) begin o new) is (closes 0))
       (record { nodes = omega (arith, nodes, size, exact, few); temps = omega (arith, params, count, less, size, exact, few, temps) })
       (omega (arith, params, size, exact, few))
 
 -- a body behind a test that always holds
-pub opened_whole : (l : Lowered) (begin : Label) (o p q new : Out) → o ≡ no_out → EmitsCode opening o.temps (At (length o.nodes)) o p → Closes l begin p q
+pub opened_whole : (l : Lowered) (begin : Label) (o p q new : Out) → o ≡ no_out → EmitsCode opening o.temps (At (length o.nodes)) o p
+    → Closes l begin p q
     → (0 ≤ 1 → 1 ≤ length q.nodes → new ≡ led_out 0 1 (next_at begin) q) → Closes (behind_opening l) (At 0) no_out new
 opened_whole l begin o p q new none opens closes leads =
     let opens' = subst (λ (x : Out). EmitsCode opening x.temps (At (length x.nodes)) x p) none opens in
@@ -77,16 +81,19 @@ opened_whole l begin o p q new none opens closes leads =
 
 module _ (tables : Tables) (head : Head) (block : BlockTree) where
   -- the body of a procedure
-  whole_body : (l : Lowered) (begin : Label) (out : Out) (found : Body) → opened (closed_of tables head block) ≡ l → Closes l begin no_out out → IsFinished out found
+  whole_body : (l : Lowered) (begin : Label) (out : Out) (found : Body) → opened (closed_of tables head block) ≡ l
+      → Closes l begin no_out out → IsFinished out found
       → IsBodyOf tables head block found
   whole_body l begin out found is closes finished = record {
-    nodes = finished.nodes ∙ ap (map (laid at_start)) closes.emits.grows.nodes ∙ closes.emits.laid at_start ∙ ap (λ (x : Lowered). x.code.nodes 0 (onto 0)) (sym is);
+    nodes = finished.nodes ∙ ap (map (laid at_start)) closes.emits.grows.nodes ∙ closes.emits.laid at_start
+        ∙ ap (λ (x : Lowered). x.code.nodes 0 (onto 0)) (sym is);
     loops = finished.loops ∙ closes.emits.loops ∙ ap (λ (x : Lowered). x.code.loops 0) (sym is);
     temps = finished.temps ∙ closes.temps ∙ ap (λ (x : Lowered). map temp_kind x.behind.temps) (sym is);
   }
 
   -- its code begins at its first node
-  pub begun_first : (begin : Label) (place : ℕ) (none out : Out) (found : Body) → none ≡ no_out → Closes (closed_of tables head block) begin none out
+  pub begun_first : (begin : Label) (place : ℕ) (none out : Out) (found : Body) → none ≡ no_out
+      → Closes (closed_of tables head block) begin none out
       → place ≡ resolve at_start begin → place ≡ 0 → IsFinished out found → IsBodyOf tables head block found
   begun_first begin place none out found nothing closes places first =
       let l = closed_of tables head block in
@@ -99,11 +106,14 @@ module _ (tables : Tables) (head : Head) (block : BlockTree) where
   begun_behind (suc n) code not = refl
 
   -- its code begins at another node
-  pub begun_later : (begin : Label) (place : ℕ) (none before out : Out) (found : Body) → none ≡ no_out → Closes (closed_of tables head block) begin none before
-      → place ≡ resolve at_start begin → (place ≡ 0 → ⊥) → Closes (behind_opening (closed_of tables head block)) (At 0) no_out out → IsFinished out found
+  pub begun_later : (begin : Label) (place : ℕ) (none before out : Out) (found : Body) → none ≡ no_out
+      → Closes (closed_of tables head block) begin none before
+      → place ≡ resolve at_start begin → (place ≡ 0 → ⊥) → Closes (behind_opening (closed_of tables head block)) (At 0) no_out out
+      → IsFinished out found
       → IsBodyOf tables head block found
   begun_later begin place none before out found nothing closes places not behind =
       let l = closed_of tables head block in
       let closes' = subst (λ x. Closes l begin x before) nothing closes in
       let entry : l.code.entry 0 (onto 0) ≡ place = sym (closes'.emits.entry at_start) ∙ sym places in
-      whole_body (behind_opening l) (At 0) out found (ap (λ x. record l { code = x }) (begun_behind (l.code.entry 0 (onto 0)) l.code (λ e. not (sym entry ∙ e)))) behind
+      whole_body (behind_opening l) (At 0) out found
+      (ap (λ x. record l { code = x }) (begun_behind (l.code.entry 0 (onto 0)) l.code (λ e. not (sym entry ∙ e)))) behind

@@ -33,7 +33,8 @@ laid_led p w d =
 
 pub all_led : (p : Places) (w : Ways) (ds : List Draft) → map (laid p) (map (redirected w) ds) ≡ map (laid (led p w)) ds
 all_led p w [] = refl
-all_led p w (d ∷ ds) = ap (λ n. n ∷ map (laid p) (map (redirected w) ds)) (laid_led p w d) ∙ ap (λ ns. laid (led p w) d ∷ ns) (all_led p w ds)
+all_led p w (d ∷ ds) = ap (λ n. n ∷ map (laid p) (map (redirected w) ds)) (laid_led p w d)
+    ∙ ap (λ ns. laid (led p w) d ∷ ns) (all_led p w ds)
 
 -- the middle of three lists is led
 take_front : {A : Type 0} (xs ys : List A) → take (length xs) (xs ++ ys) ≡ xs
@@ -49,8 +50,10 @@ pub middle_led : (w : Ways) (xs ys zs : List Draft) (from past : ℕ) → from �
 middle_led w xs ys zs from past at there =
     let count : past - from ≡ length ys = omega (arith, at, there) in
     let behind : past ≡ length (xs ++ ys) = there ∙ sym (length-append xs ys) in
-    ap (λ n. (take from ((xs ++ ys) ++ zs) ++ map (redirected w) (take (past - from) (drop from ((xs ++ ys) ++ zs)))) ++ drop n ((xs ++ ys) ++ zs)) behind
-    ∙ ap (λ ds. (take from ((xs ++ ys) ++ zs) ++ map (redirected w) (take (past - from) (drop from ((xs ++ ys) ++ zs)))) ++ ds) (drop_front (xs ++ ys) zs)
+    ap (λ n. (take from ((xs ++ ys) ++ zs) ++ map (redirected w) (take (past - from) (drop from ((xs ++ ys) ++ zs))))
+    ++ drop n ((xs ++ ys) ++ zs)) behind
+    ∙ ap (λ ds. (take from ((xs ++ ys) ++ zs) ++ map (redirected w) (take (past - from) (drop from ((xs ++ ys) ++ zs)))) ++ ds)
+    (drop_front (xs ++ ys) zs)
     ∙ ap (λ ds. (take from ds ++ map (redirected w) (take (past - from) (drop from ds))) ++ zs) (append_assoc xs ys zs)
     ∙ ap (λ n. (take n (xs ++ (ys ++ zs)) ++ map (redirected w) (take (past - from) (drop n (xs ++ (ys ++ zs))))) ++ zs) at
     ∙ ap (λ n. (take (length xs) (xs ++ (ys ++ zs)) ++ map (redirected w) (take n (drop (length xs) (xs ++ (ys ++ zs))))) ++ zs) count

@@ -13,18 +13,22 @@ use Rattle.c_lower_exprs.proofs.Weights.{weight, links_weight}
 -- the chain of one link more
 pub chain_more : (c : Context) (before : Lowering) (links : List Link) (n : ℕ) (d : Link) → n < length links
     → chain c before (links_tree (take (suc n) links))
-    ≡ binary c (link_tree (get_or links n d)).op (chain c before (links_tree (take n links))) (lowering c (link_tree (get_or links n d)).operand)
+    ≡ binary c (link_tree (get_or links n d)).op (chain c before (links_tree (take n links)))
+    (lowering c (link_tree (get_or links n d)).operand)
 chain_more c before [] n d = λ lt. absurd (omega (arith, lt))
 chain_more c before (l ∷ ls) zero d = λ lt. refl
-chain_more c before (l ∷ ls) (suc n) d = λ lt. chain_more c (binary c (link_tree l).op before (lowering c (link_tree l).operand)) ls n d (omega (arith, lt))
+chain_more c before (l ∷ ls) (suc n) d =
+    λ lt. chain_more c (binary c (link_tree l).op before (lowering c (link_tree l).operand)) ls n d (omega (arith, lt))
 
 pub weight_more : (links : List Link) (n : ℕ) (d : Link) → n < length links
-    → links_weight (links_tree (take (suc n) links)) ≡ weight (link_tree (get_or links n d)).operand + links_weight (links_tree (take n links)) + 1
+    → links_weight (links_tree (take (suc n) links))
+    ≡ weight (link_tree (get_or links n d)).operand + links_weight (links_tree (take n links)) + 1
 weight_more [] n d = λ lt. absurd (omega (arith, lt))
 weight_more (l ∷ ls) zero d = λ lt. omega arith
 weight_more (l ∷ ls) (suc n) d = λ lt. let h = weight_more ls n d (omega (arith, lt)) in omega (arith, h)
 
-pub numbers_at : (links : List Link) (n : ℕ) (d : Link) → n < length links → HaveIntNumbers (links_tree links) → HasIntNumbers (link_tree (get_or links n d)).operand
+pub numbers_at : (links : List Link) (n : ℕ) (d : Link) → n < length links → HaveIntNumbers (links_tree links)
+    → HasIntNumbers (link_tree (get_or links n d)).operand
 numbers_at [] n d = λ lt. absurd (omega (arith, lt))
 numbers_at (l ∷ ls) zero d = λ lt h. h.0
 numbers_at (l ∷ ls) (suc n) d = λ lt h. numbers_at ls n d (omega (arith, lt)) h.1
@@ -58,10 +62,12 @@ module _ (links : List Link) (count : ℕ) (some : count ≡ 0 → ⊥) (within 
 
   -- the first of them, and the last
   pub chain_is : (c : Context) (before : Lowering) (l m : Link) → l ≡ get_or links (count - 1) l → m ≡ get_or links (count - 1) m
-      → chain c before (links_tree (take count links)) ≡ binary c (binary_tree l.op) (chain c before (links_tree (take (count - 1) links))) (lowering c (expr_tree m.operand))
+      → chain c before (links_tree (take count links))
+      ≡ binary c (binary_tree l.op) (chain c before (links_tree (take (count - 1) links))) (lowering c (expr_tree m.operand))
   chain_is c before l m is is' =
       ap (λ n. chain c before (links_tree (take n links))) one_more ∙ chain_more c before links (count - 1) m lt
-      ∙ ap (λ op. binary c op (chain c before (links_tree (take (count - 1) links))) (lowering c (link_tree (get_or links (count - 1) m)).operand)) (op_is l m is)
+      ∙ ap (λ op. binary c op (chain c before (links_tree (take (count - 1) links)))
+      (lowering c (link_tree (get_or links (count - 1) m)).operand)) (op_is l m is)
       ∙ ap (λ e. binary c (binary_tree l.op) (chain c before (links_tree (take (count - 1) links))) (lowering c e)) (operand_is m is')
 
   pub weights : (m : Link) → m ≡ get_or links (count - 1) m
@@ -70,5 +76,6 @@ module _ (links : List Link) (count : ℕ) (some : count ≡ 0 → ⊥) (within 
       ap (λ n. links_weight (links_tree (take n links))) one_more ∙ weight_more links (count - 1) m lt
       ∙ ap (λ e. weight e + links_weight (links_tree (take (count - 1) links)) + 1) (operand_is m is)
 
-  pub operand_numbers : (m : Link) → m ≡ get_or links (count - 1) m → HaveIntNumbers (links_tree links) → HasIntNumbers (expr_tree m.operand)
+  pub operand_numbers : (m : Link) → m ≡ get_or links (count - 1) m → HaveIntNumbers (links_tree links)
+      → HasIntNumbers (expr_tree m.operand)
   operand_numbers m is h = subst HasIntNumbers (operand_is m is) (numbers_at links (count - 1) m lt h)

@@ -14,7 +14,8 @@ with_marks-length (mark ∷ marks) [] = refl
 with_marks-length (mark ∷ marks) (node ∷ nodes) = ap suc (with_marks-length marks nodes)
 
 -- one more node gets its mark
-pub with_marks-more : (marks : List (Option HeadMark)) (nodes : List Node) (mark : Option HeadMark) (one : Node) → length marks < length nodes
+pub with_marks-more : (marks : List (Option HeadMark)) (nodes : List Node) (mark : Option HeadMark) (one : Node)
+    → length marks < length nodes
     → one ≡ get_or (with_marks marks nodes) (length marks) one
     → slice_set (with_marks marks nodes) (length marks) (record one { head = mark }) ≡ with_marks (marks ++ mark ∷ []) nodes
 with_marks-more [] [] mark one within is = absurd (omega (arith, within))
@@ -25,7 +26,8 @@ with_marks-more (first ∷ marks) (node ∷ nodes) mark one within is =
 
 -- a turn of a loop over the marks
 pub with_marks-turn : (marks : List (Option HeadMark)) (nodes now : List Node) (mark : Option HeadMark) (one : Node) (place : ℕ)
-    → place ≡ length marks → now ≡ with_marks marks nodes → length marks < length nodes → one ≡ get_or now place one → slice_set now place (record one { head = mark }) ≡ with_marks (marks ++ mark ∷ []) nodes
+    → place ≡ length marks → now ≡ with_marks marks nodes → length marks < length nodes → one ≡ get_or now place one
+    → slice_set now place (record one { head = mark }) ≡ with_marks (marks ++ mark ∷ []) nodes
 with_marks-turn marks nodes now mark one place p q within is =
     ap (λ (xs : List Node). slice_set xs place (record one { head = mark })) q
     ∙ ap (λ (n : ℕ). slice_set (with_marks marks nodes) n (record one { head = mark })) p

@@ -31,7 +31,8 @@ all_more P Q f (x ∷ xs) h = (f x h.0, all_more P Q f xs h.1)
 no_pairs : {A : Type 0} (R : A → A → Type 0) → AllPairs R []
 no_pairs R = λ i j d i_lt j_lt. absurd (omega arith)
 
-pub different_names : {A : Type 0} (name_of : A → List ℕ) (things : List A) → Distinct (map name_of things) → HaveDifferentNames name_of things
+pub different_names : {A : Type 0} (name_of : A → List ℕ) (things : List A) → Distinct (map name_of things)
+    → HaveDifferentNames name_of things
 different_names name_of [] h = no_pairs (λ one other. name_of one ≢ name_of other)
 different_names name_of (first ∷ others) h =
     AllPairs-cons (λ one other. name_of one ≢ name_of other) first others
@@ -65,7 +66,8 @@ none_listed before [] e = tt
 none_listed before (first ∷ others) e = (
   is_not (is_listed before first) (holds _ _ _ (nil_left _ _ e)),
   all_more (λ (n : Name). is_listed (first ∷ before) n ≡ false) (λ (n : Name). is_listed before n ≡ false)
-      (λ n h. (first_failed (bytes_eq first.text n.text) (is_listed before n) h).1) others (none_listed (first ∷ before) others (nil_right _ _ e)),
+      (λ n h. (first_failed (bytes_eq first.text n.text) (is_listed before n) h).1) others
+      (none_listed (first ∷ before) others (nil_right _ _ e)),
 )
 
 pub twice_distinct : (before all : List Name) → twice before all ≡ [] → Distinct (map name_text all)

@@ -5,7 +5,8 @@ use Rattle.c_tokens.specs.declared.places.Place.{Place}
 use Rattle.c_grammar.specs.Classes
 use Rattle.c_grammar.specs.Words.{Word}
 use Rattle.c_grammar.specs.Trees.{Specifier, Expr, Links, Args, Simple}
-use Rattle.c_grammar.specs.Spelling.{◌⨾◌, word, name, level_of, class_of_binary, class_of_prefix, class_of_assign, class_of_step, size_of, malloc, expr_at, links_at, call_args, more_args, simple}
+use Rattle.c_grammar.specs.Spelling.{◌⨾◌, word, name, level_of, class_of_binary, class_of_prefix, class_of_assign, class_of_step, size_of}
+use Rattle.c_grammar.specs.Spelling.{malloc, expr_at, links_at, call_args, more_args, simple}
 use Rattle.c_lower_rules.specs.Texts.{IsLine, IsExprLine, IsSimpleLine}
 use Rattle.c_lower_rules.specs.Numbers.{HasIntNumbers, HaveIntNumbers, AllHaveIntNumbers, SimpleHasIntNumbers}
 use Rattle.c_lower_rules.proofs.GoodWords.{AreGood}
@@ -20,7 +21,8 @@ a_size_of target from to good (a, h, (b, i, (c, j, (d, k, (e, l, m))))) =
     then (a_specifier target c d r.good k) (λ s.
     then (a_word Classes.CLOSE d e s.good l) (λ t. ends (a_word Classes.CLOSE e to t.good m) (λ u. tt))))))
 
-a_malloc : (place : Place) (as_type : Option Specifier) (target : Specifier) (from to : List Word) → AreGood from → malloc place as_type target from to
+a_malloc : (place : Place) (as_type : Option Specifier) (target : Specifier) (from to : List Word) → AreGood from
+    → malloc place as_type target from to
     → Has from to (IsLine place)
 a_malloc place None target from to good (a, h, k) =
     then (a_word_at place Classes.MALLOC from a good h) (λ w. ends (a_size_of target a to w.good k) (λ s. w.is.0))
@@ -46,7 +48,8 @@ mutual
       then (an_expr first (level_of op + 1) from a good h) (λ f.
       then (a_word (class_of_binary op) a b f.good i) (λ w.
       then (an_expr second (level_of op + 1) b c w.good j) (λ s.
-      ends (some_links others (level_of op) c to s.good k) (λ l. record { line = f.is.line; numbers = (f.is.numbers, (s.is.numbers, l)) }))))
+      ends (some_links others (level_of op) c to s.good k)
+      (λ l. record { line = f.is.line; numbers = (f.is.numbers, (s.is.numbers, l)) }))))
   an_expr (Expr.Prefix place op inner) level from to good (least, (a, h, k)) =
       then (a_word_at place (class_of_prefix op) from a good h) (λ w.
       ends (an_expr inner 6 a to w.good k) (λ i. record { line = w.is.0; numbers = i.numbers }))
@@ -57,8 +60,10 @@ mutual
       ends (all_shown (λ field. word Classes.ARROW ⨾ name field) (λ field. Unit {0}) a_member others c to n.good k)
       (λ o. record { line = x.is.line; numbers = x.is.numbers }))))
   an_expr (Expr.Variable v) level from to good h = ends (a_name v from to good h) (λ n. record { line = n.0.line; numbers = tt })
-  an_expr (Expr.Number place value) level from to good h = ends (a_number place value from to good h) (λ n. record { line = n.0; numbers = n.1 })
-  an_expr (Expr.Null place) level from to good h = ends (a_word_at place Classes.NULL from to good h) (λ w. record { line = w.0; numbers = tt })
+  an_expr (Expr.Number place value) level from to good h =
+      ends (a_number place value from to good h) (λ n. record { line = n.0; numbers = n.1 })
+  an_expr (Expr.Null place) level from to good h =
+      ends (a_word_at place Classes.NULL from to good h) (λ w. record { line = w.0; numbers = tt })
   an_expr (Expr.Paren place inner) level from to good (a, h, (b, i, k)) =
       then (a_word_at place Classes.OPEN from a good h) (λ w.
       then (an_expr inner 0 a b w.good i) (λ x.
@@ -71,7 +76,8 @@ mutual
   an_expr (Expr.Malloc place as_type target) level from to good h =
       ends (a_malloc place as_type target from to good h) (λ line. record { line = line; numbers = tt })
 
-  some_links : (links : Links) (level : ℕ) (from to : List Word) → AreGood from → links_at level links from to → Has from to (HaveIntNumbers links)
+  some_links : (links : Links) (level : ℕ) (from to : List Word) → AreGood from → links_at level links from to
+      → Has from to (HaveIntNumbers links)
   some_links Links.NoLinks level from to good h = nothing_else from to good h tt
   some_links (Links.Link op operand others) level from to good (same, (a, h, (b, i, k))) =
       then (a_word (class_of_binary op) from a good h) (λ w.
@@ -99,7 +105,8 @@ a_simple (Simple.Assign target op value) from to good (a, h, (b, i, k)) =
     then (a_word (class_of_assign op) a b x.good i) (λ w.
     ends (an_expr value 0 b to w.good k) (λ y. record { line = x.is.line; numbers = (x.is.numbers, y.numbers) })))
 a_simple (Simple.Step target op) from to good (a, h, k) =
-    then (an_expr target 7 from a good h) (λ x. ends (a_word (class_of_step op) a to x.good k) (λ w. record { line = x.is.line; numbers = x.is.numbers }))
+    then (an_expr target 7 from a good h)
+    (λ x. ends (a_word (class_of_step op) a to x.good k) (λ w. record { line = x.is.line; numbers = x.is.numbers }))
 a_simple (Simple.Perform callee args) from to good (a, h, (b, i, (c, j, k))) =
     then (a_name callee from a good h) (λ n.
     then (an_open a b n.good i) (λ o.

@@ -15,7 +15,9 @@ use Rattle.c_types_rules.specs.Types.{Kind}
 use Rattle.c_types_rules.specs.Tables.{Tables, FieldKind, procedure_in, is_defined, field_of, field_place}
 use Rattle.c_types_rules.specs.Items.{listed}
 use Rattle.c_types_rules.specs.Scopes.{Variable, variable_in, variable}
-use Rattle.c_types_rules.specs.Expressions.{kind_of_variable, kind_of_member, kind_of_members, kind_of_binary, kind_of_prefix, kind_of, kind_of_chain, is_null, Given, may_stand_by, lacks, member_refusals, members_refusals, expr_refusals, links_refusals, args_refusals}
+use Rattle.c_types_rules.specs.Expressions.{kind_of_variable, kind_of_member, kind_of_members, kind_of_binary, kind_of_prefix, kind_of}
+use Rattle.c_types_rules.specs.Expressions.{kind_of_chain, is_null, Given, may_stand_by, lacks, member_refusals, members_refusals}
+use Rattle.c_types_rules.specs.Expressions.{expr_refusals, links_refusals, args_refusals}
 use Rattle.c_types_rules.specs.Programs.{known}
 use Rattle.c_types_rules.proofs.KnownTables.{nil_left, nil_right, holds, IsSound}
 use Rattle.c_types_rules.proofs.KnownExprs.{SoundEnv, plain_known, gives_kind, binary_sound, member_sound}
@@ -64,12 +66,14 @@ known_ty structs tables fits (Some kind) h = ty_of structs tables fits kind h
 
 -- VARIABLES
 
-slot_bound : (slots : ℕ) (vs : List Variable) (bs : List Bound) → AreBound slots vs bs → (n : List ℕ) → IfSome (variable_in vs n) (λ found. slot_in bs n < slots)
+slot_bound : (slots : ℕ) (vs : List Variable) (bs : List Bound) → AreBound slots vs bs → (n : List ℕ)
+    → IfSome (variable_in vs n) (λ found. slot_in bs n < slots)
 slot_bound slots [] [] h n = tt
 slot_bound slots (v ∷ vs) [] h n = absurd h
 slot_bound slots [] (b ∷ bs) h n = absurd h
 slot_bound slots (v ∷ vs) (b ∷ bs) h n =
-    subst (λ name. IfSome (cond (bytes_eq v.name n) (Some v) (variable_in vs n)) (λ found. cond (bytes_eq name n) b.slot (slot_in bs n) < slots)) h.0
+    subst (λ name. IfSome (cond (bytes_eq v.name n) (Some v) (variable_in vs n))
+    (λ found. cond (bytes_eq name n) b.slot (slot_in bs n) < slots)) h.0
     (by_test (bytes_eq v.name n) (slot_bound slots vs bs h.2 n))
   where
     by_test : (t : Bool) → IfSome (variable_in vs n) (λ found. slot_in bs n < slots)
@@ -77,11 +81,14 @@ slot_bound slots (v ∷ vs) (b ∷ bs) h n =
     by_test true k = h.1
     by_test false k = k
 
-pub slot_there : (structs : List StructDef) (c : Context) → IsHere structs c → (n : Name) → IsSound c.env.tables (kind_of_variable (variable c.env n.text))
+pub slot_there : (structs : List StructDef) (c : Context) → IsHere structs c → (n : Name)
+    → IsSound c.env.tables (kind_of_variable (variable c.env n.text))
     → slot_of c n < c.first_temp
-slot_there structs c here n h = by_found (variable c.env n.text) (slot_bound c.first_temp (c.env.scopes.here ++ c.env.scopes.around) c.bound here.bound n.text) h
+slot_there structs c here n h =
+    by_found (variable c.env n.text) (slot_bound c.first_temp (c.env.scopes.here ++ c.env.scopes.around) c.bound here.bound n.text) h
   where
-    by_found : (found : Option Variable) → IfSome found (λ f. slot_in c.bound n.text < c.first_temp) → IsSound c.env.tables (kind_of_variable found) → slot_of c n < c.first_temp
+    by_found : (found : Option Variable) → IfSome found (λ f. slot_in c.bound n.text < c.first_temp)
+        → IsSound c.env.tables (kind_of_variable found) → slot_of c n < c.first_temp
     by_found None k h = absurd h
     by_found (Some found) k h = k
 
@@ -92,9 +99,11 @@ pub record GoodExpr (structs : List StructDef) (c : Context) (own : Kind) (l : L
   pub good : GoodLowering structs c l
   pub kind : Some l.kind ≡ own
 
-pub field_there : (structs : List StructDef) (c : Context) → IsHere structs c → (place : Place) (pointer : Ty) (field : Name) → IsSound c.env.tables (Some pointer)
+pub field_there : (structs : List StructDef) (c : Context) → IsHere structs c → (place : Place) (pointer : Ty) (field : Name)
+    → IsSound c.env.tables (Some pointer)
     → member_refusals c.env.tables place (Some pointer) field ≡ []
-    → IsFieldThere structs (field_behind c pointer field) × (is_pointer pointer ≡ true) × IsSound c.env.tables (kind_of_member c.env.tables (Some pointer) field)
+    → IsFieldThere structs (field_behind c pointer field) × (is_pointer pointer ≡ true)
+    × IsSound c.env.tables (kind_of_member c.env.tables (Some pointer) field)
 field_there structs c here place (Ptr tag) field h e =
     let own = member_sound c.env.tables here.sound.tables place (Some (Ptr tag)) field h e in (
       record {
@@ -109,14 +118,16 @@ field_there structs c here place (Ptr tag) field h e =
     clash true h e = cc
     clash false h e = cc
 
-    by_found : (found : Option FieldKind) → IfSome found (λ f. IsField structs tag (field_place c.env.tables tag field.text)) → is_defined c.env.tables tag ≡ true
+    by_found : (found : Option FieldKind) → IfSome found (λ f. IsField structs tag (field_place c.env.tables tag field.text))
+        → is_defined c.env.tables tag ≡ true
         → not (lacks c.env.tables tag found) ≡ true → IsField structs tag (field_place c.env.tables tag field.text)
     by_found None k h e = absurd (clash (is_defined c.env.tables tag) h e)
     by_found (Some found) k h e = k
 field_there structs c here place Int field h e = absurd (cc)
 field_there structs c here place Void field h e = absurd (cc)
 
-members_good : (structs : List StructDef) (c : Context) → IsHere structs c → (place : Place) (base : Lowering) (names : List Name) → GoodLowering structs c base
+members_good : (structs : List StructDef) (c : Context) → IsHere structs c → (place : Place) (base : Lowering) (names : List Name)
+    → GoodLowering structs c base
     → IsSound c.env.tables (Some base.kind) → members_refusals c.env.tables place (Some base.kind) names ≡ []
     → GoodExpr structs c (kind_of_members c.env.tables (Some base.kind) names) (members c base names)
 members_good structs c here place base [] h s e = record { good = h; kind = refl }
@@ -186,7 +197,9 @@ mutual
       let one = lowering_good structs c here inner (nil_left _ _ e) in
       record {
         good = prefix_good structs c here.line op (lowering c inner) one.good;
-        kind = prefix_kind c.env.tables c op (lowering c inner) (kind_of c.env inner) (plain_known c.env here.sound (Expr.Prefix place op inner) e).own;
+        kind =
+            prefix_kind c.env.tables c op (lowering c inner) (kind_of c.env inner)
+            (plain_known c.env here.sound (Expr.Prefix place op inner) e).own;
       }
   lowering_good structs c here (Expr.Members base first others) e =
       let one = lowering_good structs c here base (nil_left _ _ e) in
@@ -199,7 +212,9 @@ mutual
       let own = (plain_known c.env here.sound (Expr.Variable n) e).own in
       let there = slot_there structs c here n own in
       record {
-        good = at_hand_good structs c here.line _ (Slot (slot_of c n)) (known_ty structs c.env.tables here.fits (kind_of_variable (variable c.env n.text)) own) there (λ _. there);
+        good =
+            at_hand_good structs c here.line _ (Slot (slot_of c n))
+            (known_ty structs c.env.tables here.fits (kind_of_variable (variable c.env n.text)) own) there (λ _. there);
         kind = known_some c.env.tables (kind_of_variable (variable c.env n.text)) own;
       }
   lowering_good structs c here (Expr.Number place value) e = record {
@@ -214,7 +229,8 @@ mutual
   lowering_good structs c here (Expr.Call callee args) e = absurd (cc)
   lowering_good structs c here (Expr.Malloc place as_type target) e = absurd (cc)
 
-  chain_good : (structs : List StructDef) (c : Context) → IsHere structs c → (place : Place) (null : Bool) (kind : Kind) (before : Lowering) (others : Links)
+  chain_good : (structs : List StructDef) (c : Context) → IsHere structs c
+      → (place : Place) (null : Bool) (kind : Kind) (before : Lowering) (others : Links)
       → GoodExpr structs c kind before → IsSound c.env.tables kind → links_refusals c.env place kind (Given.OfKind kind) null others ≡ []
       → GoodExpr structs c (kind_of_chain c.env kind others) (chain c before others)
   chain_good structs c here place null kind before Links.NoLinks h s e = h
@@ -223,16 +239,19 @@ mutual
       let one = lowering_good structs c here operand accepted in
       let own = (plain_known c.env here.sound operand accepted).own in
       let sound = binary_sound c.env.tables op kind null (kind_of c.env operand) (is_null operand) s own
-      (subst (λ (given : Given). may_stand_by op (Given.OfKind kind) null given (is_null operand) ≡ true) (gives_kind c.env operand accepted)
+      (subst (λ (given : Given). may_stand_by op (Given.OfKind kind) null given (is_null operand) ≡ true)
+      (gives_kind c.env operand accepted)
       (holds _ _ _ (nil_right (expr_refusals c.env operand) _ (nil_left _ _ e)))) in
-      chain_good structs c here place false (kind_of_binary op kind (kind_of c.env operand)) (binary c op before (lowering c operand)) others
+      chain_good structs c here place false (kind_of_binary op kind (kind_of c.env operand))
+      (binary c op before (lowering c operand)) others
       (record {
         good = binary_good structs c here.line op before (lowering c operand) h.good one.good;
         kind = binary_kind c.env.tables c op before (lowering c operand) kind (kind_of c.env operand) sound;
       })
       sound (nil_right _ _ e)
 
-pub args_good : (structs : List StructDef) (c : Context) → IsHere structs c → (args : Args) → args_refusals c.env args ≡ [] → AreGoodLowerings structs c (lowerings c args)
+pub args_good : (structs : List StructDef) (c : Context) → IsHere structs c → (args : Args) → args_refusals c.env args ≡ []
+    → AreGoodLowerings structs c (lowerings c args)
 args_good structs c here Args.NoArgs e = tt
 args_good structs c here (Args.Arg first others) e =
     ((lowering_good structs c here first (nil_left _ _ e)).good, args_good structs c here others (nil_right _ _ e))

@@ -31,7 +31,8 @@ an_item (Item.StructItem place tag lines) from to good (a, h, (b, i, (c, j, k)))
     then (a_word_at place Classes.STRUCT from a good h) (λ w.
     then (a_name tag a b w.good i) (λ n.
     then (a_struct_body lines b c n.good j) (λ x.
-    ends (a_word Classes.SEMICOLON c to x.good k) (λ v. record { named = (n.is.0.named, x.is.named); lines = tt; numbers = tt; fields = x.is.few }))))
+    ends (a_word Classes.SEMICOLON c to x.good k)
+    (λ v. record { named = (n.is.0.named, x.is.named); lines = tt; numbers = tt; fields = x.is.few }))))
 an_item (Item.TypedefStruct place tag lines alias) from to good (a, h, (b, i, (c, j, (d, k, (e, l, m))))) =
     then (a_word_at place Classes.TYPEDEF from a good h) (λ w.
     then (a_word Classes.STRUCT a b w.good i) (λ v.

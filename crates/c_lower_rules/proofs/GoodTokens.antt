@@ -21,7 +21,8 @@ line_after : (place : Place) (b : ℕ) → (after place b).line ≤ place.line +
 line_after place b = by (b == 10)
   where
     by : (c : Bool)
-        → (cond {A = Place} c (record { line = place.line + 1; column = 1 }) (record { line = place.line; column = place.column + 1 })).line ≤ place.line + 1
+        → (cond {A = Place} c (record { line = place.line + 1; column = 1 }) (record { line = place.line; column = place.column + 1 })).line
+        ≤ place.line + 1
     by true = omega arith
     by false = omega arith
 
@@ -51,7 +52,8 @@ piece_within last at piece behind _ _ (IsPiece.token kind is longest) within =
 end_within : (last : ℕ) (place : Place) → place.line ≤ last → AreWithin last 1 (token_at End (codes "#") place ∷ [])
 end_within last place within = record { lines = (within, tt); few = omega arith }
 
-both_within : (last one other most : ℕ) (front back : List Token) → AreWithin last one front → AreWithin last other back → one + other ≤ most
+both_within : (last one other most : ℕ) (front back : List Token) → AreWithin last one front → AreWithin last other back
+    → one + other ≤ most
     → AreWithin last most (front ++ back)
 both_within last one other most front back f b fit = record {
   lines = all_append (EndsBy last) front back f.lines b.lines;
@@ -59,7 +61,8 @@ both_within last one other most front back f b fit = record {
 }
 
 -- what is read, and the end
-reads_within : (last : ℕ) (at to : Position) (bytes rest : List ℕ) (found : List Token) → Reads at bytes found to rest → at.place.line + length bytes ≤ last
+reads_within : (last : ℕ) (at to : Position) (bytes rest : List ℕ) (found : List Token) → Reads at bytes found to rest
+    → at.place.line + length bytes ≤ last
     → AreWithin last (length bytes + 1) (found ++ token_at End (codes "#") to.place ∷ [])
 reads_within last at _ bytes _ _ (Reads.none _ _) fit =
     both_within last 0 1 (length bytes + 1) [] (token_at End (codes "#") at.place ∷ [])
@@ -68,10 +71,12 @@ reads_within last at to _ rest _ (Reads.piece _ _ piece behind _ found tokens fr
     let whole : length (piece ++ behind) ≡ length piece + length behind = length-append piece behind in
     let line : (place_after at.place piece).line ≤ at.place.line + length piece = lines_after piece at.place in
     subst (AreWithin last (length (piece ++ behind) + 1)) (sym (append_assoc found tokens (token_at End (codes "#") to.place ∷ [])))
-    (both_within last (length piece) (length behind + 1) (length (piece ++ behind) + 1) found (tokens ++ token_at End (codes "#") to.place ∷ [])
+    (both_within last (length piece) (length behind + 1) (length (piece ++ behind) + 1) found
+    (tokens ++ token_at End (codes "#") to.place ∷ [])
     (piece_within last at piece behind found fresh is (omega arith))
     (reads_within last (behind_piece at piece fresh) to behind rest tokens reads (omega arith)) (omega arith))
 
 pub tokens_within : (text : List ℕ) (tokens : List Token) → HasTokens text tokens → AreWithin (length text + 1) (length text + 1) tokens
 tokens_within text tokens has =
-    subst (AreWithin (length text + 1) (length text + 1)) (sym has.is) (reads_within (length text + 1) start has.end text [] has.found has.reads (omega arith))
+    subst (AreWithin (length text + 1) (length text + 1)) (sym has.is)
+    (reads_within (length text + 1) start has.end text [] has.found has.reads (omega arith))

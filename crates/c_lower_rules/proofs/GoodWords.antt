@@ -46,9 +46,11 @@ lacks wanted (entry ∷ entries) = not (number_of entry.is == wanted) && lacks w
 differs : (one other : ℕ) → not (one == other) ≡ true → one ≢ other
 differs one other e same = let t : (one == other) ≡ true = eq-eqb one other same in let never : false ≡ true = ap not (sym t) ∙ e in cc
 
-other_class : (wanted : ℕ) (entries : List Entry) → lacks wanted entries ≡ true → (text : List ℕ) → number_of (class_in entries class.OtherKey text) ≢ wanted
+other_class : (wanted : ℕ) (entries : List Entry) → lacks wanted entries ≡ true → (text : List ℕ)
+    → number_of (class_in entries class.OtherKey text) ≢ wanted
 other_class wanted [] e text = differs (number_of class.OtherKey) wanted e
-other_class wanted (entry ∷ entries) e text = by_test (bytes_eq entry.text text) (number_of entry.is == wanted) refl e (λ f. other_class wanted entries f text)
+other_class wanted (entry ∷ entries) e text =
+    by_test (bytes_eq entry.text text) (number_of entry.is == wanted) refl e (λ f. other_class wanted entries f text)
   where
     by_test : (b c : Bool) → (number_of entry.is == wanted) ≡ c → (not c && lacks wanted entries) ≡ true
         → (lacks wanted entries ≡ true → number_of (class_in entries class.OtherKey text) ≢ wanted)
@@ -58,7 +60,8 @@ other_class wanted (entry ∷ entries) e text = by_test (bytes_eq entry.text tex
     by_test false false same f others = others f
 
 -- a sign is of neither class
-other_sign : (wanted : ℕ) → lacks wanted signs ≡ true → Classes.CAST ≢ wanted → Classes.OPEN ≢ wanted → (text : List ℕ) (tokens : List Token)
+other_sign : (wanted : ℕ) → lacks wanted signs ≡ true → Classes.CAST ≢ wanted → Classes.OPEN ≢ wanted
+    → (text : List ℕ) (tokens : List Token)
     → number_of (class_of kind.Sign text tokens) ≢ wanted
 other_sign wanted e cast paren text tokens = by (bytes_eq text (codes "(")) (begins_cast tokens)
   where
@@ -74,7 +77,8 @@ neither class text a b = record { name = λ e. absurd (a e); number = λ e. absu
 fit_token : (k : TokenKind) (text : List ℕ) (tokens : List Token) → IsToken k text → IsFitText (number_of (class_of k text tokens)) text
 fit_token kind.Word text tokens is = record { name = λ e. is.0; number = λ e. absurd (differs Classes.NAME Classes.NUMBER refl e) }
 fit_token kind.Key text tokens is =
-    neither (number_of (class_in keys class.OtherKey text)) text (other_class Classes.NAME keys refl text) (other_class Classes.NUMBER keys refl text)
+    neither (number_of (class_in keys class.OtherKey text)) text (other_class Classes.NAME keys refl text)
+    (other_class Classes.NUMBER keys refl text)
 fit_token kind.Number text tokens (n, small, is) =
     let value : digits_value 10 text ≡ n = ap (digits_value 10) is ∙ (decimal_is_IsNumeral n (omega arith)).1 in
     record { name = λ e. absurd (differs Classes.NUMBER Classes.NAME refl e); number = λ e. omega arith }
@@ -95,8 +99,11 @@ each_good : (last : ℕ) (tokens : List Token) → IsTokenList tokens → AllByR
     → AllByRecursion IsGood (words_of tokens)
 each_good last [] is lines fit = absurd is
 each_good last (token ∷ []) is lines fit = (record { text_is = fit_end token.kind token.text is.kind; line = omega (arith, lines.0) }, tt)
-each_good last (token ∷ next ∷ tokens) is lines fit =
-    (record { text_is = fit_token token.kind token.text (next ∷ tokens) is.0; line = omega (arith, lines.0) }, each_good last (next ∷ tokens) is.2 lines.1 fit)
+each_good last (token ∷ next ∷ tokens) is lines fit = (
+  record { text_is = fit_token token.kind token.text (next ∷ tokens) is.0; line = omega (arith, lines.0) },
+  each_good last
+      (next ∷ tokens) is.2 lines.1 fit,
+)
 
 as_many : (tokens : List Token) → length (words_of tokens) ≡ length tokens
 as_many [] = refl

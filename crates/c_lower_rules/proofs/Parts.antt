@@ -15,7 +15,8 @@ use Rattle.c_types_rules.proofs.KnownTables.{all_append}
 use Rattle.c_lower_rules.specs.Texts.{IsNamed, IsLine, IsHeadNamed}
 use Rattle.c_lower_rules.specs.Numbers.{IsIntNumber}
 use Rattle.c_lower_rules.proofs.GoodWords.{AreGood}
-use Rattle.c_lower_rules.proofs.Steps.{Has, nothing_else, then, ends, a_word, a_word_at, an_open, a_name, Takes, Shows, more_shown, maybe_shown}
+use Rattle.c_lower_rules.proofs.Steps.{Has, nothing_else, then, ends, a_word, a_word_at, an_open, a_name, Takes, Shows, more_shown}
+use Rattle.c_lower_rules.proofs.Steps.{maybe_shown}
 
 abbrev pub HasLine : Specifier → Type 0
 HasLine s = IsLine (place_of_specifier s)
@@ -24,7 +25,8 @@ pub a_specifier : Takes specifier HasLine
 a_specifier (Specifier.Int place) from to good h = a_word_at place Classes.INT from to good h
 a_specifier (Specifier.Void place) from to good h = a_word_at place Classes.VOID from to good h
 a_specifier (Specifier.Struct place tag) from to good (mid, h, k) =
-    then (a_word_at place Classes.STRUCT from mid good h) (λ w. ends (a_name tag mid to w.good k) (λ n. (w.is.0, omega (arith, w.is.1, n.1))))
+    then (a_word_at place Classes.STRUCT from mid good h)
+    (λ w. ends (a_name tag mid to w.good k) (λ n. (w.is.0, omega (arith, w.is.1, n.1))))
 a_specifier (Specifier.Alias alias) from to good h = ends (a_name alias from to good h) (λ n. (n.0.line, n.1))
 
 some_stars : Shows stars (λ count. Unit {0})
@@ -39,7 +41,8 @@ IsDeclared decl = IsNamed decl.name
 
 pub a_declarator : Takes declarator IsDeclared
 a_declarator decl from to good (mid, h, k) =
-    then (some_stars decl.stars from mid good h) (λ s. ends (a_name decl.name mid to s.good k) (λ n. (n.0.named, omega (arith, s.fewer, n.1))))
+    then (some_stars decl.stars from mid good h)
+    (λ s. ends (a_name decl.name mid to s.good k) (λ n. (n.0.named, omega (arith, s.fewer, n.1))))
 
 -- FIELDS
 
@@ -63,8 +66,10 @@ some_fields line from to good (a, h, (b, i, (c, j, k))) =
       few = omega (arith, s.fewer, d.is.1, o.is.1, w, length-map line.others name_of);
     }))))
 
-each_fields : (lines : List Fields) (from to : List Word) → AreGood from → each fields lines from to → Has from to (AreFields from to (field_names lines))
-each_fields [] from to good h = let long : length from ≡ length to = ap length h in nothing_else from to good h (record { named = tt; few = omega arith })
+each_fields : (lines : List Fields) (from to : List Word) → AreGood from → each fields lines from to
+    → Has from to (AreFields from to (field_names lines))
+each_fields [] from to good h =
+    let long : length from ≡ length to = ap length h in nothing_else from to good h (record { named = tt; few = omega arith })
 each_fields (line ∷ lines) from to good (mid, h, k) =
     then (some_fields line from mid good h) (λ x.
     ends (each_fields lines mid to x.good k) (λ y. record {
@@ -98,7 +103,8 @@ a_param p from to good (a, h, (b, i, k)) =
     let m = maybe_shown name IsNamed (λ n x y g r. ends (a_name n x y g r) (λ f. f.0.named)) p.name b to t.good k in
     ends m (λ named. (named, omega (arith, s.is.1, t.fewer, m.fewer)))))
 
-with_named : (one : Option Name) (names : List Name) → IfSome one IsNamed → AllByRecursion IsNamed names → AllByRecursion IsNamed (with_name one names)
+with_named : (one : Option Name) (names : List Name) → IfSome one IsNamed → AllByRecursion IsNamed names
+    → AllByRecursion IsNamed (with_name one names)
 with_named None names h others = others
 with_named (Some n) names h others = (h, others)
 
@@ -114,7 +120,8 @@ pub record AreParams (from to : List Word) (all : List Param) : Type 0 where
 some_params : (p : Params) (from to : List Word) → AreGood from → params p from to → Has from to (AreParams from to (listed p))
 some_params Params.NoParams from to good h =
     let long : length from ≡ length to = ap length h in nothing_else from to good h (record { named = tt; few = omega arith })
-some_params (Params.VoidParams place) from to good h = ends (a_word_at place Classes.VOID from to good h) (λ w. record { named = tt; few = omega (arith, w.1) })
+some_params (Params.VoidParams place) from to good h =
+    ends (a_word_at place Classes.VOID from to good h) (λ w. record { named = tt; few = omega (arith, w.1) })
 some_params (Params.Listed first others) from to good (alone, (mid, h, k)) =
     then (a_param first from mid good h) (λ f.
     ends (more_shown param IsParam a_param others mid to f.good k) (λ o. record {

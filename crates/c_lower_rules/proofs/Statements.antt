@@ -8,13 +8,15 @@ use Rattle.c_grammar.specs.Trees.{Local, ForInit, Stmt, Stmts}
 use Rattle.c_grammar.specs.Spelling.{◌⨾◌, word, maybe, expr_at, simple, initialized, local, for_init, stmt, stmts}
 use Rattle.c_grammar.specs.FirstPlaces.{place_of_local}
 use Rattle.c_lower_rules.specs.Texts.{IsLine, AreStmtLines, AreStmtsLines}
-use Rattle.c_lower_rules.specs.Numbers.{HasIntNumbers, InitializedHasIntNumbers, LocalHasIntNumbers, InitHasIntNumbers, StmtHasIntNumbers, StmtsHaveIntNumbers}
+use Rattle.c_lower_rules.specs.Numbers.{HasIntNumbers, InitializedHasIntNumbers, LocalHasIntNumbers, InitHasIntNumbers, StmtHasIntNumbers}
+use Rattle.c_lower_rules.specs.Numbers.{StmtsHaveIntNumbers}
 use Rattle.c_lower_rules.proofs.Steps.{nothing_else, then, ends, a_word, a_word_at, an_open, Shows, Takes, more_shown, maybe_shown}
 use Rattle.c_lower_rules.proofs.Parts.{a_specifier, a_declarator}
 use Rattle.c_lower_rules.proofs.Expressions.{IsFitExpr, an_expr, IsFitSimple, a_simple}
 
 a_value : Shows (λ value. word Classes.SET ⨾ expr_at 0 value) HasIntNumbers
-a_value value from to good (mid, h, k) = then (a_word Classes.SET from mid good h) (λ w. ends (an_expr value 0 mid to w.good k) (λ x. x.numbers))
+a_value value from to good (mid, h, k) =
+    then (a_word Classes.SET from mid good h) (λ w. ends (an_expr value 0 mid to w.good k) (λ x. x.numbers))
 
 an_initialized : Takes initialized InitializedHasIntNumbers
 an_initialized one from to good (a, h, k) =
@@ -57,11 +59,14 @@ mutual
       then (a_word_at place Classes.OPEN_BRACE from a good h) (λ w.
       then (some_stmts body a b w.good i) (λ x.
       ends (a_word_at end Classes.CLOSE_BRACE b to x.good k) (λ c. record { lines = x.is.lines; numbers = x.is.numbers })))
-  a_stmt (Stmt.Empty place) from to good h = ends (a_word_at place Classes.SEMICOLON from to good h) (λ w. record { lines = tt; numbers = tt })
+  a_stmt (Stmt.Empty place) from to good h =
+      ends (a_word_at place Classes.SEMICOLON from to good h) (λ w. record { lines = tt; numbers = tt })
   a_stmt (Stmt.Declare l) from to good (a, h, k) =
-      then (a_local l from a good h) (λ x. ends (a_word Classes.SEMICOLON a to x.good k) (λ w. record { lines = x.is.line; numbers = x.is.numbers }))
+      then (a_local l from a good h)
+      (λ x. ends (a_word Classes.SEMICOLON a to x.good k) (λ w. record { lines = x.is.line; numbers = x.is.numbers }))
   a_stmt (Stmt.Do s) from to good (a, h, k) =
-      then (a_simple s from a good h) (λ x. ends (a_word Classes.SEMICOLON a to x.good k) (λ w. record { lines = x.is.line; numbers = x.is.numbers }))
+      then (a_simple s from a good h)
+      (λ x. ends (a_word Classes.SEMICOLON a to x.good k) (λ w. record { lines = x.is.line; numbers = x.is.numbers }))
   a_stmt (Stmt.If place test body) from to good (lacks, (a, h, (b, i, (c, j, (d, k, l))))) =
       then (a_word_at place Classes.IF from a good h) (λ w.
       then (an_open a b w.good i) (λ o.
@@ -75,7 +80,8 @@ mutual
       then (a_word Classes.CLOSE c d x.good k) (λ v.
       then (a_stmt body d e v.good l) (λ y.
       then (a_word Classes.ELSE e f y.good m) (λ u.
-      ends (a_stmt other f to u.good n) (λ z. record { lines = (x.is.line, y.is.lines, z.lines); numbers = (x.is.numbers, y.is.numbers, z.numbers) })))))))
+      ends (a_stmt other f to u.good n)
+      (λ z. record { lines = (x.is.line, y.is.lines, z.lines); numbers = (x.is.numbers, y.is.numbers, z.numbers) })))))))
   a_stmt (Stmt.While place test body) from to good (a, h, (b, i, (c, j, (d, k, l)))) =
       then (a_word_at place Classes.WHILE from a good h) (λ w.
       then (an_open a b w.good i) (λ o.
@@ -89,7 +95,8 @@ mutual
       then (an_open c d v.good k) (λ o.
       then (an_expr test 0 d e o.good l) (λ x.
       then (a_word Classes.CLOSE e f x.good m) (λ u.
-      ends (a_word Classes.SEMICOLON f to u.good n) (λ t. record { lines = (y.is.lines, x.is.line); numbers = (y.is.numbers, x.is.numbers) })))))))
+      ends (a_word Classes.SEMICOLON f to u.good n)
+      (λ t. record { lines = (y.is.lines, x.is.line); numbers = (y.is.numbers, x.is.numbers) })))))))
   a_stmt (Stmt.For place init test step body) from to good (a, h, (b, i, (c, j, (d, k, (e, l, (f, m, (g, n, (p, q, r)))))))) =
       then (a_word_at place Classes.FOR from a good h) (λ w.
       then (an_open a b w.good i) (λ o.
@@ -104,13 +111,16 @@ mutual
         numbers = (z.is, IfSome_then test x.is (λ e fit. fit.numbers), IfSome_then step s.is (λ e fit. fit.numbers), y.numbers);
       })))))))))
   a_stmt (Stmt.Break place) from to good (a, h, k) =
-      then (a_word_at place Classes.BREAK from a good h) (λ w. ends (a_word Classes.SEMICOLON a to w.good k) (λ v. record { lines = tt; numbers = tt }))
+      then (a_word_at place Classes.BREAK from a good h)
+      (λ w. ends (a_word Classes.SEMICOLON a to w.good k) (λ v. record { lines = tt; numbers = tt }))
   a_stmt (Stmt.Continue place) from to good (a, h, k) =
-      then (a_word_at place Classes.CONTINUE from a good h) (λ w. ends (a_word Classes.SEMICOLON a to w.good k) (λ v. record { lines = tt; numbers = tt }))
+      then (a_word_at place Classes.CONTINUE from a good h)
+      (λ w. ends (a_word Classes.SEMICOLON a to w.good k) (λ v. record { lines = tt; numbers = tt }))
   a_stmt (Stmt.Return place value) from to good (a, h, (b, i, k)) =
       then (a_word_at place Classes.RETURN from a good h) (λ w.
       then (maybe_expr value a b w.good i) (λ x.
-      ends (a_word Classes.SEMICOLON b to x.good k) (λ v. record { lines = w.is.0; numbers = IfSome_then value x.is (λ e fit. fit.numbers) })))
+      ends (a_word Classes.SEMICOLON b to x.good k)
+      (λ v. record { lines = w.is.0; numbers = IfSome_then value x.is (λ e fit. fit.numbers) })))
 
   pub some_stmts : Shows stmts AreFitStmts
   some_stmts Stmts.NoStmts from to good h = nothing_else from to good h (record { lines = tt; numbers = tt })

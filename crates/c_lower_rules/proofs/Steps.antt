@@ -19,11 +19,13 @@ pub record Has (from to : List Word) (P : Type 0) : Type 0 where
   pub is : P
 
 pub nothing_else : {P : Type 0} (from to : List Word) → AreGood from → from ≡ to → P → Has from to P
-nothing_else from to good same p = let long : length from ≡ length to = ap length same in record { good = subst AreGood same good; fewer = omega arith; is = p }
+nothing_else from to good same p =
+    let long : length from ≡ length to = ap length same in record { good = subst AreGood same good; fewer = omega arith; is = p }
 
 -- one step behind another
 pub then : {from mid to : List Word} {P Q : Type 0} → Has from mid P → (Has from mid P → Has mid to Q) → Has from to Q
-then {from} {mid} {to} one next = let other = next one in record { good = other.good; fewer = omega (arith, one.fewer, other.fewer); is = other.is }
+then {from} {mid} {to} one next =
+    let other = next one in record { good = other.good; fewer = omega (arith, one.fewer, other.fewer); is = other.is }
 
 -- the last step, and the whole fact
 pub ends : {from to : List Word} {P Q : Type 0} → Has from to P → (P → Q) → Has from to Q
@@ -68,12 +70,15 @@ pub record IsFit (n : Name) : Type 0 where
 pub a_name : Takes name IsFit
 a_name n [] to good h = absurd h
 a_name n (first ∷ others) to good h =
-    one_word first others to good h.3 (record { named = subst IsCName h.2 (good.each.0.text_is.name h.0); line = subst IsLine h.1 good.each.0.line })
+    one_word first others to good h.3
+    (record { named = subst IsCName h.2 (good.each.0.text_is.name h.0); line = subst IsLine h.1 good.each.0.line })
 
-pub a_number : (place : Place) (value : ℕ) (from to : List Word) → AreGood from → number place value from to → Has from to (IsLine place × IsIntNumber value)
+pub a_number : (place : Place) (value : ℕ) (from to : List Word) → AreGood from → number place value from to
+    → Has from to (IsLine place × IsIntNumber value)
 a_number place value [] to good h = absurd h
 a_number place value (first ∷ others) to good h =
-    ends (one_word first others to good h.3 (subst IsLine h.1 good.each.0.line, subst IsIntNumber (sym h.2) (good.each.0.text_is.number h.0))) (λ w. w.0)
+    ends (one_word first others to good h.3
+    (subst IsLine h.1 good.each.0.line, subst IsIntNumber (sym h.2) (good.each.0.text_is.number h.0))) (λ w. w.0)
 
 pub all_shown : {A : Type 0} (rule : A → Rule) (P : A → Type 0) → Shows rule P → Shows (each rule) (AllByRecursion P)
 all_shown rule P shows [] from to good h = nothing_else from to good h tt
@@ -82,8 +87,10 @@ all_shown rule P shows (one ∷ others) from to good (mid, h, k) =
 
 -- things behind commas: each takes two words
 pub more_shown : {A : Type 0} (rule : A → Rule) (P : A → Type 0) → Takes rule P → (all : List A) (from to : List Word) → AreGood from
-    → each (λ one. word Classes.COMMA ⨾ rule one) all from to → Has from to (AllByRecursion P all × (length to + 2 * length all ≤ length from))
-more_shown rule P takes [] from to good h = let long : length from ≡ length to = ap length h in nothing_else from to good h (tt, omega arith)
+    → each (λ one. word Classes.COMMA ⨾ rule one) all from to
+    → Has from to (AllByRecursion P all × (length to + 2 * length all ≤ length from))
+more_shown rule P takes [] from to good h =
+    let long : length from ≡ length to = ap length h in nothing_else from to good h (tt, omega arith)
 more_shown rule P takes (one ∷ others) from to good (mid, (a, c, h), k) =
     then (a_word Classes.COMMA from a good c) (λ w.
     then (takes one a mid w.good h) (λ x.

@@ -16,7 +16,8 @@ use Rattle.shape_data.specs.Names.{IsCName}
 use Rattle.shape_data.specs.WellFormed.{IsTy, IsStruct, AreStructs, IsCountable, IsKind, IsField}
 use Rattle.c_grammar.specs.Trees.{Specifier, Declarator, Fields, Item}
 use Rattle.c_types_rules.specs.Types.{Kind}
-use Rattle.c_types_rules.specs.Tables.{Structure, Tables, FieldKind, declared_by, structure_in, is_defined, field_kind, field_kinds, field_in, field_by, field_of, place_in, place_by, field_place}
+use Rattle.c_types_rules.specs.Tables.{Structure, Tables, FieldKind, declared_by, structure_in, is_defined, field_kind, field_kinds}
+use Rattle.c_types_rules.specs.Tables.{field_in, field_by, field_of, place_in, place_by, field_place}
 use Rattle.c_types_rules.specs.Items.{field_names, twice, lines_refusals}
 use Rattle.c_types_rules.specs.Programs.{known, field_def, struct_def, is_among, first_structures}
 use Rattle.c_types_rules.proofs.KnownTables.{nil_left, nil_right, holds, IsAccepted, IsSound, IsFieldSound, IsStructureSound}
@@ -33,7 +34,8 @@ pub record IsFine (tables : Tables) (s : Structure) : Type 0 where
   pub few : nat_le (length (field_names s.lines)) MOST_FIELDS ≡ true
   pub sound : IsStructureSound tables s
 
-pub structures_fine : (tables : Tables) (all : List Item) → AllByRecursion (IsAccepted tables) all → AllByRecursion IsItemNamed all → items_refusals tables all ≡ []
+pub structures_fine : (tables : Tables) (all : List Item) → AllByRecursion (IsAccepted tables) all → AllByRecursion IsItemNamed all
+    → items_refusals tables all ≡ []
     → AllByRecursion (IsStructureSound tables) (declared_by all).structures → AllByRecursion (IsFine tables) (declared_by all).structures
 structures_fine tables [] h n f s = tt
 structures_fine tables (Item.StructItem place tag lines ∷ others) h n f s = (
@@ -65,11 +67,13 @@ structures_fine tables (Item.Definition head place body end ∷ others) h n f s 
 abbrev pub AreTagged : List Structure → Type 0
 AreTagged all = AllByRecursion (λ (s : Structure). IsCName s.tag) all
 
-pub defined_tag : (all : List Structure) → AreTagged all → (tag : List ℕ) → (elim (structure_in all tag) [ None ↦ false | Some found ↦ true ]) ≡ true → IsCName tag
+pub defined_tag : (all : List Structure) → AreTagged all → (tag : List ℕ)
+    → (elim (structure_in all tag) [ None ↦ false | Some found ↦ true ]) ≡ true → IsCName tag
 defined_tag [] h tag e = absurd (cc)
 defined_tag (first ∷ others) h tag e = by_test (bytes_eq first.tag tag) refl (defined_tag others h.1 tag) e
   where
-    by_test : (b : Bool) → bytes_eq first.tag tag ≡ b → ((elim (structure_in others tag) [ None ↦ false | Some found ↦ true ]) ≡ true → IsCName tag)
+    by_test : (b : Bool) → bytes_eq first.tag tag ≡ b
+        → ((elim (structure_in others tag) [ None ↦ false | Some found ↦ true ]) ≡ true → IsCName tag)
         → (elim (cond b (Some first) (structure_in others tag)) [ None ↦ false | Some found ↦ true ]) ≡ true → IsCName tag
     by_test true eq behind f = subst IsCName (equal first.tag tag eq) h.0
     by_test false eq behind f = behind f
@@ -94,13 +98,17 @@ named_first tables before (first ∷ others) tag e =
     (λ f. named_first tables (before ++ first ∷ []) others tag (not_found before first tag e f))
   where
     same_among : bytes_eq first.tag tag ≡ true → is_among before first ≡ false
-    same_among eq = subst (λ t. (elim (structure_in before t) [ None ↦ false | Some found ↦ true ]) ≡ false) (sym (equal first.tag tag eq)) (rw e refl)
+    same_among eq =
+        subst (λ t. (elim (structure_in before t) [ None ↦ false | Some found ↦ true ]) ≡ false) (sym (equal first.tag tag eq)) (rw e refl)
 
     by_test : (b : Bool) → bytes_eq first.tag tag ≡ b → (among : Bool) → is_among before first ≡ among
-        → struct_named (map (struct_def tables) (first_structures before others)) tag ≡ option_map (struct_def tables) (structure_in others tag)
+        → struct_named (map (struct_def tables) (first_structures before others)) tag
+        ≡ option_map (struct_def tables) (structure_in others tag)
         → (bytes_eq first.tag tag ≡ false
-        → struct_named (map (struct_def tables) (first_structures (before ++ first ∷ []) others)) tag ≡ option_map (struct_def tables) (structure_in others tag))
-        → struct_named (map (struct_def tables) (cond among (first_structures before others) (first ∷ first_structures (before ++ first ∷ []) others))) tag
+        → struct_named (map (struct_def tables) (first_structures (before ++ first ∷ []) others)) tag
+        ≡ option_map (struct_def tables) (structure_in others tag))
+        → struct_named
+        (map (struct_def tables) (cond among (first_structures before others) (first ∷ first_structures (before ++ first ∷ []) others))) tag
         ≡ option_map (struct_def tables) (cond b (Some first) (structure_in others tag))
     by_test true eq true seen one other = absurd (clash (is_among before first) (same_among eq) seen)
       where
@@ -116,7 +124,8 @@ named_first tables before (first ∷ others) tag e =
 abbrev name_of_kind : FieldKind → List ℕ
 name_of_kind k = k.name.text
 
-line_names : (tables : Tables) (s : Specifier) (all : List Declarator) → map name_of_kind (map (field_kind tables s) all) ≡ map name_text (map (λ (d : Declarator). d.name) all)
+line_names : (tables : Tables) (s : Specifier) (all : List Declarator)
+    → map name_of_kind (map (field_kind tables s) all) ≡ map name_text (map (λ (d : Declarator). d.name) all)
 line_names tables s [] = refl
 line_names tables s (first ∷ others) = ap (λ r. first.name.text ∷ r) (line_names tables s others)
 
@@ -135,7 +144,8 @@ def_names (k ∷ ks) = ap (λ r. k.name.text ∷ r) (def_names ks)
 -- as many fields have types as have names
 pub fields_length : (tables : Tables) (lines : List Fields) → length (field_kinds tables lines) ≡ length (field_names lines)
 fields_length tables lines =
-    sym (length-map (field_kinds tables lines) name_of_kind) ∙ ap length (kinds_names tables lines) ∙ length-map (field_names lines) name_text
+    sym (length-map (field_kinds tables lines) name_of_kind) ∙ ap length (kinds_names tables lines)
+    ∙ length-map (field_names lines) name_text
 
 pub place_there : (all : List FieldKind) (n : List ℕ) → IfSome (field_in all n) (λ f. place_in all n < length all)
 place_there [] n = tt
@@ -146,7 +156,8 @@ place_there (first ∷ others) n = by_test (bytes_eq first.name.text n) (place_t
     by_test true h = omega arith
     by_test false h = behind (field_in others n) h
       where
-        behind : (found : Option FieldKind) → IfSome found (λ f. place_in others n < length others) → IfSome found (λ f. suc (place_in others n) < length (first ∷ others))
+        behind : (found : Option FieldKind) → IfSome found (λ f. place_in others n < length others)
+            → IfSome found (λ f. suc (place_in others n) < length (first ∷ others))
         behind None h = tt
         behind (Some f) h = omega arith
 
@@ -168,7 +179,8 @@ sound_ty tables tags k h = by_kind k.kind h
 struct_good : (tables : Tables) → HasTags tables → (s : Structure) → IsFine tables s → IsStruct (struct_def tables s)
 struct_good tables tags s h =
     let kinds = field_kinds tables s.lines in
-    let names : AllByRecursion IsCName (map name_of_kind kinds) = subst (AllByRecursion IsCName) (sym (kinds_names tables s.lines)) (map_of_all IsCName name_text (field_names s.lines) h.names) in
+    let names : AllByRecursion IsCName (map name_of_kind kinds) =
+    subst (AllByRecursion IsCName) (sym (kinds_names tables s.lines)) (map_of_all IsCName name_text (field_names s.lines) h.names) in
     let count = fields_length tables s.lines in
     let few = leb-true _ _ h.few in
     let def_count = length-map kinds field_def in
@@ -178,7 +190,8 @@ struct_good tables tags s h =
       field_names = All-from_recursion (λ (f : Field). IsCName f.name) (map field_def kinds)
           (map_of_all (λ (f : Field). IsCName f.name) field_def kinds (all_of_map IsCName name_of_kind kinds names));
       types = All-from_recursion (λ (f : Field). IsTy f.ty) (map field_def kinds)
-          (map_of_all (λ (f : Field). IsTy f.ty) field_def kinds (all_more (IsFieldSound tables) (λ k. IsTy (field_def k).ty) (sound_ty tables tags) kinds h.sound));
+          (map_of_all (λ (f : Field). IsTy f.ty) field_def kinds
+          (all_more (IsFieldSound tables) (λ k. IsTy (field_def k).ty) (sound_ty tables tags) kinds h.sound));
       different = different_names (λ (f : Field). f.name) (map field_def kinds)
           (subst Distinct (sym (def_names kinds ∙ kinds_names tables s.lines)) (twice_distinct [] (field_names s.lines) h.different));
     }
@@ -194,8 +207,10 @@ not_in_front [] last tag e = (refl, by_test (bytes_eq last.tag tag) e)
     by_test false f = refl
 not_in_front (first ∷ others) last tag e = by_test (bytes_eq first.tag tag) (not_in_front others last tag) e
   where
-    by_test : (b : Bool) → (structure_in (others ++ last ∷ []) tag ≡ None → (structure_in others tag ≡ None) × (bytes_eq last.tag tag ≡ false))
-        → cond b (Some first) (structure_in (others ++ last ∷ []) tag) ≡ None → (cond b (Some first) (structure_in others tag) ≡ None) × (bytes_eq last.tag tag ≡ false)
+    by_test : (b : Bool)
+        → (structure_in (others ++ last ∷ []) tag ≡ None → (structure_in others tag ≡ None) × (bytes_eq last.tag tag ≡ false))
+        → cond b (Some first) (structure_in (others ++ last ∷ []) tag) ≡ None
+        → (cond b (Some first) (structure_in others tag) ≡ None) × (bytes_eq last.tag tag ≡ false)
     by_test true behind f = absurd (cc)
     by_test false behind f = behind f
 
@@ -215,7 +230,8 @@ record AreFirsts (before firsts : List Structure) : Type 0 where
 
 firsts_distinct : (before all : List Structure) → AreFirsts before (first_structures before all)
 firsts_distinct before [] = record { fresh = tt; distinct = tt }
-firsts_distinct before (first ∷ others) = by_test (is_among before first) refl (firsts_distinct before others) (firsts_distinct (before ++ first ∷ []) others)
+firsts_distinct before (first ∷ others) =
+    by_test (is_among before first) refl (firsts_distinct before others) (firsts_distinct (before ++ first ∷ []) others)
   where
     by_test : (b : Bool) → is_among before first ≡ b → AreFirsts before (first_structures before others)
         → AreFirsts (before ++ first ∷ []) (first_structures (before ++ first ∷ []) others)
@@ -230,22 +246,26 @@ firsts_distinct before (first ∷ others) = by_test (is_among before first) refl
       distinct = (
         map_of_all (λ tag. first.tag ≢ tag) tag_of_structure (first_structures (before ++ first ∷ []) others)
             (all_more (λ (s : Structure). structure_in (before ++ first ∷ []) s.tag ≡ None) (λ (s : Structure). first.tag ≢ s.tag)
-            (λ s e. unequal first.tag s.tag (not_in_front before first s.tag e).1) (first_structures (before ++ first ∷ []) others) k.fresh),
+            (λ s e. unequal first.tag s.tag (not_in_front before first s.tag e).1)
+            (first_structures (before ++ first ∷ []) others) k.fresh),
         k.distinct,
       );
     }
 
-firsts_fine : (tables : Tables) (before all : List Structure) → AllByRecursion (IsFine tables) all → AllByRecursion (IsFine tables) (first_structures before all)
+firsts_fine : (tables : Tables) (before all : List Structure) → AllByRecursion (IsFine tables) all
+    → AllByRecursion (IsFine tables) (first_structures before all)
 firsts_fine tables before [] h = tt
 firsts_fine tables before (first ∷ others) h =
     by_test (is_among before first) (firsts_fine tables before others h.1) (firsts_fine tables (before ++ first ∷ []) others h.1)
   where
-    by_test : (b : Bool) → AllByRecursion (IsFine tables) (first_structures before others) → AllByRecursion (IsFine tables) (first_structures (before ++ first ∷ []) others)
+    by_test : (b : Bool) → AllByRecursion (IsFine tables) (first_structures before others)
+        → AllByRecursion (IsFine tables) (first_structures (before ++ first ∷ []) others)
         → AllByRecursion (IsFine tables) (cond b (first_structures before others) (first ∷ first_structures (before ++ first ∷ []) others))
     by_test true one other = one
     by_test false one other = (h.0, other)
 
-struct_tags : (tables : Tables) (all : List Structure) → map (λ (d : StructDef). d.name) (map (struct_def tables) all) ≡ map tag_of_structure all
+struct_tags : (tables : Tables) (all : List Structure)
+    → map (λ (d : StructDef). d.name) (map (struct_def tables) all) ≡ map tag_of_structure all
 struct_tags tables [] = refl
 struct_tags tables (s ∷ ss) = ap (λ r. s.tag ∷ r) (struct_tags tables ss)
 
@@ -258,34 +278,42 @@ structs_good tables tags all h count =
     record {
       countable = count;
       each = All-from_recursion IsStruct (map (struct_def tables) firsts)
-          (map_of_all IsStruct (struct_def tables) firsts (all_more (IsFine tables) (λ s. IsStruct (struct_def tables s)) (struct_good tables tags) firsts (firsts_fine tables [] all h)));
+          (map_of_all IsStruct (struct_def tables) firsts
+          (all_more (IsFine tables) (λ s. IsStruct (struct_def tables s)) (struct_good tables tags) firsts (firsts_fine tables [] all h)));
       different = different_names (λ (d : StructDef). d.name) (map (struct_def tables) firsts)
           (subst Distinct (sym (struct_tags tables firsts)) (firsts_distinct [] all).distinct);
     }
 
 pub tags_of : (tables : Tables) → AllByRecursion (IsFine tables) tables.structures → HasTags tables
-tags_of tables h tag e = defined_tag tables.structures (all_more (IsFine tables) (λ (s : Structure). IsCName s.tag) (λ s k. k.tag) tables.structures h) tag e
+tags_of tables h tag e =
+    defined_tag tables.structures (all_more (IsFine tables) (λ (s : Structure). IsCName s.tag) (λ s k. k.tag) tables.structures h) tag e
 
-pub kind_there : (tables : Tables) (tag : List ℕ) → is_defined tables tag ≡ true → IsKind (map (struct_def tables) (first_structures [] tables.structures)) tag
+pub kind_there : (tables : Tables) (tag : List ℕ) → is_defined tables tag ≡ true
+    → IsKind (map (struct_def tables) (first_structures [] tables.structures)) tag
 kind_there tables tag e =
     subst IsSome (sym (named_first tables [] tables.structures tag refl)) (by_found (structure_in tables.structures tag) e)
   where
-    by_found : (found : Option Structure) → (elim found [ None ↦ false | Some f ↦ true ]) ≡ true → IsSome (option_map (struct_def tables) found)
+    by_found : (found : Option Structure) → (elim found [ None ↦ false | Some f ↦ true ]) ≡ true
+        → IsSome (option_map (struct_def tables) found)
     by_found None f = absurd (cc)
     by_found (Some s) f = refl
 
 pub fields_there : (tables : Tables) (tag n : List ℕ)
-    → IfSome (field_of tables tag n) (λ found. IsField (map (struct_def tables) (first_structures [] tables.structures)) tag (field_place tables tag n))
+    → IfSome (field_of tables tag n)
+    (λ found. IsField (map (struct_def tables) (first_structures [] tables.structures)) tag (field_place tables tag n))
 fields_there tables tag n =
-    subst (λ (named : Option StructDef). IfSome (field_of tables tag n) (λ found. IsSomeAnd named (λ def. field_place tables tag n < length def.fields)))
+    subst (λ (named : Option StructDef). IfSome (field_of tables tag n)
+    (λ found. IsSomeAnd named (λ def. field_place tables tag n < length def.fields)))
     (sym (named_first tables [] tables.structures tag refl)) (by_structure (structure_in tables.structures tag))
   where
-    by_field : (s : Structure) (found : Option FieldKind) → IfSome found (λ f. place_in (field_kinds tables s.lines) n < length (field_kinds tables s.lines))
+    by_field : (s : Structure) (found : Option FieldKind)
+        → IfSome found (λ f. place_in (field_kinds tables s.lines) n < length (field_kinds tables s.lines))
         → IfSome found (λ f. place_in (field_kinds tables s.lines) n < length (struct_def tables s).fields)
     by_field s None h = tt
     by_field s (Some f) h = let count = length-map (field_kinds tables s.lines) field_def in omega arith
 
     by_structure : (found : Option Structure)
-        → IfSome (field_by tables found n) (λ f. IsSomeAnd (option_map (struct_def tables) found) (λ def. place_by tables found n < length def.fields))
+        → IfSome (field_by tables found n)
+        (λ f. IsSomeAnd (option_map (struct_def tables) found) (λ def. place_by tables found n < length def.fields))
     by_structure None = tt
     by_structure (Some s) = by_field s (field_in (field_kinds tables s.lines) n) (place_there (field_kinds tables s.lines) n)

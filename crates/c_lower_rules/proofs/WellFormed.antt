@@ -1,5 +1,6 @@
 -- Programs in which nothing is refused are well formed.
-use Rattle.std.proofs.Common.{◌≡◌, ℕ, suc, ◌+◌, ◌-◌, ◌<◌, Bool, true, false, cond, List, [], ◌∷◌, ◌++◌, length, map, refl, arith, subst, sym, ap, ◌∙◌}
+use Rattle.std.proofs.Common.{◌≡◌, ℕ, suc, ◌+◌, ◌-◌, ◌<◌, Bool, true, false, cond, List, [], ◌∷◌, ◌++◌, length, map, refl, arith, subst}
+use Rattle.std.proofs.Common.{sym, ap, ◌∙◌}
 use Rattle.std.specs.Prelude.{Some, IfSome, All, not}
 use Rattle.std.specs.List.{AllByRecursion}
 use Rattle.std.specs.Str.{bytes_eq}
@@ -23,7 +24,8 @@ use Rattle.c_types_rules.proofs.First.{have_first}
 use Rattle.c_types_rules.proofs.KnownTables.{nil_left, nil_right, all_append, IsAccepted, SoundTables, tables_sound}
 use Rattle.c_types_rules.proofs.KnownPrograms.{nothing_mapped, files_accepted}
 use Rattle.c_lower_rules.specs.Code.{onto}
-use Rattle.c_lower_rules.specs.Programs.{name_text, at_body, lowered_body, slot_types, item_refusals, items_refusals, files_refusals, item_procs, items_procs, files_procs}
+use Rattle.c_lower_rules.specs.Programs.{name_text, at_body, lowered_body, slot_types, item_refusals, items_refusals, files_refusals}
+use Rattle.c_lower_rules.specs.Programs.{item_procs, items_procs, files_procs}
 use Rattle.c_lower_rules.specs.Statements.{stmts_kinds}
 use Rattle.c_lower_rules.specs.Texts.{IsItemNamed, IsHeadNamed, AreItemLines, IsText}
 use Rattle.c_lower_rules.specs.Laws.{HaveWellFormed}
@@ -38,24 +40,29 @@ use Rattle.c_lower_rules.proofs.Flows.{IsFineDefinition, named_count, nodes_good
 
 -- NOTHING IS TOO LARGE
 
-sizes_append : (tables : Tables) (xs ys : List Item) → items_refusals tables xs ≡ [] → items_refusals tables ys ≡ [] → items_refusals tables (xs ++ ys) ≡ []
+sizes_append : (tables : Tables) (xs ys : List Item) → items_refusals tables xs ≡ [] → items_refusals tables ys ≡ []
+    → items_refusals tables (xs ++ ys) ≡ []
 sizes_append tables [] ys e f = f
 sizes_append tables (x ∷ xs) ys e f = rw (nil_left (item_refusals tables x) _ e) (sizes_append tables xs ys (nil_right _ _ e) f)
 
-pub sizes_flat : (tables : Tables) (unit : ℕ) (files : List File) → files_refusals tables unit files ≡ [] → items_refusals tables (items_of files) ≡ []
+pub sizes_flat : (tables : Tables) (unit : ℕ) (files : List File) → files_refusals tables unit files ≡ []
+    → items_refusals tables (items_of files) ≡ []
 sizes_flat tables unit [] e = refl
 sizes_flat tables unit (file ∷ files) e =
-    sizes_append tables file.items (items_of files) (nothing_mapped (in_unit unit) (items_refusals tables file.items) (nil_left _ _ e)) (sizes_flat tables (suc unit) files (nil_right _ _ e))
+    sizes_append tables file.items (items_of files) (nothing_mapped (in_unit unit) (items_refusals tables file.items) (nil_left _ _ e))
+    (sizes_flat tables (suc unit) files (nil_right _ _ e))
 
 -- ALL ITEMS
 
 texts_names : (files : List File) → AllByRecursion IsText files → AllByRecursion IsItemNamed (items_of files)
 texts_names [] h = tt
-texts_names (file ∷ files) h = all_append IsItemNamed file.items (items_of files) (recursion_from_All IsItemNamed file.items h.0.names) (texts_names files h.1)
+texts_names (file ∷ files) h =
+    all_append IsItemNamed file.items (items_of files) (recursion_from_All IsItemNamed file.items h.0.names) (texts_names files h.1)
 
 texts_lines : (files : List File) → AllByRecursion IsText files → AllByRecursion AreItemLines (items_of files)
 texts_lines [] h = tt
-texts_lines (file ∷ files) h = all_append AreItemLines file.items (items_of files) (recursion_from_All AreItemLines file.items h.0.lines) (texts_lines files h.1)
+texts_lines (file ∷ files) h =
+    all_append AreItemLines file.items (items_of files) (recursion_from_All AreItemLines file.items h.0.lines) (texts_lines files h.1)
 
 -- PROCEDURES THAT ARE DECLARED
 
@@ -70,11 +77,13 @@ procedures_named (Item.TypedefAlias place tag alias ∷ others) h = procedures_n
 procedures_named (Item.Prototype head ∷ others) h = (h.0, procedures_named others h.1)
 procedures_named (Item.Definition head place body end ∷ others) h = (h.0, procedures_named others h.1)
 
-procedure_named : (all : List Procedure) → AllByRecursion IsNamedProcedure all → (n : List ℕ) → IfSome (procedure_in all n) (λ f. IsCName n × IsCountable (listed f.head.params))
+procedure_named : (all : List Procedure) → AllByRecursion IsNamedProcedure all → (n : List ℕ)
+    → IfSome (procedure_in all n) (λ f. IsCName n × IsCountable (listed f.head.params))
 procedure_named [] h n = tt
 procedure_named (first ∷ others) h n = by_test (bytes_eq first.head.declarator.name.text n) refl (procedure_named others h.1 n)
   where
-    by_test : (b : Bool) → bytes_eq first.head.declarator.name.text n ≡ b → IfSome (procedure_in others n) (λ f. IsCName n × IsCountable (listed f.head.params))
+    by_test : (b : Bool) → bytes_eq first.head.declarator.name.text n ≡ b
+        → IfSome (procedure_in others n) (λ f. IsCName n × IsCountable (listed f.head.params))
         → IfSome (cond b (Some first) (procedure_in others n)) (λ f. IsCName n × IsCountable (listed f.head.params))
     by_test true e k = (subst IsCName (equal first.head.declarator.name.text n e) h.0.name, h.0.countable)
     by_test false e k = k
@@ -85,8 +94,10 @@ abbrev IsFineItem : Tables → Item → Type 0
 IsFineItem tables (Item.Definition head place body end) = IsFineDefinition tables head body end
 IsFineItem tables _ = Unit {0}
 
-definition_fine : (tables : Tables) (head : Head) (place : Place) (body : Stmts) (end : Place) → IsAccepted tables (Item.Definition head place body end) → IsHeadNamed head
-    → AreItemLines (Item.Definition head place body end) → item_refusals tables (Item.Definition head place body end) ≡ [] → IsFineDefinition tables head body end
+definition_fine : (tables : Tables) (head : Head) (place : Place) (body : Stmts) (end : Place)
+    → IsAccepted tables (Item.Definition head place body end) → IsHeadNamed head
+    → AreItemLines (Item.Definition head place body end) → item_refusals tables (Item.Definition head place body end) ≡ []
+    → IsFineDefinition tables head body end
 definition_fine tables head place body end h n l s =
     let before = h.0 in
     let declared = procedure_refusals tables before (definitions false before.procedures) head in
@@ -103,21 +114,26 @@ definition_fine tables head place body end h n l s =
       last = l.2;
     }
 
-items_fine : (tables : Tables) (all : List Item) → AllByRecursion (IsAccepted tables) all → AllByRecursion IsItemNamed all → AllByRecursion AreItemLines all → items_refusals tables all ≡ []
+items_fine : (tables : Tables) (all : List Item) → AllByRecursion (IsAccepted tables) all → AllByRecursion IsItemNamed all
+    → AllByRecursion AreItemLines all → items_refusals tables all ≡ []
     → AllByRecursion (IsFineItem tables) all
 items_fine tables [] h n l s = tt
 items_fine tables (Item.StructItem place tag lines ∷ others) h n l s = (tt, items_fine tables others h.1 n.1 l.1 (nil_right _ _ s))
 items_fine tables (Item.TypedefStruct place tag lines alias ∷ others) h n l s = (tt, items_fine tables others h.1 n.1 l.1 (nil_right _ _ s))
 items_fine tables (Item.TypedefAlias place tag alias ∷ others) h n l s = (tt, items_fine tables others h.1 n.1 l.1 s)
 items_fine tables (Item.Prototype head ∷ others) h n l s = (tt, items_fine tables others h.1 n.1 l.1 s)
-items_fine tables (Item.Definition head place body end ∷ others) h n l s =
-    (definition_fine tables head place body end h.0 n.0 l.0 (nil_left _ _ s), items_fine tables others h.1 n.1 l.1 (nil_right (item_refusals tables (Item.Definition head place body end)) _ s))
+items_fine tables (Item.Definition head place body end ∷ others) h n l s = (
+  definition_fine tables head place body end h.0 n.0 l.0 (nil_left _ _ s),
+  items_fine tables others h.1 n.1 l.1
+      (nil_right (item_refusals tables (Item.Definition head place body end)) _ s),
+)
 
 abbrev IsSettledItem : List Procedure → Item → Type 0
 IsSettledItem all (Item.Definition head place body end) = IsSettled all head
 IsSettledItem all _ = Unit {0}
 
-items_settled : (procs : List Procedure) (all : List Item) → AllByRecursion (IsSettled procs) (definitions_of all) → AllByRecursion (IsSettledItem procs) all
+items_settled : (procs : List Procedure) (all : List Item) → AllByRecursion (IsSettled procs) (definitions_of all)
+    → AllByRecursion (IsSettledItem procs) all
 items_settled procs [] h = tt
 items_settled procs (Item.StructItem place tag lines ∷ others) h = (tt, items_settled procs others h)
 items_settled procs (Item.TypedefStruct place tag lines alias ∷ others) h = (tt, items_settled procs others h)
@@ -138,12 +154,15 @@ all_behind P (x ∷ xs) ys h = all_behind P xs ys h.1
 abbrev Gives : Tables → (Proc → Type 0) → (Item → Type 0) → Type 0
 Gives tables P Q = (file : List ℕ) (one : Item) → Q one → AllByRecursion P (item_procs tables file one)
 
-items_procs_all : (tables : Tables) (P : Proc → Type 0) (Q : Item → Type 0) → Gives tables P Q → (file : List ℕ) (all : List Item) → AllByRecursion Q all → AllByRecursion P (items_procs tables file all)
+items_procs_all : (tables : Tables) (P : Proc → Type 0) (Q : Item → Type 0) → Gives tables P Q → (file : List ℕ) (all : List Item)
+    → AllByRecursion Q all → AllByRecursion P (items_procs tables file all)
 items_procs_all tables P Q gives file [] h = tt
 items_procs_all tables P Q gives file (first ∷ others) h =
-    all_append P (item_procs tables file first) (items_procs tables file others) (gives file first h.0) (items_procs_all tables P Q gives file others h.1)
+    all_append P (item_procs tables file first) (items_procs tables file others) (gives file first h.0)
+    (items_procs_all tables P Q gives file others h.1)
 
-procs_all : (tables : Tables) (P : Proc → Type 0) (Q : Item → Type 0) → Gives tables P Q → (names : List (List ℕ)) (files : List File) → AllByRecursion Q (items_of files)
+procs_all : (tables : Tables) (P : Proc → Type 0) (Q : Item → Type 0) → Gives tables P Q → (names : List (List ℕ)) (files : List File)
+    → AllByRecursion Q (items_of files)
     → AllByRecursion P (files_procs tables names files)
 procs_all tables P Q gives [] files h = tt
 procs_all tables P Q gives (name ∷ names) [] h = tt
@@ -168,10 +187,12 @@ record IsGoodItem (tables : Tables) (one : Item) : Type 0 where
   fine : IsFineItem tables one
   settled : IsSettledItem tables.procedures one
 
-lines_good : (first : ℕ) (nodes : List Node) → first < 4294967296 → All (λ (n : Node). n.line < 4294967296 - first) nodes → All (λ (n : Node). first + n.line < 4294967296) nodes
+lines_good : (first : ℕ) (nodes : List Node) → first < 4294967296 → All (λ (n : Node). n.line < 4294967296 - first) nodes
+    → All (λ (n : Node). first + n.line < 4294967296) nodes
 lines_good first nodes lt h = λ k d below. let one = h k d below in omega arith
 
-proc_good : (structs : List StructDef) (tables : Tables) → Fits structs tables → SoundTables tables → Gives tables (IsGoodProc structs tables) (IsGoodItem tables)
+proc_good : (structs : List StructDef) (tables : Tables) → Fits structs tables → SoundTables tables
+    → Gives tables (IsGoodProc structs tables) (IsGoodItem tables)
 proc_good structs tables fits sound file (Item.Definition head place body end) h =
     let l = lowered_body tables head body end in
     let slots = slot_types tables head body l.behind.temps in
@@ -185,10 +206,13 @@ proc_good structs tables fits sound file (Item.Definition head place body end) h
       record {
         flow = flow_good structs tables fits sound head body end h.fine;
         lines = lines_good (place_of_head head).line _ h.fine.first
-            (marked_keeps (λ (n : Node). n.line < 4294967296 - (place_of_head head).line) (λ n m e f k. subst (λ line. line < 4294967296 - (place_of_head head).line) f k) slots nodes (l.code.loops 0) 0 nodes
+            (marked_keeps (λ (n : Node). n.line < 4294967296 - (place_of_head head).line)
+            (λ n m e f k. subst (λ line. line < 4294967296 - (place_of_head head).line) f k) slots nodes (l.code.loops 0) 0 nodes
             (λ k d below. (good k d below).1));
         arity = record { first = settled.first; found = settled.found; fits = omega arith };
-        calls = marked_keeps (λ (n : Node). FitsFirst tables n.cmd) (λ n m e f k. subst (λ c. FitsFirst tables c) e k) slots nodes (l.code.loops 0) 0 nodes
+        calls =
+            marked_keeps (λ (n : Node). FitsFirst tables n.cmd) (λ n m e f k. subst (λ c. FitsFirst tables c) e k) slots nodes
+            (l.code.loops 0) 0 nodes
             (λ k d below. (good k d below).0.1);
       },
       tt,
@@ -205,7 +229,8 @@ fits_call : (tables : Tables) (procs : List Proc) → All (HasArity tables) proc
 fits_call tables procs h (cmd.Call to callee args next) f = λ k d below e.
     let arity = h k d below in
     let first : IfSome (Some arity.first) (λ found. length (listed found.head.params) ≡ length args) =
-    subst (λ found. IfSome found (λ p. length (listed p.head.params) ≡ length args)) (ap (λ n. procedure_in tables.procedures n) (sym e) ∙ arity.found) f in
+    subst (λ found. IfSome found (λ p. length (listed p.head.params) ≡ length args))
+    (ap (λ n. procedure_in tables.procedures n) (sym e) ∙ arity.found) f in
     let fits = arity.fits in
     omega arith
 fits_call tables procs h (cmd.Copy to from next) f = tt
@@ -228,7 +253,8 @@ proc_name p = p.flow.name
 
 definitions_append : (xs ys : List Item) → definitions_of (xs ++ ys) ≡ definitions_of xs ++ definitions_of ys
 definitions_append [] ys = refl
-definitions_append (x ∷ xs) ys = ap (λ r. defined_by x ++ r) (definitions_append xs ys) ∙ sym (append_assoc (defined_by x) (definitions_of xs) (definitions_of ys))
+definitions_append (x ∷ xs) ys =
+    ap (λ r. defined_by x ++ r) (definitions_append xs ys) ∙ sym (append_assoc (defined_by x) (definitions_of xs) (definitions_of ys))
 
 item_names : (tables : Tables) (file : List ℕ) (one : Item) → map proc_name (item_procs tables file one) ≡ map head_name (defined_by one)
 item_names tables file (Item.StructItem place tag lines) = refl
@@ -237,7 +263,8 @@ item_names tables file (Item.TypedefAlias place tag alias) = refl
 item_names tables file (Item.Prototype head) = refl
 item_names tables file (Item.Definition head place body end) = refl
 
-items_names : (tables : Tables) (file : List ℕ) (all : List Item) → map proc_name (items_procs tables file all) ≡ map head_name (definitions_of all)
+items_names : (tables : Tables) (file : List ℕ) (all : List Item)
+    → map proc_name (items_procs tables file all) ≡ map head_name (definitions_of all)
 items_names tables file [] = refl
 items_names tables file (first ∷ others) =
     map-append proc_name (item_procs tables file first) (items_procs tables file others)
@@ -254,11 +281,13 @@ files_names tables (name ∷ names) (file ∷ files) e =
     map-append proc_name (items_procs tables name file.items) (files_procs tables names files)
     ∙ ap (λ r. r ++ map proc_name (files_procs tables names files)) (items_names tables name file.items)
     ∙ ap (λ r. map head_name (definitions_of file.items) ++ r) (files_names tables names files (omega arith))
-    ∙ sym (ap (map head_name) (definitions_append file.items (items_of files)) ∙ map-append head_name (definitions_of file.items) (definitions_of (items_of files)))
+    ∙ sym (ap (map head_name) (definitions_append file.items (items_of files))
+    ∙ map-append head_name (definitions_of file.items) (definitions_of (items_of files)))
 
 -- PROGRAMS
 
-both_good : (tables : Tables) (all : List Item) → AllByRecursion (IsFineItem tables) all → AllByRecursion (IsSettledItem tables.procedures) all → AllByRecursion (IsGoodItem tables) all
+both_good : (tables : Tables) (all : List Item) → AllByRecursion (IsFineItem tables) all
+    → AllByRecursion (IsSettledItem tables.procedures) all → AllByRecursion (IsGoodItem tables) all
 both_good tables [] h k = tt
 both_good tables (first ∷ others) h k = (record { fine = h.0; settled = k.0 }, both_good tables others h.1 k.1)
 
@@ -281,9 +310,12 @@ have_well_formed names files typed sizes texts count structs_count procs_count =
       procedures = procedure_named tables.procedures (procedures_named all named);
     } in
     let declared = program_definitions files typed in
-    let items = both_good tables all (items_fine tables all accepted named lines small) (items_settled tables.procedures all declared.settled) in
+    let items =
+    both_good tables all (items_fine tables all accepted named lines small) (items_settled tables.procedures all declared.settled) in
     let procs = files_procs tables names files in
-    let good = procs_all tables (IsGoodProc (structs_of files) tables) (IsGoodItem tables) (proc_good (structs_of files) tables fits sound) names files items in
+    let good =
+    procs_all tables (IsGoodProc (structs_of files) tables) (IsGoodItem tables)
+    (proc_good (structs_of files) tables fits sound) names files items in
     let each = All-from_recursion (IsGoodProc (structs_of files) tables) procs good in
     record {
       structs = structs_good tables tags tables.structures fine structs_count;

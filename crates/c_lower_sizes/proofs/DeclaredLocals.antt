@@ -5,13 +5,15 @@ use Rattle.std.proofs.lemmas.List.{length-append}
 use Rattle.c_grammar.specs.Trees.{Specifier, BinaryOp, PrefixOp, Expr, Links, Initialized, Local, ForInit, Stmt, Stmts}
 use Rattle.c_types_rules.specs.Tables.{Tables}
 use Rattle.c_lower_rules.specs.Statements.{kinds_of_locals, init_kinds, stmt_kinds, stmts_kinds}
-use Rattle.c_lower_sizes.specs.Sizes.{Uses, binary_uses, prefix_uses, expr_uses, chain_uses, initial_size, locals_size, declaration_size, init_size, stmt_size, stmts_size, declared, init_locals, stmt_locals, stmts_locals}
+use Rattle.c_lower_sizes.specs.Sizes.{Uses, binary_uses, prefix_uses, expr_uses, chain_uses, initial_size, locals_size, declaration_size}
+use Rattle.c_lower_sizes.specs.Sizes.{init_size, stmt_size, stmts_size, declared, init_locals, stmt_locals, stmts_locals}
 use Rattle.c_lower_sizes.specs.Laws.{HaveLocalKinds, HaveANodeForEachLocal}
 use Rattle.c_lower_sizes.proofs.Pieces.{sums}
 
 -- THEIR TYPES
 
-kinds_counted : (tables : Tables) (specifier : Specifier) (all : List Initialized) → length (kinds_of_locals tables specifier all) ≡ length all
+kinds_counted : (tables : Tables) (specifier : Specifier) (all : List Initialized)
+    → length (kinds_of_locals tables specifier all) ≡ length all
 kinds_counted tables specifier [] = refl
 kinds_counted tables specifier (first ∷ others) = ap suc (kinds_counted tables specifier others)
 
@@ -28,11 +30,13 @@ mutual
   stmt_kinds_counted tables (Stmt.Do s) = refl
   stmt_kinds_counted tables (Stmt.If place e body) = stmt_kinds_counted tables body
   stmt_kinds_counted tables (Stmt.IfElse place e body other) =
-      length-append (stmt_kinds tables body) (stmt_kinds tables other) ∙ sums (stmt_kinds_counted tables body) (stmt_kinds_counted tables other)
+      length-append (stmt_kinds tables body) (stmt_kinds tables other)
+      ∙ sums (stmt_kinds_counted tables body) (stmt_kinds_counted tables other)
   stmt_kinds_counted tables (Stmt.While place e body) = stmt_kinds_counted tables body
   stmt_kinds_counted tables (Stmt.DoWhile place body e) = stmt_kinds_counted tables body
   stmt_kinds_counted tables (Stmt.For place first e step body) =
-      length-append (init_kinds tables first) (stmt_kinds tables body) ∙ sums (init_kinds_counted tables first) (stmt_kinds_counted tables body)
+      length-append (init_kinds tables first) (stmt_kinds tables body)
+      ∙ sums (init_kinds_counted tables first) (stmt_kinds_counted tables body)
   stmt_kinds_counted tables (Stmt.Break place) = refl
   stmt_kinds_counted tables (Stmt.Continue place) = refl
   stmt_kinds_counted tables (Stmt.Return place value) = refl
@@ -40,7 +44,8 @@ mutual
   pub stmts_kinds_counted : (tables : Tables) (all : Stmts) → length (stmts_kinds tables all) ≡ stmts_locals all
   stmts_kinds_counted tables Stmts.NoStmts = refl
   stmts_kinds_counted tables (Stmts.Next first others) =
-      length-append (stmt_kinds tables first) (stmts_kinds tables others) ∙ sums (stmt_kinds_counted tables first) (stmts_kinds_counted tables others)
+      length-append (stmt_kinds tables first) (stmts_kinds tables others)
+      ∙ sums (stmt_kinds_counted tables first) (stmts_kinds_counted tables others)
 
 pub have_local_kinds : HaveLocalKinds
 have_local_kinds tables body = stmts_kinds_counted tables body
@@ -67,7 +72,8 @@ prefix_puts PrefixOp.Not inner = omega arith
 
 chain_puts : (before : Uses) (others : Links) → 1 ≤ before.into → 1 ≤ (chain_uses before others).into
 chain_puts before Links.NoLinks h = h
-chain_puts before (Links.Link op operand others) h = chain_puts (binary_uses op before (expr_uses operand)) others (binary_puts op before (expr_uses operand))
+chain_puts before (Links.Link op operand others) h =
+    chain_puts (binary_uses op before (expr_uses operand)) others (binary_puts op before (expr_uses operand))
 
 expr_puts : (e : Expr) → 1 ≤ (expr_uses e).into
 expr_puts (Expr.Chain first others) = chain_puts (expr_uses first) others (expr_puts first)

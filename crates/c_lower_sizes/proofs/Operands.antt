@@ -7,7 +7,8 @@ use Rattle.c_tree.specs.declared.exprs.Expr.TheFolds.{fold_out-Link}
 use Rattle.c_tree.specs.declared.exprs.Link.{Link}
 use Rattle.c_tree.specs.Syntax.{LinkTree, binary_tree, expr_level, link_level, expr_tree, link_tree, links_tree}
 use Rattle.c_lower_sizes.specs.declared.counts.UseCounts.{UseCounts}
-use Rattle.c_lower_sizes.specs.Sizes.{Uses, made_uses, truth_uses, arithmetic_uses, comparison_uses, logical_uses, binary_uses, expr_uses, chain_uses}
+use Rattle.c_lower_sizes.specs.Sizes.{Uses, made_uses, truth_uses, arithmetic_uses, comparison_uses, logical_uses, binary_uses, expr_uses}
+use Rattle.c_lower_sizes.specs.Sizes.{chain_uses}
 use Rattle.c_lower_sizes.specs.Counts.{capped, seen, AreCounts}
 
 made_counts : (n m : ℕ) (r : UseCounts) → capped m ≡ capped n → AreCounts (made_uses m) r → AreCounts (made_uses n) r
@@ -30,19 +31,22 @@ two n m a b e f = omega arith
 two_and_one : (n m a b : ℕ) → a ≡ capped n → b ≡ capped m → capped (a + b + 1) ≡ capped (n + m + 1)
 two_and_one n m a b e f = omega arith
 
-arithmetic_counts : (one other : Uses) (a b r : UseCounts) → AreCounts one a → AreCounts other b → AreCounts (arithmetic_uses (seen a) (seen b)) r
+arithmetic_counts : (one other : Uses) (a b r : UseCounts) → AreCounts one a → AreCounts other b
+    → AreCounts (arithmetic_uses (seen a) (seen b)) r
     → AreCounts (arithmetic_uses one other) r
 arithmetic_counts one other a b r h k =
     made_counts (one.value + other.value) (a.value + b.value) r (two one.value other.value a.value b.value h.value k.value)
 
-comparison_counts : (one other : Uses) (a b r : UseCounts) → AreCounts one a → AreCounts other b → AreCounts (comparison_uses (seen a) (seen b)) r
+comparison_counts : (one other : Uses) (a b r : UseCounts) → AreCounts one a → AreCounts other b
+    → AreCounts (comparison_uses (seen a) (seen b)) r
     → AreCounts (comparison_uses one other) r
 comparison_counts one other a b r h k =
     truth_counts (one.value + other.value + 1) (a.value + b.value + 1) r (two_and_one one.value other.value a.value b.value h.value k.value)
 
 logical_counts : (one other : Uses) (a b r : UseCounts) → AreCounts one a → AreCounts other b → AreCounts (logical_uses (seen a) (seen b)) r
     → AreCounts (logical_uses one other) r
-logical_counts one other a b r h k = truth_counts (one.test + other.test) (a.test + b.test) r (two one.test other.test a.test b.test h.test k.test)
+logical_counts one other a b r h k =
+    truth_counts (one.test + other.test) (a.test + b.test) r (two one.test other.test a.test b.test h.test k.test)
 
 pub binary_counts : (op : BinaryOp) (one other : Uses) (a b r : UseCounts) → AreCounts one a → AreCounts other b
     → AreCounts (binary_uses op (seen a) (seen b)) r

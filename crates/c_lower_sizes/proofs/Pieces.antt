@@ -4,7 +4,8 @@ use Rattle.std.proofs.lemmas.List.{length-append}
 use Rattle.shape_data.specs.declared.program.Cmd.{Cmd}
 use Rattle.shape_data.specs.declared.program.Operand.{Operand}
 use Rattle.shape_data.specs.declared.program.TestOp.{TestOp}
-use Rattle.c_lower_rules.specs.Code.{Exits, onto, Code, Test, Straight, jump, command, ◌⨾◌, no_nodes, ◌⊹◌, straight, ◌⊳◌, branch, test_behind, opposite, both, either, choose, within, step_entry, repeat, repeat_first}
+use Rattle.c_lower_rules.specs.Code.{Exits, onto, Code, Test, Straight, jump, command, ◌⨾◌, no_nodes, ◌⊹◌, straight, ◌⊳◌, branch}
+use Rattle.c_lower_rules.specs.Code.{test_behind, opposite, both, either, choose, within, step_entry, repeat, repeat_first}
 
 pub sums : {a b n m : ℕ} → a ≡ n → b ≡ m → a + b ≡ n + m
 sums e f = omega arith
@@ -87,25 +88,40 @@ pub test_both : (n m : ℕ) (one other : Test) → HasTest n one → HasTest m o
 test_both n m one other h k = record {
   size = sums h.size k.size;
   nodes = λ at y no.
-      rw (length-append (one.nodes at (at + one.size) no) (other.nodes (at + one.size) y no), h.nodes at _ no, k.nodes (at + one.size) y no) refl;
+      rw (
+        length-append (one.nodes at (at + one.size) no) (other.nodes (at + one.size) y no),
+        h.nodes at _ no,
+        k.nodes
+            (at + one.size) y no,
+      ) refl;
 }
 
 pub test_either : (n m : ℕ) (one other : Test) → HasTest n one → HasTest m other → HasTest (n + m) (either one other)
 test_either n m one other h k = record {
   size = sums h.size k.size;
-  nodes = λ at y no. rw (length-append (one.nodes at y (at + one.size)) (other.nodes (at + one.size) y no), h.nodes at y _, k.nodes (at + one.size) y no) refl;
+  nodes =
+      λ at y no. rw (
+        length-append (one.nodes at y (at + one.size)) (other.nodes (at + one.size) y no),
+        h.nodes at y _,
+        k.nodes
+            (at + one.size) y no,
+      ) refl;
 }
 
 -- BRANCHES AND LOOPS
 
-pub code_choose : (t n m : ℕ) (test : Test) (one other : Code) → HasTest t test → HasSize n one → HasSize m other → HasSize (t + n + m) (choose test one other)
+pub code_choose : (t n m : ℕ) (test : Test) (one other : Code) → HasTest t test → HasSize n one → HasSize m other
+    → HasSize (t + n + m) (choose test one other)
 code_choose t n m test one other g h k = record {
   size = sums (sums g.size h.size) k.size;
   nodes = λ at exits.
       rw (
-        length-append (test.nodes at (one.entry (at + test.size) exits) (other.entry (at + test.size + one.size) exits) ++ one.nodes (at + test.size) exits)
+        length-append
+            (test.nodes at (one.entry (at + test.size) exits) (other.entry (at + test.size + one.size) exits)
+            ++ one.nodes (at + test.size) exits)
             (other.nodes (at + test.size + one.size) exits),
-        length-append (test.nodes at (one.entry (at + test.size) exits) (other.entry (at + test.size + one.size) exits)) (one.nodes (at + test.size) exits),
+        length-append (test.nodes at (one.entry (at + test.size) exits) (other.entry (at + test.size + one.size) exits))
+            (one.nodes (at + test.size) exits),
         g.nodes at (one.entry (at + test.size) exits) (other.entry (at + test.size + one.size) exits),
         h.nodes (at + test.size) exits,
         k.nodes (at + test.size + one.size) exits,
@@ -119,7 +135,8 @@ code_repeat t n m visible test body step g h k = record {
   nodes = λ at exits.
       rw (
         length-append (test.nodes at (body.entry (at + test.size) (within (step_entry test body step at) exits)) exits.next
-            ++ body.nodes (at + test.size) (within (step_entry test body step at) exits)) (step.nodes (at + test.size + body.size) (onto at)),
+            ++ body.nodes (at + test.size) (within (step_entry test body step at) exits))
+            (step.nodes (at + test.size + body.size) (onto at)),
         length-append (test.nodes at (body.entry (at + test.size) (within (step_entry test body step at) exits)) exits.next)
             (body.nodes (at + test.size) (within (step_entry test body step at) exits)),
         g.nodes at (body.entry (at + test.size) (within (step_entry test body step at) exits)) exits.next,
@@ -134,7 +151,8 @@ code_repeat_first n t visible body test h g = record {
   size = sums h.size g.size;
   nodes = λ at exits.
       rw (
-        length-append (body.nodes at (within (at + body.size) exits)) (test.nodes (at + body.size) (body.entry at (within (at + body.size) exits)) exits.next),
+        length-append (body.nodes at (within (at + body.size) exits))
+            (test.nodes (at + body.size) (body.entry at (within (at + body.size) exits)) exits.next),
         h.nodes at (within (at + body.size) exits),
         g.nodes (at + body.size) (body.entry at (within (at + body.size) exits)) exits.next,
       ) refl;

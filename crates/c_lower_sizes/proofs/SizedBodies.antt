@@ -13,11 +13,15 @@ use Rattle.c_lower_rules.specs.Code.{onto, Code, nothing, choose, branch, begun_
 use Rattle.c_lower_rules.specs.Temporaries.{Temp, take_temp}
 use Rattle.c_lower_rules.specs.Contexts.{Context, visible}
 use Rattle.c_lower_rules.specs.Values.{slot_taken}
-use Rattle.c_lower_rules.specs.Statements.{State, Lowered, place_of_simple, local, joined, no_code, locals, declaration, from_place, with_names, simple_from, condition, for_condition, with_temps, inside, for_init, for_step, stmt, stmts, stmts_kinds}
+use Rattle.c_lower_rules.specs.Statements.{State, Lowered, place_of_simple, local, joined, no_code, locals, declaration, from_place}
+use Rattle.c_lower_rules.specs.Statements.{with_names, simple_from, condition, for_condition, with_temps, inside, for_init, for_step, stmt}
+use Rattle.c_lower_rules.specs.Statements.{stmts, stmts_kinds}
 use Rattle.c_lower_rules.specs.Programs.{at_body, result_type, any_value, closed_by, closed}
-use Rattle.c_lower_sizes.specs.Sizes.{expr_uses, simple_size, locals_size, declaration_size, init_size, condition_size, step_size, stmt_size, stmts_size, declared, init_locals, stmt_locals, stmts_locals}
+use Rattle.c_lower_sizes.specs.Sizes.{expr_uses, simple_size, locals_size, declaration_size, init_size, condition_size, step_size}
+use Rattle.c_lower_sizes.specs.Sizes.{stmt_size, stmts_size, declared, init_locals, stmt_locals, stmts_locals}
 use Rattle.c_lower_sizes.specs.Laws.{HaveSizes, HaveAsManyNodes, CountLocals, AreBodiesNoLarger}
-use Rattle.c_lower_sizes.proofs.Pieces.{HasSize, code_is, code_jump, code_command, code_behind, HasTest, test_branch, code_choose, code_repeat, code_repeat_first}
+use Rattle.c_lower_sizes.proofs.Pieces.{HasSize, code_is, code_jump, code_command, code_behind, HasTest, test_branch, code_choose}
+use Rattle.c_lower_sizes.proofs.Pieces.{code_repeat, code_repeat_first}
 use Rattle.c_lower_sizes.proofs.SizedExprs.{lowering_sized}
 use Rattle.c_lower_sizes.proofs.SizedSimples.{simple_sized, returned_sized, initial_sized}
 
@@ -60,7 +64,8 @@ declaration_counted l before =
 
 -- PARTS OF STATEMENTS
 
-simple_counted : (before : State) (place : Place) (s : Simple) → IsCounted (simple_size s) 0 before (simple_from before (from_place before place) s)
+simple_counted : (before : State) (place : Place) (s : Simple)
+    → IsCounted (simple_size s) 0 before (simple_from before (from_place before place) s)
 simple_counted before place s = record { code = simple_sized _ s _; locals = omega arith }
 
 condition_counted : (before : State) (e : Expr) → HasTest (expr_uses e).test (condition before e).test
@@ -113,7 +118,9 @@ mutual
       let first = b.locals in
       let next = o.locals in
       record {
-        code = code_choose (expr_uses e).test (stmt_size body) (stmt_size other) t.test one.code (stmt other (inside (with_names before one.behind))).code
+        code =
+            code_choose (expr_uses e).test (stmt_size body) (stmt_size other) t.test one.code
+            (stmt other (inside (with_names before one.behind))).code
             (condition_counted before e) b.code o.code;
         locals = omega arith;
       }
@@ -131,7 +138,9 @@ mutual
       let one = stmt body (inside before) in
       let b = stmt_counted body (inside before) in
       record {
-        code = code_repeat_first (stmt_size body) (expr_uses e).test (visible before.context) one.code (condition (with_names before one.behind) e).test
+        code =
+            code_repeat_first (stmt_size body) (expr_uses e).test (visible before.context) one.code
+            (condition (with_names before one.behind) e).test
             b.code (condition_counted (with_names before one.behind) e);
         locals = b.locals;
       }
@@ -180,7 +189,8 @@ any_sized : (n : ℕ) (kind : Ty) (c : Context) (temps : List Temp) (l : Lowered
     → HasSize (n + 2) (any_value c kind (take_temp kind temps) l).code
 any_sized n kind c temps l h =
     let slot = slot_taken c (take_temp kind temps) in
-    code_behind n 2 l.code _ h (code_behind 1 1 _ _ (code_command c.line (cmd.Any slot kind)) (code_command c.line (λ next. cmd.Return (Slot slot))))
+    code_behind n 2 l.code _ h
+    (code_behind 1 1 _ _ (code_command c.line (cmd.Any slot kind)) (code_command c.line (λ next. cmd.Return (Slot slot))))
 
 -- what closes a body adds nodes
 closed_sized : (n : ℕ) (result : Ty) (c : Context) (temps : List Temp) (l : Lowered) → HasSize n l.code

@@ -9,10 +9,15 @@ use Rattle.c_grammar.specs.Trees.{Name, Specifier, BinaryOp, PrefixOp, Expr, Lin
 use Rattle.c_lower_rules.specs.Code.{no_nodes}
 use Rattle.c_lower_rules.specs.Temporaries.{Temp, take_temp}
 use Rattle.c_lower_rules.specs.Contexts.{Context}
-use Rattle.c_lower_rules.specs.Values.{Value, Tested, Making, Lowering, slot_taken, not_zero, at_hand, put_into, made_value, made, put_truth, truth}
-use Rattle.c_lower_rules.specs.Expressions.{arithmetic, comparison, conjunction, disjunction, binary, prefix, field_behind, member, members, Arguments, with_argument, arguments, no_arguments, new, lowering, chain, lowerings, wanted}
-use Rattle.c_lower_sizes.specs.Sizes.{Uses, at_hand_uses, made_uses, truth_uses, arithmetic_uses, comparison_uses, logical_uses, binary_uses, prefix_uses, expr_uses, chain_uses, args_size}
-use Rattle.c_lower_sizes.proofs.Pieces.{HasStraight, straight_is, straight_none, straight_append, straight_of, HasSize, code_is, code_command, code_before, HasTest, test_is, test_branch, test_after, test_opposite, test_both, test_either, code_choose}
+use Rattle.c_lower_rules.specs.Values.{Value, Tested, Making, Lowering, slot_taken, not_zero, at_hand, put_into, made_value, made}
+use Rattle.c_lower_rules.specs.Values.{put_truth, truth}
+use Rattle.c_lower_rules.specs.Expressions.{arithmetic, comparison, conjunction, disjunction, binary, prefix, field_behind, member, members}
+use Rattle.c_lower_rules.specs.Expressions.{Arguments, with_argument, arguments, no_arguments, new, lowering, chain, lowerings, wanted}
+use Rattle.c_lower_sizes.specs.Sizes.{Uses, at_hand_uses, made_uses, truth_uses, arithmetic_uses, comparison_uses, logical_uses}
+use Rattle.c_lower_sizes.specs.Sizes.{binary_uses, prefix_uses, expr_uses, chain_uses, args_size}
+use Rattle.c_lower_sizes.proofs.Pieces.{HasStraight, straight_is, straight_none, straight_append, straight_of, HasSize, code_is}
+use Rattle.c_lower_sizes.proofs.Pieces.{code_command, code_before, HasTest, test_is, test_branch, test_after, test_opposite, test_both}
+use Rattle.c_lower_sizes.proofs.Pieces.{test_either, code_choose}
 
 pub record IsSized (uses : Uses) (l : Lowering) : Type 0 where
   pub value : (temps : List Temp) → HasStraight uses.value (l.value temps).code
@@ -48,7 +53,8 @@ made_sized n c kind making h = record {
 }
 
 put_truth_sized : (n : ℕ) (c : Context) (to : ℕ) (t : Tested) → HasTest n t.test → HasSize (n + 2) (put_truth c to t).code
-put_truth_sized n c to t h = code_is (n + 1 + 1) (n + 2) (omega arith) _ (code_choose n 1 1 t.test _ _ h (code_command c.line _) (code_command c.line _))
+put_truth_sized n c to t h =
+    code_is (n + 1 + 1) (n + 2) (omega arith) _ (code_choose n 1 1 t.test _ _ h (code_command c.line _) (code_command c.line _))
 
 pub truth_sized : (n : ℕ) (c : Context) (testing : List Temp → Tested) → ((temps : List Temp) → HasTest n (testing temps).test)
     → IsSized (truth_uses n) (truth c testing)
@@ -73,17 +79,20 @@ comparison_sized : (c : Context) (op : TestOp) (one other : Uses) (left right : 
 comparison_sized c op one other left right h k = truth_sized (one.value + other.value + 1) c _ (λ temps.
     test_is (one.value + (other.value + 1)) (one.value + other.value + 1) (omega arith) _
     (test_after one.value (other.value + 1) (left.value temps).code _ (h.value temps)
-    (test_after other.value 1 (right.value (left.value temps).temps).code _ (k.value (left.value temps).temps) (test_branch c.line op _ _ _))))
+    (test_after other.value 1 (right.value (left.value temps).temps).code _ (k.value (left.value temps).temps)
+    (test_branch c.line op _ _ _))))
 
 conjunction_sized : (c : Context) (one other : Uses) (left right : Lowering) → IsSized one left → IsSized other right
     → IsSized (logical_uses one other) (conjunction c left right)
 conjunction_sized c one other left right h k = truth_sized (one.test + other.test) c _ (λ temps.
-    test_both one.test other.test (left.test temps).test (right.test (left.test temps).temps).test (h.test temps) (k.test (left.test temps).temps))
+    test_both one.test other.test (left.test temps).test (right.test (left.test temps).temps).test (h.test temps)
+    (k.test (left.test temps).temps))
 
 disjunction_sized : (c : Context) (one other : Uses) (left right : Lowering) → IsSized one left → IsSized other right
     → IsSized (logical_uses one other) (disjunction c left right)
 disjunction_sized c one other left right h k = truth_sized (one.test + other.test) c _ (λ temps.
-    test_either one.test other.test (left.test temps).test (right.test (left.test temps).temps).test (h.test temps) (k.test (left.test temps).temps))
+    test_either one.test other.test (left.test temps).test (right.test (left.test temps).temps).test (h.test temps)
+    (k.test (left.test temps).temps))
 
 pub binary_sized : (c : Context) (op : BinaryOp) (one other : Uses) (left right : Lowering) → IsSized one left → IsSized other right
     → IsSized (binary_uses op one other) (binary c op left right)
@@ -99,9 +108,11 @@ binary_sized c BinaryOp.Add one other left right h k = arithmetic_sized c _ one 
 binary_sized c BinaryOp.Subtract one other left right h k = arithmetic_sized c _ one other left right h k
 binary_sized c BinaryOp.Multiply one other left right h k = arithmetic_sized c _ one other left right h k
 
-pub prefix_sized : (c : Context) (op : PrefixOp) (uses : Uses) (inner : Lowering) → IsSized uses inner → IsSized (prefix_uses op uses) (prefix c op inner)
+pub prefix_sized : (c : Context) (op : PrefixOp) (uses : Uses) (inner : Lowering) → IsSized uses inner
+    → IsSized (prefix_uses op uses) (prefix c op inner)
 prefix_sized c PrefixOp.Negate uses inner h = made_sized uses.value c Int _ (λ temps. h.value temps)
-prefix_sized c PrefixOp.Not uses inner h = truth_sized uses.test c _ (λ temps. test_opposite uses.test (inner.test temps).test (h.test temps))
+prefix_sized c PrefixOp.Not uses inner h =
+    truth_sized uses.test c _ (λ temps. test_opposite uses.test (inner.test temps).test (h.test temps))
 
 -- MEMBERS
 
@@ -131,7 +142,8 @@ arguments_sized : (n : ℕ) (before : Arguments) (args : Args) (all : List Lower
     → HasStraight (n + args_size args) (arguments before all).code
 arguments_sized n before Args.NoArgs [] h k = straight_is n (n + 0) (omega arith) before.code h
 arguments_sized n before (Args.Arg first others) (one ∷ rest) h k =
-    straight_is (n + (expr_uses first).value + args_size others) (n + args_size (Args.Arg first others)) (omega arith) (arguments before (one ∷ rest)).code
+    straight_is (n + (expr_uses first).value + args_size others) (n + args_size (Args.Arg first others)) (omega arith)
+    (arguments before (one ∷ rest)).code
     (arguments_sized (n + (expr_uses first).value) (with_argument before (one.value before.temps)) others rest
     (straight_append n (expr_uses first).value before.code (one.value before.temps).code h (k.0.value before.temps)) k.1)
 arguments_sized n before Args.NoArgs (one ∷ rest) h k = absurd k
@@ -158,7 +170,8 @@ mutual
   lowering_sized c (Expr.Number place value) = at_hand_sized c _ _
   lowering_sized c (Expr.Null place) = at_hand_sized c _ _
   lowering_sized c (Expr.Paren place inner) = lowering_sized c inner
-  lowering_sized c (Expr.Call callee args) = made_sized (args_size args) c _ _ (λ temps. given_sized args (lowerings c args) (args_sized c args) temps)
+  lowering_sized c (Expr.Call callee args) =
+      made_sized (args_size args) c _ _ (λ temps. given_sized args (lowerings c args) (args_sized c args) temps)
   lowering_sized c (Expr.Malloc place as_type target) = new_sized c _ target
 
   chain_sized : (c : Context) (uses : Uses) (before : Lowering) (others : Links) → IsSized uses before

@@ -9,5 +9,6 @@ use Rattle.c_lower_emit.proofs.Joining.{straight_none}
 use Rattle.c_lower_exprs.specs.declared.members.Found.{Found}
 use Rattle.c_lower_exprs.specs.Lowered.{IsLowered}
 
-pub at_hand_lowered : (c : Context) (first : ℕ) (o : Out) (found : Found) → IsLowered Value (at_hand c (type_seen found.kind) found.operand) first o o found
+pub at_hand_lowered : (c : Context) (first : ℕ) (o : Out) (found : Found)
+    → IsLowered Value (at_hand c (type_seen found.kind) found.operand) first o o found
 at_hand_lowered c first o found = record { kind = refl; emits = λ room. (straight_none o, refl) }

@@ -28,7 +28,8 @@ room_part first n k o h le =
     let temps = h.temps in
     record { nodes = omega (arith, nodes, le); temps = omega (arith, temps, le) }
 
-pub room_behind : (first n a k : ℕ) {s : List Temp} {ds : List _} (o m : Out) → HasRoom first n o → Grows a s ds o m → a + k ≤ n → HasRoom first k m
+pub room_behind : (first n a k : ℕ) {s : List Temp} {ds : List _} (o m : Out) → HasRoom first n o → Grows a s ds o m → a + k ≤ n
+    → HasRoom first k m
 room_behind first n a k o m h g le =
     let nodes = h.nodes in
     let temps = h.temps in
@@ -39,14 +40,22 @@ room_behind first n a k o m h g le =
 
 -- ONE PART
 
-pub jumped : (c : Context) (line locals : ℕ) (exit : Exits → ℕ) (begin : Label) (o : Out) → ((p : Places) → resolve p begin ≡ exit (exits p))
-    → EmitsLowered (record { code = jump exit; behind = state (on_line c line) locals o }) c locals c (record { begin = begin; locals = locals }) o o
-jumped c line locals exit begin o is room slots = record { emits = code_none exit begin o is; locals_then = refl; context = refl; grown = omega arith }
+pub jumped : (c : Context) (line locals : ℕ) (exit : Exits → ℕ) (begin : Label) (o : Out)
+    → ((p : Places) → resolve p begin ≡ exit (exits p))
+    → EmitsLowered (record { code = jump exit; behind = state (on_line c line) locals o }) c locals c
+    (record { begin = begin; locals = locals }) o o
+jumped c line locals exit begin o is room slots =
+    record { emits = code_none exit begin o is; locals_then = refl; context = refl; grown = omega arith }
 
 -- a piece that a statement is, which uses no temporary of others
-pub piece_laid : (c : Context) (line locals : ℕ) (piece : List Temp → Piece) (begin : Label) (old new : Out) → (length old.nodes < 4294967296 → begin ≡ At (length old.nodes))
+pub piece_laid : (c : Context) (line locals : ℕ) (piece : List Temp → Piece) (begin : Label) (old new : Out)
+    → (length old.nodes < 4294967296 → begin ≡ At (length old.nodes))
     → EmitsReleased piece c.first_temp old new
-    → EmitsLowered (record { code = (piece (released old.temps)).code; behind = record (state (on_line c line) locals old) { temps = (piece (released old.temps)).temps } })
+    → EmitsLowered
+    (record {
+      code = (piece (released old.temps)).code;
+      behind = record (state (on_line c line) locals old) { temps = (piece (released old.temps)).temps };
+    })
     c locals c (record { begin = begin; locals = locals }) old new
 piece_laid c line locals piece begin old new at h room slots =
     let p = piece (released old.temps) in
@@ -58,13 +67,17 @@ piece_laid c line locals piece begin old new at h room slots =
       grown = omega arith;
     }
 
-pub declared_laid : (c after : Context) (line line' locals then : ℕ) (place : Place) (l : Local) (begin : Label) (old new : Out) → line' ≡ place.line - c.first_line
+pub declared_laid : (c after : Context) (line line' locals then : ℕ) (place : Place) (l : Local) (begin : Label) (old new : Out)
+    → line' ≡ place.line - c.first_line
     → (length old.nodes < 4294967296 → begin ≡ At (length old.nodes))
     → Declares (declaration l (state (on_line c line') locals (released_out old))) c line' locals after then (released_out old) new
-    → EmitsLowered (declaration l (from_place (state (on_line c line) locals old) place)) c locals after (record { begin = begin; locals = then }) old new
+    → EmitsLowered (declaration l (from_place (state (on_line c line) locals old) place)) c locals after
+    (record { begin = begin; locals = then }) old new
 declared_laid c after line line' locals then place l begin old new is at h room slots =
     let dl = declaration l (from_place (state (on_line c line) locals old) place) in
-    let h' = subst (λ n. Declares (declaration l (state (on_line c n) locals (released_out old))) c n locals after then (released_out old) new) is h in
+    let h' =
+    subst (λ n. Declares (declaration l (state (on_line c n) locals (released_out old))) c n locals after
+    then (released_out old) new) is h in
     let d = h' (room_released c.first_temp dl.code.size old room) slots in
     let nodes = room.nodes in
     let grown = d.emits.grows.grown in
@@ -72,7 +85,13 @@ declared_laid c after line line' locals then place l begin old new is at h room 
     record {
       emits = subst (λ b. EmitsCode dl.code dl.behind.temps b old new) (sym (at (omega (arith, nodes)))) (record {
         drafts = d.emits.drafts;
-        grows = record { nodes = d.emits.grows.nodes; size = d.emits.grows.size; temps = d.emits.grows.temps; grown = omega (arith, grown, same) };
+        grows =
+            record {
+              nodes = d.emits.grows.nodes;
+              size = d.emits.grows.size;
+              temps = d.emits.grows.temps;
+              grown = omega (arith, grown, same);
+            };
         laid = d.emits.laid;
         entry = d.emits.entry;
         loops = d.emits.loops;
@@ -82,7 +101,8 @@ declared_laid c after line line' locals then place l begin old new is at h room 
       grown = d.grown;
     }
 
-pub without_names : (l : Lowered) (c : Context) (locals : ℕ) (after : Context) (laid : Laid) (old new : Out) → EmitsLowered l c locals after laid old new → EmitsWithin l c locals laid old new
+pub without_names : (l : Lowered) (c : Context) (locals : ℕ) (after : Context) (laid : Laid) (old new : Out)
+    → EmitsLowered l c locals after laid old new → EmitsWithin l c locals laid old new
 without_names l c locals after laid old new h room slots =
     let e = h room slots in
     record { emits = e.emits; locals_then = e.locals_then; grown = e.grown }
@@ -93,15 +113,18 @@ without_names l c locals after laid old new h room slots =
 abbrev pub Chooses : Label → Label → Out → Out → ℕ → ℕ → Type 0
 Chooses holds fails old new from past =
     (tested : Test) → (one other : Code) → (s t u : List Temp) → (o m n : Out) → from ≡ length o.nodes → past ≡ length m.nodes
-    → EmitsTest tested s o m → EmitsCode one t holds m n → EmitsCode other u fails n old → EmitsCode (choose tested one other) u (At (length o.nodes)) o new
+    → EmitsTest tested s o m → EmitsCode one t holds m n → EmitsCode other u fails n old
+    → EmitsCode (choose tested one other) u (At (length o.nodes)) o new
 
-pub if_else_laid : (c : Context) (line locals from past : ℕ) (place : Place) (e : Expr) (b other : Stmt) (first second : Laid) (begin : Label) (old m n now new : Out)
+pub if_else_laid : (c : Context) (line locals from past : ℕ) (place : Place) (e : Expr) (b other : Stmt) (first second : Laid)
+    (begin : Label) (old m n now new : Out)
     → from ≡ length old.nodes → past ≡ length m.nodes → (from < 4294967296 → begin ≡ At from)
     → EmitsTested (condition (state (on_line c line) locals old) e) c.first_temp old m
     → EmitsWithin (stmt b (inside (state (on_line c line) locals m))) c locals first m n
     → EmitsWithin (stmt other (inside (state (on_line c line) first.locals n))) c first.locals second n now
     → Chooses first.begin second.begin now new from past
-    → EmitsLowered (stmt (Stmt.IfElse place e b other) (state (on_line c line) locals old)) c locals c (record { begin = begin; locals = second.locals }) old new
+    → EmitsLowered (stmt (Stmt.IfElse place e b other) (state (on_line c line) locals old)) c locals c
+    (record { begin = begin; locals = second.locals }) old new
 if_else_laid c line locals from past place e b other first second begin old m n now new at there is cond one two chooses room slots =
     let st = state (on_line c line) locals old in
     let t = condition st e in
@@ -110,29 +133,39 @@ if_else_laid c line locals from past place e b other first second begin old m n 
     let size = t.test.size + bl.code.size + ol.code.size in
     let nodes = room.nodes in
     let e1 = cond (room_part c.first_temp size t.test.size old room (omega arith)) in
-    let one' : EmitsWithin bl c locals first m n = subst (λ ts. EmitsWithin (stmt b (inside (with_temps st ts))) c locals first m n) e1.grows.temps one in
+    let one' : EmitsWithin bl c locals first m n =
+    subst (λ ts. EmitsWithin (stmt b (inside (with_temps st ts))) c locals first m n) e1.grows.temps one in
     let e2 = one' (room_behind c.first_temp size t.test.size bl.code.size old m room e1.grows (omega arith)) (omega (arith, slots)) in
     let two' : EmitsWithin ol c first.locals second n now =
-    subst (λ k. EmitsWithin (stmt other (inside (record { temps = bl.behind.temps; locals = k; context = on_line c line }))) c first.locals second n now) e2.locals_then
-    (subst (λ ts. EmitsWithin (stmt other (inside (record { temps = ts; locals = first.locals; context = on_line c line }))) c first.locals second n now) e2.emits.grows.temps two) in
+    subst (λ k. EmitsWithin
+    (stmt other (inside
+    (record { temps = bl.behind.temps; locals = k; context = on_line c line }))) c first.locals second n now) e2.locals_then
+    (subst (λ ts. EmitsWithin
+    (stmt other (inside
+    (record { temps = ts; locals = first.locals; context = on_line c line }))) c first.locals second n now) e2.emits.grows.temps two) in
     let room1 = room_behind c.first_temp size t.test.size (bl.code.size + ol.code.size) old m room e1.grows (omega arith) in
     let grown = e2.grown in
-    let e3 = two' (room_behind c.first_temp (bl.code.size + ol.code.size) bl.code.size ol.code.size m n room1 e2.emits.grows (omega arith)) (omega (arith, slots, grown)) in
+    let e3 =
+    two' (room_behind c.first_temp (bl.code.size + ol.code.size) bl.code.size ol.code.size m n room1 e2.emits.grows (omega arith))
+    (omega (arith, slots, grown)) in
     let grown' = e3.grown in
     record {
-      emits = subst (λ x. EmitsCode (choose t.test bl.code ol.code) ol.behind.temps x old new) (sym (is (omega (arith, at, nodes)) ∙ ap At at))
+      emits =
+          subst (λ x. EmitsCode (choose t.test bl.code ol.code) ol.behind.temps x old new) (sym (is (omega (arith, at, nodes)) ∙ ap At at))
           (chooses t.test bl.code ol.code t.temps bl.behind.temps ol.behind.temps old m n at there e1 e2.emits e3.emits);
       locals_then = e3.locals_then;
       context = refl;
       grown = omega (arith, grown, grown');
     }
 
-pub if_laid : (c : Context) (line locals from past : ℕ) (place : Place) (e : Expr) (b : Stmt) (first : Laid) (begin : Label) (old m now new : Out)
+pub if_laid : (c : Context) (line locals from past : ℕ) (place : Place) (e : Expr) (b : Stmt) (first : Laid) (begin : Label)
+    (old m now new : Out)
     → from ≡ length old.nodes → past ≡ length m.nodes → (from < 4294967296 → begin ≡ At from)
     → EmitsTested (condition (state (on_line c line) locals old) e) c.first_temp old m
     → EmitsWithin (stmt b (inside (state (on_line c line) locals m))) c locals first m now
     → Chooses first.begin Next now new from past
-    → EmitsLowered (stmt (Stmt.If place e b) (state (on_line c line) locals old)) c locals c (record { begin = begin; locals = first.locals }) old new
+    → EmitsLowered (stmt (Stmt.If place e b) (state (on_line c line) locals old)) c locals c
+    (record { begin = begin; locals = first.locals }) old new
 if_laid c line locals from past place e b first begin old m now new at there is cond one chooses room slots =
     let st = state (on_line c line) locals old in
     let t = condition st e in
@@ -140,12 +173,14 @@ if_laid c line locals from past place e b first begin old m now new at there is 
     let size = t.test.size + bl.code.size + 0 in
     let nodes = room.nodes in
     let e1 = cond (room_part c.first_temp size t.test.size old room (omega arith)) in
-    let one' : EmitsWithin bl c locals first m now = subst (λ ts. EmitsWithin (stmt b (inside (with_temps st ts))) c locals first m now) e1.grows.temps one in
+    let one' : EmitsWithin bl c locals first m now =
+    subst (λ ts. EmitsWithin (stmt b (inside (with_temps st ts))) c locals first m now) e1.grows.temps one in
     let e2 = one' (room_behind c.first_temp size t.test.size bl.code.size old m room e1.grows (omega arith)) (omega (arith, slots)) in
     let e3 = subst (λ ts. EmitsCode nothing ts Next now now) e2.emits.grows.temps (code_none (λ exits. exits.next) Next now (λ p. refl)) in
     let grown = e2.grown in
     record {
-      emits = subst (λ x. EmitsCode (choose t.test bl.code nothing) bl.behind.temps x old new) (sym (is (omega (arith, at, nodes)) ∙ ap At at))
+      emits =
+          subst (λ x. EmitsCode (choose t.test bl.code nothing) bl.behind.temps x old new) (sym (is (omega (arith, at, nodes)) ∙ ap At at))
           (chooses t.test bl.code nothing t.temps bl.behind.temps bl.behind.temps old m now at there e1 e2.emits e3);
       locals_then = e2.locals_then;
       context = refl;

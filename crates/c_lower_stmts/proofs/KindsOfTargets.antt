@@ -26,7 +26,8 @@ two_known left right = by_left (int_of left)
     by_left None = refl
     by_left (Some kind) = int_known right
 
-binary_kind : (c : Context) (op : BinaryOp) (l r : Lowering) (left right : Kind) → (binary c op l r).kind ≡ known (kind_of_binary op left right)
+binary_kind : (c : Context) (op : BinaryOp) (l r : Lowering) (left right : Kind)
+    → (binary c op l r).kind ≡ known (kind_of_binary op left right)
 binary_kind c BinaryOp.Or l r left right = refl
 binary_kind c BinaryOp.And l r left right = refl
 binary_kind c BinaryOp.Equal l r left right = refl
@@ -44,14 +45,16 @@ prefix_kind c PrefixOp.Negate l kind = sym (int_known kind)
 prefix_kind c PrefixOp.Not l kind = refl
 
 -- a type that is not known has no members, and neither has int
-member_known : (tables : Tables) (kind : Kind) (field : Name) → kind_of_member tables (Some (known kind)) field ≡ kind_of_member tables kind field
+member_known : (tables : Tables) (kind : Kind) (field : Name)
+    → kind_of_member tables (Some (known kind)) field ≡ kind_of_member tables kind field
 member_known tables None field = refl
 member_known tables (Some kind) field = refl
 
 members_kind : (c : Context) (l : Lowering) (kind : Kind) (fields : List Name) → l.kind ≡ known kind
     → (members c l fields).kind ≡ known (kind_of_members c.env.tables kind fields)
 members_kind c l kind [] is = is
-members_kind c l kind (first ∷ others) is = members_kind c (member c l (field_behind c l.kind first)) (kind_of_member c.env.tables kind first) others
+members_kind c l kind (first ∷ others) is =
+    members_kind c (member c l (field_behind c l.kind first)) (kind_of_member c.env.tables kind first) others
     (ap (λ k. known (kind_of_member c.env.tables (Some k) first)) is ∙ ap known (member_known c.env.tables kind first))
 
 mutual

@@ -19,7 +19,8 @@ use Rattle.c_lower_rules.specs.Numbers.{InitializedHasIntNumbers}
 use Rattle.c_lower_emit.specs.declared.drafts.Label.TheVariants.{At}
 use Rattle.c_lower_emit.specs.Drafts.{next_at}
 use Rattle.c_lower_emit.specs.Emitting.{Out, led_out, HasRoom, EmitsCode}
-use Rattle.c_lower_emit.proofs.Joining.{behind_nodes, room_first, room_then, code_then, SameCode, same_code, same_back, same_both, same_behind, same_nothing_behind, same_nothing_before, same_groups}
+use Rattle.c_lower_emit.proofs.Joining.{behind_nodes, room_first, room_then, code_then, SameCode, same_code, same_back, same_both}
+use Rattle.c_lower_emit.proofs.Joining.{same_behind, same_nothing_behind, same_nothing_before, same_groups}
 use Rattle.c_lower_exprs.specs.Contexts.{on_line}
 use Rattle.c_lower_stmts.specs.Simples.{EmitsPiece}
 use Rattle.c_lower_stmts.specs.Declaring.{IsDeclared, Declares}
@@ -53,7 +54,8 @@ members_node c l first (next ∷ others) = members_node c (member c l (field_beh
 
 chain_node : (c : Context) (l : Lowering) (links : Links) → HasNode l → HasNode (chain c l links)
 chain_node c l Links.NoLinks h = h
-chain_node c l (Links.Link op operand others) h = chain_node c (binary c op l (lowering c operand)) others (binary_node c op l (lowering c operand))
+chain_node c l (Links.Link op operand others) h =
+    chain_node c (binary c op l (lowering c operand)) others (binary_node c op l (lowering c operand))
 
 expr_node : (c : Context) (e : Expr) → HasNode (lowering c e)
 expr_node c (Expr.Chain first others) = chain_node c (lowering c first) others (expr_node c first)
@@ -74,7 +76,10 @@ initial_node c to kind (Some value) temps = expr_node c value to temps
 
 pub local_declared : (c c' : Context) (line count to then : ℕ) (specifier : Specifier) (one : Initialized) (kind : Kind) (old new : Out)
     → kind ≡ object_kind c.env.tables specifier one.declarator.stars → to ≡ min (c.first_local + count) 4294967295
-    → c' ≡ record c { env = with_variable c.env one.declarator.name.text kind; bound = record { name = one.declarator.name.text; slot = to } ∷ c.bound }
+    → c' ≡ record c {
+      env = with_variable c.env one.declarator.name.text kind;
+      bound = record { name = one.declarator.name.text; slot = to } ∷ c.bound;
+    }
     → EmitsPiece (initial (on_line c' line) to (known kind) one.value) c'.first_temp old new → then ≡ min (count + 1) 4294967295
     → Declares (local specifier one (state (on_line c line) count old)) c line count c' then old new
 local_declared c c' line count to then specifier one kind old new kinds sat adds emits sat' room slots =
@@ -107,25 +112,31 @@ locals_more : (specifier : Specifier) (done : List Initialized) (one : Initializ
     (local specifier one (locals specifier done before).behind))
 locals_more specifier [] one before =
     let l = (local specifier one before).code in
-    record { code = same_both (l ⨾ nothing) l (nothing ⨾ l) (same_nothing_behind l) (same_back (nothing ⨾ l) l (same_nothing_before l)); behind = refl }
+    record {
+      code = same_both (l ⨾ nothing) l (nothing ⨾ l) (same_nothing_behind l) (same_back (nothing ⨾ l) l (same_nothing_before l));
+      behind = refl;
+    }
 locals_more specifier (first ∷ done) one before =
     let f = local specifier first before in
     let h = locals_more specifier done one f.behind in
     let a = locals specifier done f.behind in
     let b = local specifier one a.behind in
     record {
-      code = same_both (f.code ⨾ (locals specifier (done ++ one ∷ []) f.behind).code) (f.code ⨾ (a.code ⨾ b.code)) ((f.code ⨾ a.code) ⨾ b.code)
+      code =
+          same_both (f.code ⨾ (locals specifier (done ++ one ∷ []) f.behind).code) (f.code ⨾ (a.code ⨾ b.code)) ((f.code ⨾ a.code) ⨾ b.code)
           (same_behind f.code (locals specifier (done ++ one ∷ []) f.behind).code (a.code ⨾ b.code) h.code)
           (same_back ((f.code ⨾ a.code) ⨾ b.code) (f.code ⨾ (a.code ⨾ b.code)) (same_groups f.code a.code b.code));
       behind = h.behind;
     }
 
-locals_first_temp : (specifier : Specifier) (ones : List Initialized) (before : State) → (locals specifier ones before).behind.context.first_temp ≡
+locals_first_temp : (specifier : Specifier) (ones : List Initialized) (before : State)
+    → (locals specifier ones before).behind.context.first_temp ≡
     before.context.first_temp
 locals_first_temp specifier [] before = refl
 locals_first_temp specifier (first ∷ others) before = locals_first_temp specifier others (local specifier first before).behind
 
-locals_first_local : (specifier : Specifier) (ones : List Initialized) (before : State) → (locals specifier ones before).behind.context.first_local ≡
+locals_first_local : (specifier : Specifier) (ones : List Initialized) (before : State)
+    → (locals specifier ones before).behind.context.first_local ≡
     before.context.first_local
 locals_first_local specifier [] before = refl
 locals_first_local specifier (first ∷ others) before = locals_first_local specifier others (local specifier first before).behind
@@ -149,10 +160,12 @@ pub locals_one : (specifier : Specifier) (one : Initialized) (c : Context) (line
     → Declares (local specifier one (state (on_line c line) count old)) c line count c' count' old new
     → Declares (locals specifier (one ∷ []) (state (on_line c line) count old)) c line count c' count' old new
 locals_one specifier one c line count c' count' old new h =
-    same_declared (locals specifier (one ∷ []) (state (on_line c line) count old)) (local specifier one (state (on_line c line) count old)) c line count c' count' old new
+    same_declared (locals specifier (one ∷ []) (state (on_line c line) count old))
+    (local specifier one (state (on_line c line) count old)) c line count c' count' old new
     (record { code = same_nothing_behind (local specifier one (state (on_line c line) count old)).code; behind = refl }) h
 
-pub local_behind_declared : (specifier : Specifier) (done : List Initialized) (one : Initialized) (first c c' : Context) (line start count then : ℕ)
+pub local_behind_declared : (specifier : Specifier) (done : List Initialized) (one : Initialized) (first c c' : Context)
+    (line start count then : ℕ)
     (old now new led : Out) (from past here : ℕ)
     → Declares (locals specifier done (state (on_line first line) start old)) first line start c count old now
     → Declares (local specifier one (state (on_line c line) count now)) c line count c' then now new
@@ -169,9 +182,12 @@ local_behind_declared specifier done one first c c' line start count then old no
     ap (λ t. record { temps = t; locals = count; context = on_line c line }) temps
     ∙ ap (λ n. record { temps = a.behind.temps; locals = n; context = on_line c line }) d.locals_then
     ∙ ap (λ x. record { temps = a.behind.temps; locals = a.behind.locals; context = x }) d.context in
-    let first_temp : c.first_temp ≡ first.first_temp = ap (λ (x : Context). x.first_temp) d.context ∙ locals_first_temp specifier done before in
-    let first_local : c.first_local ≡ first.first_local = ap (λ (x : Context). x.first_local) d.context ∙ locals_first_local specifier done before in
-    let size : (local specifier one (state (on_line c line) count now)).code.size ≡ b.code.size = ap (λ s. (local specifier one s).code.size) is in
+    let first_temp : c.first_temp ≡ first.first_temp =
+    ap (λ (x : Context). x.first_temp) d.context ∙ locals_first_temp specifier done before in
+    let first_local : c.first_local ≡ first.first_local =
+    ap (λ (x : Context). x.first_local) d.context ∙ locals_first_local specifier done before in
+    let size : (local specifier one (state (on_line c line) count now)).code.size ≡ b.code.size =
+    ap (λ s. (local specifier one s).code.size) is in
     let grown = d.grown in
     let room' = room_then first.first_temp a.code.size b.code.size old now room d.emits.grows in
     let nodes = room'.nodes in
@@ -189,7 +205,8 @@ local_behind_declared specifier done one first c c' line start count then old no
     ∙ ap (λ x. led_out (length old.nodes) (length now.nodes) (next_at (At x)) new) here_is in
     record {
       emits = subst (λ x. EmitsCode (a.code ⨾ b.code) b.behind.temps (At (length old.nodes)) old x) (sym led_is)
-          (code_then a.code b.code a.behind.temps b.behind.temps (At (length old.nodes)) (At (length now.nodes)) old now new d.emits e'.emits);
+          (code_then a.code b.code a.behind.temps b.behind.temps (At (length old.nodes))
+          (At (length now.nodes)) old now new d.emits e'.emits);
       locals_then = e'.locals_then;
       context = e'.context;
       grown = omega (arith, grown, more);
@@ -204,16 +221,19 @@ local_behind_declared specifier done one first c c' line start count then old no
 -- ALL LOCALS OF A DECLARATION
 
 -- some were declared; what is left are these
-pub record LocalsSoFar (specifier : Specifier) (first : Context) (line start : ℕ) (all left : List Initialized) (old : Out) (c : Context) (count : ℕ)
+pub record LocalsSoFar (specifier : Specifier) (first : Context) (line start : ℕ) (all left : List Initialized) (old : Out) (c : Context)
+    (count : ℕ)
     (now : Out) : Type 0 where
   pub done : List Initialized
   pub parts : done ++ left ≡ all
   pub declares : Declares (locals specifier done (state (on_line first line) start old)) first line start c count old now
   pub numbers : All InitializedHasIntNumbers left
 
-pub locals_begun : (specifier : Specifier) (first : Context) (line start : ℕ) (one : Initialized) (others left : List Initialized) (old : Out) (c : Context)
+pub locals_begun : (specifier : Specifier) (first : Context) (line start : ℕ) (one : Initialized) (others left : List Initialized)
+    (old : Out) (c : Context)
     (count : ℕ) (now : Out) → others ≡ left
-    → All InitializedHasIntNumbers others → Declares (local specifier one (state (on_line first line) start old)) first line start c count old now
+    → All InitializedHasIntNumbers others
+    → Declares (local specifier one (state (on_line first line) start old)) first line start c count old now
     → LocalsSoFar specifier first line start (one ∷ others) left old c count now
 locals_begun specifier first line start one others left old c count now same numbers h = record {
   done = one ∷ [];
@@ -222,7 +242,8 @@ locals_begun specifier first line start one others left old c count now same num
   numbers = subst (All InitializedHasIntNumbers) same numbers;
 }
 
-pub locals_turned : (specifier : Specifier) (first : Context) (line start : ℕ) (all left others : List Initialized) (one : Initialized) (old : Out)
+pub locals_turned : (specifier : Specifier) (first : Context) (line start : ℕ) (all left others : List Initialized) (one : Initialized)
+    (old : Out)
     (c c' : Context) (count then : ℕ) (now new : Out) (begin : ℕ)
     → left ≡ one ∷ others → begin ≡ length old.nodes → LocalsSoFar specifier first line start all left old c count now
     → (InitializedHasIntNumbers one → (done : List Initialized) → (first : Context) → (start : ℕ) → (old : Out) → begin ≡ length old.nodes
@@ -238,9 +259,11 @@ locals_turned specifier first line start all left others one old c c' count then
       numbers = λ k d lt. numbers (suc k) d (omega (arith, lt));
     }
 
-pub locals_ended : (specifier : Specifier) (first : Context) (line start : ℕ) (all left : List Initialized) (old : Out) (c : Context) (count : ℕ)
+pub locals_ended : (specifier : Specifier) (first : Context) (line start : ℕ) (all left : List Initialized) (old : Out) (c : Context)
+    (count : ℕ)
     (now : Out) → left ≡ []
-    → LocalsSoFar specifier first line start all left old c count now → Declares (locals specifier all (state (on_line first line) start old)) first line start c
+    → LocalsSoFar specifier first line start all left old c count now
+    → Declares (locals specifier all (state (on_line first line) start old)) first line start c
     count old now
 locals_ended specifier first line start all left old c count now none h =
     subst (λ xs. Declares (locals specifier xs (state (on_line first line) start old)) first line start c count old now)

@@ -40,7 +40,8 @@ test_released first tested o m h room =
     }
 
 pub code_released : (piece : List Temp → Piece) (first : ℕ) (o m : Out)
-    → (HasRoom first (piece (released o.temps)).code.size (released_out o) → EmitsCode (piece (released o.temps)).code (piece (released o.temps)).temps (At (length o.nodes)) (released_out o) m)
+    → (HasRoom first (piece (released o.temps)).code.size (released_out o)
+    → EmitsCode (piece (released o.temps)).code (piece (released o.temps)).temps (At (length o.nodes)) (released_out o) m)
     → EmitsReleased piece first o m
 code_released piece first o m h room =
     let e = h (room_released first (piece (released o.temps)).code.size o room) in
@@ -65,7 +66,8 @@ value_returned c first v operand o m n h k room =
     let k'' = subst (λ ts. EmitsCode (command c.line (λ next. cmd.Return v.operand)) ts (At (length m.nodes)) m n) e.0.grows.temps k' in
     code_behind v.code (command c.line (λ next. cmd.Return v.operand)) v.temps v.temps (At (length m.nodes)) o m n e.0 k''
 
-pub chosen_at : (w : Ways) (test : Test) (one other : Code) (s t u : List Temp) (o m m' n new : Out) (from past : ℕ) → from ≡ length o.nodes → past ≡ length m.nodes
+pub chosen_at : (w : Ways) (test : Test) (one other : Code) (s t u : List Temp) (o m m' n new : Out) (from past : ℕ) → from ≡ length o.nodes
+    → past ≡ length m.nodes
     → EmitsTest test s o m → EmitsCode one t w.holds m m' → EmitsCode other u w.fails m' n
     → (from ≤ past → past ≤ length n.nodes → new ≡ led_out from past w n) → EmitsCode (choose test one other) u (At (length o.nodes)) o new
 chosen_at w test one other s t u o m m' n new from past at there h k l leads =
@@ -73,5 +75,7 @@ chosen_at w test one other s t u o m m' n new from past at there h k l leads =
     let b = behind_nodes m m' k.grows in
     let c = behind_nodes m' n l.grows in
     let is : new ≡ led_out (length o.nodes) (length m.nodes) w n =
-    subst (λ x. new ≡ led_out x (length m.nodes) w n) at (subst (λ y. new ≡ led_out from y w n) there (leads (omega (arith, at, there, a)) (omega (arith, there, b, c)))) in
-    subst (λ x. EmitsCode (choose test one other) u (At (length o.nodes)) o x) (sym is) (chosen w test one other s t u w.holds w.fails o m m' n h k l refl refl)
+    subst (λ x. new ≡ led_out x (length m.nodes) w n) at
+    (subst (λ y. new ≡ led_out from y w n) there (leads (omega (arith, at, there, a)) (omega (arith, there, b, c)))) in
+    subst (λ x. EmitsCode (choose test one other) u (At (length o.nodes)) o x) (sym is)
+    (chosen w test one other s t u w.holds w.fails o m m' n h k l refl refl)

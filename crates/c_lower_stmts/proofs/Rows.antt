@@ -8,7 +8,8 @@ use Rattle.c_lower_emit.specs.declared.drafts.Label.{Label}
 use Rattle.c_lower_emit.specs.declared.drafts.Label.TheVariants.{Next}
 use Rattle.c_lower_emit.specs.Drafts.{redirect, next_at}
 use Rattle.c_lower_emit.specs.Emitting.{Out, led_out, HasRoom, EmitsCode}
-use Rattle.c_lower_emit.proofs.Joining.{behind_nodes, code_none, code_then, SameCode, same_code, same_back, same_both, same_behind, same_nothing_behind, same_nothing_before, same_groups}
+use Rattle.c_lower_emit.proofs.Joining.{behind_nodes, code_none, code_then, SameCode, same_code, same_back, same_both, same_behind}
+use Rattle.c_lower_emit.proofs.Joining.{same_nothing_behind, same_nothing_before, same_groups}
 use Rattle.c_lower_exprs.specs.Contexts.{on_line, IsWithin}
 use Rattle.c_lower_stmts.specs.declared.laid.Laid.{Laid}
 use Rattle.c_lower_stmts.specs.Laying.{EmitsLowered}
@@ -25,7 +26,8 @@ pub record IsMore (whole : Lowered) (one other : Lowered) : Type 0 where
   pub code : SameCode whole.code (one.code ⨾ other.code)
   pub behind : whole.behind ≡ other.behind
 
-pub stmts_more : (xs : List Stmt) (x : Stmt) (st : State) → IsMore (stmts (stmts_of (xs ++ x ∷ [])) st) (stmts (stmts_of xs) st) (stmt x (stmts (stmts_of xs) st).behind)
+pub stmts_more : (xs : List Stmt) (x : Stmt) (st : State)
+    → IsMore (stmts (stmts_of (xs ++ x ∷ [])) st) (stmts (stmts_of xs) st) (stmt x (stmts (stmts_of xs) st).behind)
 stmts_more [] x st = record {
   code = same_both _ _ _ (same_nothing_behind (stmt x st).code) (same_back _ _ (same_nothing_before (stmt x st).code));
   behind = refl;
@@ -36,21 +38,27 @@ stmts_more (y ∷ ys) x st =
     let last = stmt x rest.behind in
     let more = stmts_more ys x one.behind in
     record {
-      code = same_both (one.code ⨾ (stmts (stmts_of (ys ++ x ∷ [])) one.behind).code) (one.code ⨾ (rest.code ⨾ last.code)) ((one.code ⨾ rest.code) ⨾ last.code)
+      code =
+          same_both (one.code ⨾ (stmts (stmts_of (ys ++ x ∷ [])) one.behind).code) (one.code ⨾ (rest.code ⨾ last.code))
+          ((one.code ⨾ rest.code) ⨾ last.code)
           (same_behind one.code _ _ more.code) (same_back _ _ (same_groups one.code rest.code last.code));
       behind = more.behind;
     }
 
-pub stmts_none : (c : Context) (line locals : ℕ) (o : Out) → EmitsLowered (stmts Stmts.NoStmts (state (on_line c line) locals o)) c locals c (record { begin = Next; locals = locals }) o o
-stmts_none c line locals o room slots = record { emits = code_none (λ exits. exits.next) Next o (λ p. refl); locals_then = refl; context = refl; grown = omega arith }
+pub stmts_none : (c : Context) (line locals : ℕ) (o : Out)
+    → EmitsLowered (stmts Stmts.NoStmts (state (on_line c line) locals o)) c locals c (record { begin = Next; locals = locals }) o o
+stmts_none c line locals o room slots =
+    record { emits = code_none (λ exits. exits.next) Next o (λ p. refl); locals_then = refl; context = refl; grown = omega arith }
 
-pub stmts_turn : (c0 c c' : Context) (line locals from past : ℕ) (xs : List Stmt) (x : Stmt) (laid next : Laid) (begin : Label) (o m n new : Out)
+pub stmts_turn : (c0 c c' : Context) (line locals from past : ℕ) (xs : List Stmt) (x : Stmt) (laid next : Laid) (begin : Label)
+    (o m n new : Out)
     → IsWithin c0 c → from ≡ length o.nodes → past ≡ length m.nodes
     → EmitsLowered (stmts (stmts_of xs) (state (on_line c0 line) locals o)) c0 locals c laid o m
     → ((line : ℕ) → EmitsLowered (stmt x (state (on_line c line) laid.locals m)) c laid.locals c' next m n)
     → (from ≤ past → past ≤ length n.nodes → new ≡ led_out from past (next_at next.begin) n)
     → begin ≡ redirect (next_at next.begin) laid.begin
-    → EmitsLowered (stmts (stmts_of (xs ++ x ∷ [])) (state (on_line c0 line) locals o)) c0 locals c' (record { begin = begin; locals = next.locals }) o new
+    → EmitsLowered (stmts (stmts_of (xs ++ x ∷ [])) (state (on_line c0 line) locals o)) c0 locals c'
+    (record { begin = begin; locals = next.locals }) o new
 stmts_turn c0 c c' line locals from past xs x laid next begin o m n new within at there before one leads begins room slots =
     let st = state (on_line c0 line) locals o in
     let p = stmts (stmts_of xs) st in
@@ -63,12 +71,24 @@ stmts_turn c0 c c' line locals from past xs x laid next begin o m n new within a
     let e = before (room_part c0.first_temp whole.code.size p.code.size o room (omega (arith, size))) (omega (arith, slots, size)) in
     let grown = e.grown in
     let one' : EmitsLowered q c laid.locals c' next m n =
-    subst (λ y. EmitsLowered (stmt x (record { temps = p.behind.temps; locals = p.behind.locals; context = y })) c laid.locals c' next m n) e.context
-    (subst (λ k. EmitsLowered (stmt x (record { temps = p.behind.temps; locals = k; context = on_line c p.behind.context.line })) c laid.locals c' next m n) e.locals_then
-    (subst (λ ts. EmitsLowered (stmt x (record { temps = ts; locals = laid.locals; context = on_line c p.behind.context.line })) c laid.locals c' next m n) e.emits.grows.temps
+    subst (λ y. EmitsLowered
+    (stmt x (record { temps = p.behind.temps; locals = p.behind.locals; context = y })) c laid.locals c' next m n) e.context
+    (subst (λ k. EmitsLowered
+    (stmt x (record {
+      temps = p.behind.temps;
+      locals = k;
+      context = on_line c p.behind.context.line;
+    })) c laid.locals c' next m n) e.locals_then
+    (subst (λ ts. EmitsLowered
+    (stmt x (record {
+      temps = ts;
+      locals = laid.locals;
+      context = on_line c p.behind.context.line;
+    })) c laid.locals c' next m n) e.emits.grows.temps
     (one p.behind.context.line))) in
     let room' : HasRoom c.first_temp q.code.size m =
-    subst (λ f. HasRoom f q.code.size m) (sym f_temp) (room_behind c0.first_temp whole.code.size p.code.size q.code.size o m room e.emits.grows (omega (arith, size))) in
+    subst (λ f. HasRoom f q.code.size m) (sym f_temp)
+    (room_behind c0.first_temp whole.code.size p.code.size q.code.size o m room e.emits.grows (omega (arith, size))) in
     let f = one' room' (omega (arith, slots, size, f_local, grown)) in
     let grown' = f.grown in
     let p1 = behind_nodes o m e.emits.grows in
@@ -77,19 +97,24 @@ stmts_turn c0 c c' line locals from past xs x laid next begin o m n new within a
     leads (omega (arith, at, there, p1)) (omega (arith, there, p2))
     ∙ ap (λ y. led_out y past (next_at next.begin) n) at ∙ ap (λ y. led_out (length o.nodes) y (next_at next.begin) n) there in
     let joint = code_then p.code q.code p.behind.temps q.behind.temps laid.begin next.begin o m n e.emits f.emits in
-    let same = same_code (p.code ⨾ q.code) whole.code q.behind.temps (redirect (next_at next.begin) laid.begin) o (led_out (length o.nodes) (length m.nodes) (next_at next.begin) n)
+    let same =
+    same_code (p.code ⨾ q.code) whole.code q.behind.temps (redirect (next_at next.begin) laid.begin) o
+    (led_out (length o.nodes) (length m.nodes) (next_at next.begin) n)
     (same_back _ _ more.code) joint in
     record {
       emits = subst (λ y. EmitsCode whole.code whole.behind.temps begin o y) (sym new_is)
-          (subst (λ y. EmitsCode whole.code whole.behind.temps y o (led_out (length o.nodes) (length m.nodes) (next_at next.begin) n)) (sym begins)
-          (subst (λ (y : State). EmitsCode whole.code y.temps (redirect (next_at next.begin) laid.begin) o (led_out (length o.nodes) (length m.nodes) (next_at next.begin) n)) (sym more.behind) same));
+          (subst (λ y. EmitsCode whole.code whole.behind.temps y o (led_out (length o.nodes) (length m.nodes) (next_at next.begin) n))
+          (sym begins)
+          (subst (λ (y : State). EmitsCode whole.code y.temps (redirect (next_at next.begin) laid.begin) o
+          (led_out (length o.nodes) (length m.nodes) (next_at next.begin) n)) (sym more.behind) same));
       locals_then = f.locals_then ∙ ap (λ (y : State). y.locals) (sym more.behind);
       context = ap (λ (y : State). on_line c' y.context.line) more.behind ∙ f.context ∙ ap (λ (y : State). y.context) (sym more.behind);
       grown = omega (arith, grown, grown', size);
     }
 
 -- the statement at a place, and those before it
-pub numbers_at : (ones : List StmtValue) (i : ℕ) (d : StmtValue) → i < length ones → StmtsHaveIntNumbers (stmts_tree ones) → StmtHasIntNumbers (stmt_tree (get_or ones i d))
+pub numbers_at : (ones : List StmtValue) (i : ℕ) (d : StmtValue) → i < length ones → StmtsHaveIntNumbers (stmts_tree ones)
+    → StmtHasIntNumbers (stmt_tree (get_or ones i d))
 numbers_at [] i d = λ lt. absurd (omega (arith, lt))
 numbers_at (x ∷ xs) zero d = λ lt h. h.0
 numbers_at (x ∷ xs) (suc i) d = λ lt h. numbers_at xs i d (omega (arith, lt)) h.1

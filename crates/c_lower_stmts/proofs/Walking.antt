@@ -10,7 +10,8 @@ use Rattle.c_lower_exprs.specs.declared.members.Found.{Found}
 use Rattle.c_lower_exprs.specs.Lowered.{IsLowered}
 
 -- some members were loaded; what is left are these
-pub record TargetSoFar (c : Context) (first : ℕ) (to : Target) (name : Name) (names : List Name) (old now : Out) (found : Found) : Type 0 where
+pub record TargetSoFar (c : Context) (first : ℕ) (to : Target) (name : Name) (names : List Name) (old now : Out)
+    (found : Found) : Type 0 where
   pub lowering : Lowering
   pub is : IsLowered Value lowering first old now found
   pub left : to ≡ member_target c lowering name names

@@ -14,20 +14,23 @@ use Rattle.c_lower_emit.proofs.Using.{slot_is}
 
 -- what is taken, by whether the first is free
 abbrev found_by : Ty → Temp → List Temp → Bool → Taken
-found_by kind first others b = cond b (record { place = 0; temps = record first { used = true } ∷ others }) (behind_temp first (take_temp kind others))
+found_by kind first others b =
+    cond b (record { place = 0; temps = record first { used = true } ∷ others }) (behind_temp first (take_temp kind others))
 
 take_grows : (kind : Ty) (temps : List Temp) → length (take_temp kind temps).temps ≤ length temps + 1
 take_grows kind [] = omega arith
 take_grows kind (first ∷ others) = by_test (is_free kind first) (take_grows kind others)
   where
-    by_test : (b : Bool) → length (take_temp kind others).temps ≤ length others + 1 → length (found_by kind first others b).temps ≤ length (first ∷ others) + 1
+    by_test : (b : Bool) → length (take_temp kind others).temps ≤ length others + 1
+        → length (found_by kind first others b).temps ≤ length (first ∷ others) + 1
     by_test true h = omega arith
     by_test false h = omega (arith, h)
 
 -- 0 goes to an int temporary
 abbrev pub Zeroes : ℕ → ℕ → Out → Out → Type 0
 Zeroes first line o new =
-    HasRoom first 1 o → EmitsCode (command line (cmd.Copy (first + (take_temp Int o.temps).place) (Num (pos 0)))) (take_temp Int o.temps).temps
+    HasRoom first 1 o
+    → EmitsCode (command line (cmd.Copy (first + (take_temp Int o.temps).place) (Num (pos 0)))) (take_temp Int o.temps).temps
     (At (length o.nodes)) o new
 
 pub zero_put : (first line : ℕ) (o taken new : Out) (place slot : ℕ) → taken ≡ record o { temps = (take_temp Int o.temps).temps }
@@ -39,7 +42,8 @@ zero_put first line o taken new place slot takes at sat pushes room =
     let out : new ≡ with_draft line (cmd.Copy to (Num (pos 0)) 0) Next Next (record o { temps = (take_temp Int o.temps).temps }) =
     pushes ∙ ap (with_draft line (cmd.Copy slot (Num (pos 0)) 0) Next Next) takes
     ∙ ap (λ s. with_draft line (cmd.Copy s (Num (pos 0)) 0) Next Next (record o { temps = (take_temp Int o.temps).temps })) is in
-    subst (λ x. EmitsCode (command line (cmd.Copy to (Num (pos 0)))) (take_temp Int o.temps).temps (At (length o.nodes)) o x) (sym out) (record {
+    subst (λ x. EmitsCode (command line (cmd.Copy to (Num (pos 0)))) (take_temp Int o.temps).temps (At (length o.nodes)) o x) (sym out)
+    (record {
       drafts = record { line = line; cmd = cmd.Copy to (Num (pos 0)) 0; next = Next; other = Next } ∷ [];
       grows = record { nodes = refl; size = refl; temps = refl; grown = take_grows Int o.temps };
       laid = λ p. refl;

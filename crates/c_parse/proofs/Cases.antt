@@ -7,7 +7,9 @@ use Rattle.c_grammar.specs.declared.class.Class.{Class}
 use Rattle.c_grammar.specs.declared.class.Class.TheVariants as class
 use Rattle.c_grammar.specs.Trees.{Name, Expr, Stmt}
 use Rattle.c_grammar.specs.Words.{Word}
-use Rattle.c_grammar.specs.Readers.{Got, ◌>>=◌, wrong, class_at, behind, name_here, is_class, read_name, read_below, closed_by, assign_by, read_target, read_named, other_by, simple_by, read_simple, Does, clause_by, clause_named, read_typed, read_clause, begins_declarator, flat_by, stmt_of, take}
+use Rattle.c_grammar.specs.Readers.{Got, ◌>>=◌, wrong, class_at, behind, name_here, is_class, read_name, read_below, closed_by, assign_by}
+use Rattle.c_grammar.specs.Readers.{read_target, read_named, other_by, simple_by, read_simple, Does, clause_by, clause_named, read_typed}
+use Rattle.c_grammar.specs.Readers.{read_clause, begins_declarator, flat_by, stmt_of, take}
 use Rattle.c_grammar.proofs.Numbers.{same_class}
 use Rattle.c_parse.specs.Clauses.{is_type, read_unnamed, read_plain}
 use Rattle.c_parse_exprs.specs.Reads.{Halts, wrong_at}
@@ -18,11 +20,13 @@ pub seen_class : (kind k : Class) → is_class kind k ≡ true → kind ≡ k
 seen_class kind k seen = same_class kind k (eqb-true _ _ seen)
 
 -- a reading that is a word that cannot stand there
-pub stops_wrong : {A : Type 0} (fault : ReadFault) (words : List Word) (got : Got A) → got ≡ wrong words → fault ≡ wrong_at words → Halts fault got
+pub stops_wrong : {A : Type 0} (fault : ReadFault) (words : List Word) (got : Got A) → got ≡ wrong words → fault ≡ wrong_at words
+    → Halts fault got
 stops_wrong fault words got is place = halts_at fault got (record { deep = false; at = words }) is place
 
 -- a test of the class of the first word
-pub tested : (test : Class → Bool) (words : List Word) (k : Class) (b v : Bool) → k ≡ class_at words → b ≡ test k → b ≡ v → test (class_at words) ≡ v
+pub tested : (test : Class → Bool) (words : List Word) (k : Class) (b v : Bool) → k ≡ class_at words → b ≡ test k → b ≡ v
+    → test (class_at words) ≡ v
 tested test words k b v is same as_seen = ap test (sym is) ∙ sym same ∙ as_seen
 
 -- the name that was read, and what is left
@@ -41,7 +45,8 @@ name_read words n left read = by_test (is_class class.Name (class_at words)) ref
         record { seen = seen; name = ap (λ (q : Name × List Word). q.0) both; rest = ap (λ (q : Name × List Word). q.1) both }
     by_test false seen = let e : wrong words ≡ Ok (n, left) = rw seen at read in absurd (cc)
 
-no_assign : (k : Class) (n : ℕ) (target : Expr) (words : List Word) → (k ≡ class.Set → ⊥) → (k ≡ class.AddTo → ⊥) → (k ≡ class.SubtractFrom → ⊥)
+no_assign : (k : Class) (n : ℕ) (target : Expr) (words : List Word) → (k ≡ class.Set → ⊥) → (k ≡ class.AddTo → ⊥)
+    → (k ≡ class.SubtractFrom → ⊥)
     → (k ≡ class.MultiplyBy → ⊥) → (k ≡ class.Increment → ⊥) → (k ≡ class.Decrement → ⊥) → assign_by k n target words ≡ wrong words
 no_assign class.Set n target words a b c d e f = absurd (a refl)
 no_assign class.AddTo n target words a b c d e f = absurd (b refl)
@@ -52,7 +57,8 @@ no_assign class.Decrement n target words a b c d e f = absurd (f refl)
 no_assign _ n target words a b c d e f = refl
 
 pub assign_stops : (fault : ReadFault) (n : ℕ) (target : Expr) (words : List Word) (k : Class) → k ≡ class_at words → fault ≡ wrong_at words
-    → (k ≡ class.Set → ⊥) → (k ≡ class.AddTo → ⊥) → (k ≡ class.SubtractFrom → ⊥) → (k ≡ class.MultiplyBy → ⊥) → (k ≡ class.Increment → ⊥) → (k ≡ class.Decrement → ⊥)
+    → (k ≡ class.Set → ⊥) → (k ≡ class.AddTo → ⊥) → (k ≡ class.SubtractFrom → ⊥) → (k ≡ class.MultiplyBy → ⊥) → (k ≡ class.Increment → ⊥)
+    → (k ≡ class.Decrement → ⊥)
     → Halts fault (assign_by (class_at words) n target words)
 assign_stops fault n target words k is place a b c d e f =
     stops_wrong fault words _ (ap (λ kind. assign_by kind n target words) (sym is) ∙ no_assign k n target words a b c d e f) place
@@ -76,15 +82,18 @@ simple_by_other : (k : Class) (n : ℕ) (words : List Word) → is_class class.N
 simple_by_other class.Name n words none = absurd (cc)
 simple_by_other _ n words none = refl
 
-pub simple_unnamed : (n : ℕ) (words : List Word) → is_class class.Name (class_at words) ≡ false → read_simple n words ≡ other_by (class_at words) n words
+pub simple_unnamed : (n : ℕ) (words : List Word) → is_class class.Name (class_at words) ≡ false
+    → read_simple n words ≡ other_by (class_at words) n words
 unfolding read_simple
 simple_unnamed n words none = simple_by_other (class_at words) n words none
 
-pub simple_named : (n : ℕ) (words : List Word) (first : Name) (left : List Word) → read_name words ≡ Ok (first, left) → read_simple n words ≡ read_named n first left
+pub simple_named : (n : ℕ) (words : List Word) (first : Name) (left : List Word) → read_name words ≡ Ok (first, left)
+    → read_simple n words ≡ read_named n first left
 unfolding read_simple
 simple_named n words first left read =
     let r = name_read words first left read in
-    ap (λ k. simple_by k n words) (sym (seen_class class.Name (class_at words) r.seen)) ∙ ap (λ f. read_named n f (behind words)) r.name ∙ ap (read_named n first) r.rest
+    ap (λ k. simple_by k n words) (sym (seen_class class.Name (class_at words) r.seen)) ∙ ap (λ f. read_named n f (behind words)) r.name
+    ∙ ap (read_named n first) r.rest
 
 -- a clause that begins with a type that has no name
 clause_by_type : (k : Class) (n : ℕ) (words : List Word) → is_type k ≡ true → clause_by k n words ≡ read_typed n words
@@ -123,7 +132,8 @@ clause_of_name n words first left read =
 plain_by : Class → ℕ → List Word → Got Stmt
 plain_by k n words = clause_by k n words >>= (λ c. take class.Semicolon c.1 >>= (λ rest. Ok (stmt_of c.0, rest)))
 
-flat_by_plain : (k : Class) (n : ℕ) (words : List Word) → (k ≡ class.Semicolon → ⊥) → (k ≡ class.Break → ⊥) → (k ≡ class.Continue → ⊥) → (k ≡ class.Return → ⊥)
+flat_by_plain : (k : Class) (n : ℕ) (words : List Word) → (k ≡ class.Semicolon → ⊥) → (k ≡ class.Break → ⊥) → (k ≡ class.Continue → ⊥)
+    → (k ≡ class.Return → ⊥)
     → flat_by k n words ≡ plain_by k n words
 unfolding plain_by
 flat_by_plain class.Semicolon n words s b c r = absurd (s refl)
@@ -132,7 +142,8 @@ flat_by_plain class.Continue n words s b c r = absurd (c refl)
 flat_by_plain class.Return n words s b c r = absurd (r refl)
 flat_by_plain _ n words s b c r = refl
 
-pub flat_plain : (n : ℕ) (words : List Word) (k : Class) → k ≡ class_at words → (k ≡ class.Semicolon → ⊥) → (k ≡ class.Break → ⊥) → (k ≡ class.Continue → ⊥) → (k ≡ class.Return → ⊥)
+pub flat_plain : (n : ℕ) (words : List Word) (k : Class) → k ≡ class_at words → (k ≡ class.Semicolon → ⊥) → (k ≡ class.Break → ⊥)
+    → (k ≡ class.Continue → ⊥) → (k ≡ class.Return → ⊥)
     → flat_by (class_at words) n words ≡ read_plain n words
 unfolding plain_by read_clause
 flat_plain n words k is s b c r = ap (λ j. flat_by j n words) (sym is) ∙ flat_by_plain k n words s b c r ∙ ap (λ j. plain_by j n words) is

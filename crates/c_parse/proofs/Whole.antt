@@ -14,13 +14,15 @@ use Rattle.c_grammar.proofs.Tokens.{stop_is_refused, spelled_is_read}
 use Rattle.c_parse_exprs.specs.Reads.{Halts}
 use Rattle.c_parse.specs.Faults.{IsSyntaxFault}
 
-pub fault_is_told : (tokens : List Token) → IsTokenList tokens → (fault : ReadFault) → Halts fault (read_file MOST_LEVELS (words_of tokens)) → IsSyntaxFault (words_of tokens) fault
+pub fault_is_told : (tokens : List Token) → IsTokenList tokens → (fault : ReadFault) → Halts fault (read_file MOST_LEVELS (words_of tokens))
+    → IsSyntaxFault (words_of tokens) fault
 fault_is_told tokens listed OutOfMemory h = tt
 fault_is_told tokens listed (Refused refusal) h =
     let (halt, same, place) = h.told refusal refl in
     subst (λ r. RefusedAt (words_of tokens) r) (sym place) (stop_is_refused tokens listed halt same)
 
-pub spelled_lacks_memory : (tokens : List Token) → IsTokenList tokens → (file : File) → Spells file (words_of tokens) → file_nesting file ≤ MOST_LEVELS
+pub spelled_lacks_memory : (tokens : List Token) → IsTokenList tokens → (file : File) → Spells file (words_of tokens)
+    → file_nesting file ≤ MOST_LEVELS
     → (fault : ReadFault) → Halts fault (read_file MOST_LEVELS (words_of tokens)) → fault ≡ OutOfMemory
 spelled_lacks_memory tokens listed file spells fits OutOfMemory h = refl
 spelled_lacks_memory tokens listed file spells fits (Refused refusal) h =

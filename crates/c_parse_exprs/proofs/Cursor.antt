@@ -1,5 +1,6 @@
 -- The first word of a cursor, and its fields.
-use Rattle.std.proofs.Common.{◌≡◌, ℕ, ◌+◌, ◌≤◌, Bool, true, false, length, arith, List, [], ◌∷◌, ◌++◌, slice_get, refl, sym, ap, ◌∙◌, subst, append_assoc}
+use Rattle.std.proofs.Common.{◌≡◌, ℕ, ◌+◌, ◌≤◌, Bool, true, false, length, arith, List, [], ◌∷◌, ◌++◌, slice_get, refl, sym, ap, ◌∙◌, subst}
+use Rattle.std.proofs.Common.{append_assoc}
 use Rattle.std.proofs.Common.{cond, suc, ◌≢◌, lit<}
 use Rattle.std.specs.Prelude.{Some, None, ◌==◌, ◌&&◌, not, codes}
 use Rattle.std.specs.Str.{bytes_eq}
@@ -20,14 +21,16 @@ use Rattle.c_grammar.specs.Readers.{class_at, text_at, behind, is_class, is_open
 use Rattle.c_grammar.proofs.Numbers.{numbered-number_of, same_class}
 use Rattle.c_parse_exprs.specs.Cursors.{classes_of, HaveNumbers, weight}
 
-pub first_seen : (tokens : List Token) (found : List Class) (c : Class) → found ≡ classes_of tokens → slice_get found 0 ≡ Some c → c ≡ class_at (words_of tokens)
+pub first_seen : (tokens : List Token) (found : List Class) (c : Class) → found ≡ classes_of tokens → slice_get found 0 ≡ Some c
+    → c ≡ class_at (words_of tokens)
 first_seen [] found c is got = let e : None ≡ Some c = ap (λ f. slice_get f 0) (sym is) ∙ got in cc
 first_seen (token ∷ tokens) found c is got =
     let e : Some (class_of token.kind token.text tokens) ≡ Some c = ap (λ f. slice_get f 0) (sym is) ∙ got in
     let same : class_of token.kind token.text tokens ≡ c = cc in
     sym same ∙ sym (numbered-number_of (class_of token.kind token.text tokens))
 
-pub none_seen : (tokens : List Token) (found : List Class) → found ≡ classes_of tokens → slice_get found 0 ≡ None → class.OtherKey ≡ class_at (words_of tokens)
+pub none_seen : (tokens : List Token) (found : List Class) → found ≡ classes_of tokens → slice_get found 0 ≡ None
+    → class.OtherKey ≡ class_at (words_of tokens)
 none_seen [] found is got = refl
 none_seen (token ∷ tokens) found is got =
     let e : Some (class_of token.kind token.text tokens) ≡ None = ap (λ f. slice_get f 0) (sym is) ∙ got in cc
@@ -41,13 +44,16 @@ other_class : (entries : List Entry) → no_number entries ≡ true → (text : 
 other_class [] e text = λ same. cc
 other_class (entry ∷ entries) e text = by_test (bytes_eq entry.text text) (number_of entry.is == 2) refl e (λ f. other_class entries f text)
   where
-    by_test : (b c : Bool) → (number_of entry.is == 2) ≡ c → (not c && no_number entries) ≡ true → (no_number entries ≡ true → class_in entries class.OtherKey text ≢ class.Number)
+    by_test : (b c : Bool) → (number_of entry.is == 2) ≡ c → (not c && no_number entries) ≡ true
+        → (no_number entries ≡ true → class_in entries class.OtherKey text ≢ class.Number)
         → cond b entry.is (class_in entries class.OtherKey text) ≢ class.Number
     by_test b true same f others = absurd (cc)
-    by_test true false same f others = λ is. let t : (number_of entry.is == 2) ≡ true = ap (λ k. number_of k == 2) is in let z : true ≡ false = sym t ∙ same in cc
+    by_test true false same f others =
+        λ is. let t : (number_of entry.is == 2) ≡ true = ap (λ k. number_of k == 2) is in let z : true ≡ false = sym t ∙ same in cc
     by_test false false same f others = others f
 
-number_token : (k : TokenKind) (text : List ℕ) (tokens : List Token) → IsToken k text → class_of k text tokens ≡ class.Number → IsToken kind.Number text
+number_token : (k : TokenKind) (text : List ℕ) (tokens : List Token) → IsToken k text → class_of k text tokens ≡ class.Number
+    → IsToken kind.Number text
 number_token kind.Number text tokens is same = is
 number_token kind.Word text tokens is same = absurd (cc)
 number_token kind.Key text tokens is same = absurd (other_class keys refl text same)
@@ -65,7 +71,8 @@ end_token k text is = subst (λ j. class_of j text [] ≢ class.Number) (sym is)
 pub numbers_listed : (tokens : List Token) → IsTokenList tokens → HaveNumbers tokens
 numbers_listed [] listed = absurd listed
 numbers_listed (token ∷ []) listed = ((λ number. absurd (end_token token.kind token.text listed.kind number)), tt)
-numbers_listed (token ∷ next ∷ tokens) listed = ((λ number. number_token token.kind token.text (next ∷ tokens) listed.0 number), numbers_listed (next ∷ tokens) listed.2)
+numbers_listed (token ∷ next ∷ tokens) listed =
+    ((λ number. number_token token.kind token.text (next ∷ tokens) listed.0 number), numbers_listed (next ∷ tokens) listed.2)
 
 -- a number is at most ten digits, and fits an `int`
 pub record IsFit (word : List ℕ) : Type 0 where
@@ -80,12 +87,17 @@ number_fits word is = subst IsFit (sym is.2) (record {
   fits = rw (digits_value-decimal own is.0 (omega (arith, is.1))) is.1;
 })
 
-pub number_here : (tokens : List Token) → HaveNumbers tokens → is_class class.Number (class_at (words_of tokens)) ≡ true → IsFit (text_at (words_of tokens))
+pub number_here : (tokens : List Token) → HaveNumbers tokens → is_class class.Number (class_at (words_of tokens)) ≡ true
+    → IsFit (text_at (words_of tokens))
 number_here [] have seen = absurd (cc)
 number_here (token ∷ tokens) have seen =
-    number_fits token.text (have.0 (sym (same_class class.Number (numbered (number_of (class_of token.kind token.text tokens))) (eqb-true _ _ seen) ∙ numbered-number_of (class_of token.kind token.text tokens))))
+    number_fits token.text
+    (have.0 (sym
+    (same_class class.Number (numbered (number_of (class_of token.kind token.text tokens))) (eqb-true _ _ seen)
+    ∙ numbered-number_of (class_of token.kind token.text tokens))))
 
-pub at_words : (tokens : List Token) (words : List Word) (text : List ℕ) → words_of tokens ≡ words → HaveNumbers tokens → is_class class.Number (class_at words) ≡ true → text ≡ text_at words → IsFit text
+pub at_words : (tokens : List Token) (words : List Word) (text : List ℕ) → words_of tokens ≡ words → HaveNumbers tokens
+    → is_class class.Number (class_at words) ≡ true → text ≡ text_at words → IsFit text
 at_words tokens words text e have seen is =
     subst IsFit (sym (is ∙ ap text_at (sym e))) (number_here tokens have (ap (λ w. is_class class.Number (class_at w)) e ∙ seen))
 
@@ -95,7 +107,8 @@ pub more_classes : (found all : List Class) (token : Token) (tokens : List Token
 more_classes found all token tokens e = append_assoc found _ _ ∙ e
 
 -- a class that was seen is passed
-pub eaten_falls : (kind : Class) (words : List Word) → is_class kind (class_at words) ≡ true → length (behind words) + weight kind ≤ length words
+pub eaten_falls : (kind : Class) (words : List Word) → is_class kind (class_at words) ≡ true
+    → length (behind words) + weight kind ≤ length words
 eaten_falls kind [] same = by_class kind same
   where
     by_class : (k : Class) → is_class k class.OtherKey ≡ true → length (behind []) + weight k ≤ length (let w : List Word = [] in w)

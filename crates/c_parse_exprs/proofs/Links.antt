@@ -1,5 +1,6 @@
 -- Chains of operators: operators and operands that are read one after another.
-use Rattle.std.proofs.Common.{◌≡◌, ℕ, zero, suc, ◌<◌, ◌≤◌, Bool, true, false, List, [], ◌∷◌, ◌++◌, length, map, refl, sym, ap, ◌∙◌, subst, arith}
+use Rattle.std.proofs.Common.{◌≡◌, ℕ, zero, suc, ◌<◌, ◌≤◌, Bool, true, false, List, [], ◌∷◌, ◌++◌, length, map, refl, sym, ap, ◌∙◌, subst}
+use Rattle.std.proofs.Common.{arith}
 use Rattle.std.specs.Prelude.{Option, Some, None, Ok, Err, if◌then◌else◌}
 use Rattle.c_tokens.specs.declared.fault.ReadFault.{ReadFault}
 use Rattle.c_grammar.specs.declared.class.Class.{Class}
@@ -13,7 +14,8 @@ use Rattle.c_parse_exprs.specs.Reads.{Halts}
 use Rattle.c_parse_exprs.proofs.Steps.{halts}
 use Rattle.c_parse_exprs.proofs.Loops.{SoFar, so_far_more, so_far_end, so_far_halts}
 
-pub chained_more : (first : tree.Expr) (links : List Link) → 0 < length links → tree.Expr.Chain first (links_tree links) ≡ chained first (links_tree links)
+pub chained_more : (first : tree.Expr) (links : List Link) → 0 < length links
+    → tree.Expr.Chain first (links_tree links) ≡ chained first (links_tree links)
 chained_more first [] some = absurd (omega arith)
 chained_more first (one ∷ others) some = refl
 
@@ -48,9 +50,13 @@ pub links_each : (times level : ℕ) (read : List Word → Got tree.Expr) (words
 links_each zero level read words = refl
 links_each (suc times) level read words = by_op (op_at level (class_at words)) (λ next. links_each times level read next)
   where
-    by_op : (o : Option tree.BinaryOp) → ((next : List Word) → read_links times level read next ≡ all_links (read_each times (begins_link level) (read_link level read) next))
+    by_op : (o : Option tree.BinaryOp)
+        → ((next : List Word)
+        → read_links times level read next ≡ all_links (read_each times (begins_link level) (read_link level read) next))
         → link_by o read (read_links times level read) words
-        ≡ all_links (if has_op o then (link_from o read words >>= (λ one. before one.0 (read_each times (begins_link level) (read_link level read) one.1))) else Ok ([], words))
+        ≡ all_links (if has_op o
+        then (link_from o read words >>= (λ one. before one.0 (read_each times (begins_link level) (read_link level read) one.1)))
+        else Ok ([], words))
     by_op None later = refl
     by_op (Some op) later = by_one (read (behind words))
       where
@@ -60,7 +66,8 @@ links_each (suc times) level read words = by_op (op_at level (class_at words)) (
         by_others operand links (Ok x) same = rw same refl
         by_others operand links (Err halt) same = rw same refl
 
-        by_one : (got : Got tree.Expr) → (got >>= (λ one. read_links times level read one.1 >>= (λ others. Ok (tree.Links.Link op one.0 others.0, others.1))))
+        by_one : (got : Got tree.Expr)
+            → (got >>= (λ one. read_links times level read one.1 >>= (λ others. Ok (tree.Links.Link op one.0 others.0, others.1))))
             ≡ all_links (link_with op got >>= (λ one. before one.0 (read_each times (begins_link level) (read_link level read) one.1)))
         by_one (Ok one) = by_others one.0 (read_links times level read one.1) _ (later one.1)
         by_one (Err halt) = refl
@@ -77,14 +84,17 @@ no_op_missing (suc (suc (suc zero))) = refl
 no_op_missing (suc (suc (suc (suc zero)))) = refl
 no_op_missing (suc (suc (suc (suc (suc more))))) = refl
 
-pub op_falls : (level : ℕ) (words : List Word) (op : tree.BinaryOp) → op_at level (class_at words) ≡ Some op → length (behind words) < length words
+pub op_falls : (level : ℕ) (words : List Word) (op : tree.BinaryOp) → op_at level (class_at words) ≡ Some op
+    → length (behind words) < length words
 op_falls level [] op is = let z : None ≡ Some op = sym (no_op_missing level) ∙ is in absurd (cc)
 op_falls level (first ∷ others) op is = omega arith
 
 with_halts : (op : tree.BinaryOp) (fault : ReadFault) (got : Got tree.Expr) → Halts fault got → Halts fault (link_with op got)
-with_halts op fault got h = record { told = λ refusal is. let (halt, same, place) = h.told refusal is in (halt, ap (link_with op) same, place) }
+with_halts op fault got h =
+    record { told = λ refusal is. let (halt, same, place) = h.told refusal is in (halt, ap (link_with op) same, place) }
 
-pub link_more : (level : ℕ) (read : List Word → Got tree.Expr) (from : List Word) (links more : List Link) (words next : List Word) (op : tree.BinaryOp) (operand : tree.Expr) (one : Link)
+pub link_more : (level : ℕ) (read : List Word → Got tree.Expr) (from : List Word) (links more : List Link) (words next : List Word)
+    (op : tree.BinaryOp) (operand : tree.Expr) (one : Link)
     → LinksSoFar level read from links words → op_at level (class_at words) ≡ Some op → read (behind words) ≡ Ok (operand, next)
     → link_tree one ≡ record { op = op; operand = operand } → more ≡ links ++ one ∷ [] → length next ≤ length (behind words)
     → LinksSoFar level read from more next
@@ -94,14 +104,19 @@ link_more level read from links more words next op operand one so is got tree_is
     (ap (λ o. link_from o read words) is ∙ ap (link_with op) got ∙ ap (λ l. Ok (l, next)) (sym tree_is)) (omega arith)
 
 pub link_end : (level : ℕ) (read : List Word → Got tree.Expr) (from : List Word) (links : List Link) (words : List Word)
-    → LinksSoFar level read from links words → op_at level (class_at words) ≡ None → read_links (length from) level read from ≡ Ok (links_tree links, words)
+    → LinksSoFar level read from links words → op_at level (class_at words) ≡ None
+    → read_links (length from) level read from ≡ Ok (links_tree links, words)
 link_end level read from links words so none =
-    links_each (length from) level read from ∙ ap all_links (so_far_end (begins_link level) (read_link level read) from (map link_tree links) words so (ap has_op none))
+    links_each (length from) level read from
+    ∙ ap all_links (so_far_end (begins_link level) (read_link level read) from (map link_tree links) words so (ap has_op none))
 
-pub link_halts : (level : ℕ) (read : List Word → Got tree.Expr) (from : List Word) (links : List Link) (words : List Word) (op : tree.BinaryOp) (fault : ReadFault)
+pub link_halts : (level : ℕ) (read : List Word → Got tree.Expr) (from : List Word) (links : List Link) (words : List Word)
+    (op : tree.BinaryOp) (fault : ReadFault)
     → LinksSoFar level read from links words → op_at level (class_at words) ≡ Some op → Halts fault (read (behind words))
     → Halts fault (read_links (length from) level read from)
 link_halts level read from links words op fault so is h =
     subst (Halts fault) (sym (links_each (length from) level read from))
-    (halts fault _ _ (so_far_halts (begins_link level) (read_link level read) from (map link_tree links) words fault so (ap has_op is) (ap has_op (no_op_missing level))
+    (halts fault _ _
+    (so_far_halts (begins_link level) (read_link level read) from (map link_tree links) words fault so (ap has_op is)
+    (ap has_op (no_op_missing level))
     (subst (λ o. Halts fault (link_from o read words)) (sym is) (with_halts op fault (read (behind words)) h))))

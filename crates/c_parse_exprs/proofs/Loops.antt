@@ -1,6 +1,7 @@
 -- Loops that read things one after another, against `read_each`. How often it may go on is the number of words, less one for
 -- each thing that was read; as each thing takes a word, that is never too few.
-use Rattle.std.proofs.Common.{◌≡◌, ℕ, zero, suc, ◌+◌, ◌-◌, ◌<◌, ◌≤◌, Bool, true, false, cond, List, [], ◌∷◌, ◌++◌, length, map, refl, sym, ap, ◌∙◌, subst, arith, append_assoc, append-nil, length-append}
+use Rattle.std.proofs.Common.{◌≡◌, ℕ, zero, suc, ◌+◌, ◌-◌, ◌<◌, ◌≤◌, Bool, true, false, cond, List, [], ◌∷◌, ◌++◌, length, map, refl, sym}
+use Rattle.std.proofs.Common.{ap, ◌∙◌, subst, arith, append_assoc, append-nil, length-append}
 use Rattle.std.specs.Prelude.{Ok, Err, if◌then◌else◌}
 use Rattle.c_tokens.specs.declared.fault.ReadFault.{ReadFault}
 use Rattle.c_grammar.specs.declared.class.Class.{Class}
@@ -15,7 +16,8 @@ abbrev pub with_found : {A : Type 0} → List A → Got (List A) → Got (List A
 with_found found got = got >>= (λ others. Ok (found ++ others.0, others.1))
 
 -- of what is read from the first words, these things were read, and the words are left
-pub record SoFar {A : Type 0} (begins : Class → Bool) (read : List Word → Got A) (from : List Word) (found : List A) (words : List Word) : Type 0 where
+pub record SoFar {A : Type 0} (begins : Class → Bool) (read : List Word → Got A) (from : List Word) (found : List A)
+    (words : List Word) : Type 0 where
   pub room : length found + length words ≤ length from
   pub rest : read_each (length from) begins read from ≡ with_found found (read_each (length from - length found) begins read words)
 
@@ -36,20 +38,26 @@ one_more : {A : Type 0} (begins : Class → Bool) (read : List Word → Got A) (
     → with_found found (read_each (suc times) begins read words) ≡ with_found (found ++ one ∷ []) (read_each times begins read next)
 one_more begins read times found words next one begun is = rw (begun, is) (regroup (read_each times begins read next))
   where
-    regroup : (got : Got (List _)) → with_found found (got >>= (λ others. Ok (one ∷ others.0, others.1))) ≡ with_found (found ++ one ∷ []) got
+    regroup : (got : Got (List _))
+        → with_found found (got >>= (λ others. Ok (one ∷ others.0, others.1))) ≡ with_found (found ++ one ∷ []) got
     regroup (Ok x) = ap (λ all. Ok (all, x.1)) (sym (append_assoc found (one ∷ []) x.0))
     regroup (Err halt) = refl
 
 -- one more thing was read
-pub so_far_more : {A B : Type 0} (begins : Class → Bool) (read : List Word → Got A) (tree : B → A) (from : List Word) (items more : List B) (words next : List Word) (one : B)
+pub so_far_more : {A B : Type 0} (begins : Class → Bool) (read : List Word → Got A) (tree : B → A) (from : List Word) (items more : List B)
+    (words next : List Word) (one : B)
     → SoFar begins read from (map tree items) words → more ≡ items ++ one ∷ []
-    → begins (class_at words) ≡ true → read words ≡ Ok (tree one, next) → length next < length words → SoFar begins read from (map tree more) next
+    → begins (class_at words) ≡ true → read words ≡ Ok (tree one, next) → length next < length words
+    → SoFar begins read from (map tree more) next
 so_far_more begins read tree from items more words next one so pushed begun is falls =
     let all : map tree more ≡ map tree items ++ tree one ∷ [] = ap (map tree) pushed ∙ map-push tree items one in
     let long : length (map tree items ++ tree one ∷ []) ≡ length (map tree items) + 1 = length_push (map tree items) (tree one) in
-    let times : length from - length (map tree items) ≡ suc (length from - length (map tree items ++ tree one ∷ [])) = fuel (length from) (length (map tree items)) (length (map tree items ++ tree one ∷ [])) (length words) long so.room (omega arith) in
+    let times : length from - length (map tree items) ≡ suc (length from - length (map tree items ++ tree one ∷ [])) =
+    fuel (length from) (length (map tree items)) (length (map tree items ++ tree one ∷ [])) (length words) long so.room (omega arith) in
     subst (λ found. SoFar begins read from found next) (sym all) (record {
-      room = room (length from) (length (map tree items)) (length (map tree items ++ tree one ∷ [])) (length words) (length next) long so.room falls;
+      room =
+          room (length from) (length (map tree items)) (length (map tree items ++ tree one ∷ [])) (length words)
+          (length next) long so.room falls;
       rest = so.rest ∙ ap (λ n. with_found (map tree items) (read_each n begins read words)) times
           ∙ one_more begins read (length from - length (map tree items ++ tree one ∷ [])) (map tree items) words next (tree one) begun is;
     })
@@ -78,7 +86,8 @@ so_far_end begins read from found words so none =
     ends (suc times) = rw none refl
 
 -- one begins, and reading it halts
-pub so_far_halts : {A : Type 0} (begins : Class → Bool) (read : List Word → Got A) (from : List Word) (found : List A) (words : List Word) (fault : ReadFault)
+pub so_far_halts : {A : Type 0} (begins : Class → Bool) (read : List Word → Got A) (from : List Word) (found : List A) (words : List Word)
+    (fault : ReadFault)
     → SoFar begins read from found words → begins (class_at words) ≡ true → begins class.OtherKey ≡ false → Halts fault (read words)
     → Halts fault (read_each (length from) begins read from)
 so_far_halts begins read from found [] fault so begun never h = let z : true ≡ false = sym begun ∙ never in absurd (cc)
@@ -102,20 +111,24 @@ pub record Eaten (kind : Class) (passed : Bool) (words eaten : List Word) : Type
   pub seen : passed ≡ is_class kind (class_at words)
   pub value : eaten ≡ (if is_class kind (class_at words) then behind words else words)
 
-behind_eaten : (kind : Class) (seen : Bool) (words eaten : List Word) → Eaten kind seen words eaten → seen ≡ true → (is_class kind (class_at words) ≡ true) × (eaten ≡ behind words)
+behind_eaten : (kind : Class) (seen : Bool) (words eaten : List Word) → Eaten kind seen words eaten → seen ≡ true
+    → (is_class kind (class_at words) ≡ true) × (eaten ≡ behind words)
 behind_eaten kind seen words eaten h is =
     let begun : is_class kind (class_at words) ≡ true = sym h.seen ∙ is in
     (begun, h.value ∙ ap (λ b. cond b (behind words) words) begun)
 
-pub eaten_more : {A B : Type 0} (kind : Class) (read : List Word → Got A) (tree : B → A) (from : List Word) (items more : List B) (words eaten next : List Word) (one : B) (seen : Bool)
+pub eaten_more : {A B : Type 0} (kind : Class) (read : List Word → Got A) (tree : B → A) (from : List Word) (items more : List B)
+    (words eaten next : List Word) (one : B) (seen : Bool)
     → SoFar (is_class kind) (λ first. read (behind first)) from (map tree items) words → Eaten kind seen words eaten → seen ≡ true
     → read eaten ≡ Ok (tree one, next) → more ≡ items ++ one ∷ [] → length next < length words
     → SoFar (is_class kind) (λ first. read (behind first)) from (map tree more) next
 eaten_more kind read tree from items more words eaten next one seen so h is got pushed falls =
     let (begun, same) = behind_eaten kind seen words eaten h is in
-    so_far_more (is_class kind) (λ first. read (behind first)) tree from items more words next one so pushed begun (ap read (sym same) ∙ got) falls
+    so_far_more (is_class kind) (λ first. read (behind first)) tree from items more words next one so pushed begun
+    (ap read (sym same) ∙ got) falls
 
-pub eaten_end : {A : Type 0} (kind : Class) (read : List Word → Got A) (from : List Word) (found : List A) (words eaten : List Word) (seen : Bool)
+pub eaten_end : {A : Type 0} (kind : Class) (read : List Word → Got A) (from : List Word) (found : List A) (words eaten : List Word)
+    (seen : Bool)
     → SoFar (is_class kind) (λ first. read (behind first)) from found words → Eaten kind seen words eaten → seen ≡ false
     → read_each (length from) (is_class kind) (λ first. read (behind first)) from ≡ Ok (found, eaten)
 eaten_end kind read from found words eaten seen so h is =
@@ -123,10 +136,12 @@ eaten_end kind read from found words eaten seen so h is =
     let same : eaten ≡ words = h.value ∙ ap (λ b. cond b (behind words) words) none in
     so_far_end (is_class kind) (λ first. read (behind first)) from found words so none ∙ ap (λ w. Ok (found, w)) (sym same)
 
-pub eaten_halts : {A : Type 0} (kind : Class) (read : List Word → Got A) (from : List Word) (found : List A) (words eaten : List Word) (seen : Bool) (fault : ReadFault)
+pub eaten_halts : {A : Type 0} (kind : Class) (read : List Word → Got A) (from : List Word) (found : List A) (words eaten : List Word)
+    (seen : Bool) (fault : ReadFault)
     → SoFar (is_class kind) (λ first. read (behind first)) from found words → Eaten kind seen words eaten → seen ≡ true
     → is_class kind class.OtherKey ≡ false → Halts fault (read eaten)
     → Halts fault (read_each (length from) (is_class kind) (λ first. read (behind first)) from)
 eaten_halts kind read from found words eaten seen fault so h is never halt =
     let (begun, same) = behind_eaten kind seen words eaten h is in
-    so_far_halts (is_class kind) (λ first. read (behind first)) from found words fault so begun never (subst (λ w. Halts fault (read w)) same halt)
+    so_far_halts (is_class kind) (λ first. read (behind first)) from found words fault so begun never
+    (subst (λ w. Halts fault (read w)) same halt)

@@ -11,24 +11,31 @@ use Rattle.c_grammar.specs.declared.class.Class.TheVariants as class
 use Rattle.c_parse_exprs.specs.Reads.{Halts, Reads, wrong_at}
 
 -- where the first reader halts, the whole halts
-pub halts : {A B : Type 0} (fault : ReadFault) (got : Result A Halt) (next : A → Result B Halt) → Halts fault got → Halts fault (got >>= next)
-halts fault got next h = record { told = λ refusal is. let (halt, same, place) = h.told refusal is in (halt, ap (λ g. g >>= next) same, place) }
+pub halts : {A B : Type 0} (fault : ReadFault) (got : Result A Halt) (next : A → Result B Halt) → Halts fault got
+    → Halts fault (got >>= next)
+halts fault got next h =
+    record { told = λ refusal is. let (halt, same, place) = h.told refusal is in (halt, ap (λ g. g >>= next) same, place) }
 
 -- want of memory says nothing
 pub no_memory : {A : Type 0} (fault : ReadFault) (got : Result A Halt) → fault ≡ OutOfMemory → Halts fault got
 no_memory fault got none = record { told = λ refusal is. let e : OutOfMemory ≡ Refused refusal = sym none ∙ is in cc }
 
 -- a reading that halts, by where it halts
-pub halts_at : {A : Type 0} (fault : ReadFault) (got : Result A Halt) (halt : Halt) → got ≡ Err halt → fault ≡ Refused (refusal_of halt) → Halts fault got
-halts_at fault got halt same place = record { told = λ refusal is. let e : Refused (refusal_of halt) ≡ Refused refusal = sym place ∙ is in (halt, same, cc) }
+pub halts_at : {A : Type 0} (fault : ReadFault) (got : Result A Halt) (halt : Halt) → got ≡ Err halt → fault ≡ Refused (refusal_of halt)
+    → Halts fault got
+halts_at fault got halt same place =
+    record { told = λ refusal is. let e : Refused (refusal_of halt) ≡ Refused refusal = sym place ∙ is in (halt, same, cc) }
 
-pub take_stops : (fault : ReadFault) (kind : Class) (words : List Word) → is_class kind (class_at words) ≡ false → fault ≡ wrong_at words → Halts fault (take kind words)
+pub take_stops : (fault : ReadFault) (kind : Class) (words : List Word) → is_class kind (class_at words) ≡ false → fault ≡ wrong_at words
+    → Halts fault (take kind words)
 take_stops fault kind words seen place = halts_at fault _ (record { deep = false; at = words }) (rw seen refl) place
 
-pub open_stops : (fault : ReadFault) (words : List Word) → is_open (class_at words) ≡ false → fault ≡ wrong_at words → Halts fault (take_open words)
+pub open_stops : (fault : ReadFault) (words : List Word) → is_open (class_at words) ≡ false → fault ≡ wrong_at words
+    → Halts fault (take_open words)
 open_stops fault words seen place = halts_at fault _ (record { deep = false; at = words }) (rw seen refl) place
 
-pub name_stops : (fault : ReadFault) (words : List Word) → is_class class.Name (class_at words) ≡ false → fault ≡ wrong_at words → Halts fault (read_name words)
+pub name_stops : (fault : ReadFault) (words : List Word) → is_class class.Name (class_at words) ≡ false → fault ≡ wrong_at words
+    → Halts fault (read_name words)
 name_stops fault words seen place = halts_at fault _ (record { deep = false; at = words }) (rw seen refl) place
 
 pub ruleset stops = (take_stops, open_stops, name_stops)

@@ -24,15 +24,18 @@ no_stars from = record {
       ap (λ n. (n, (read_stars (length from) from).1)) (sym none);
 }
 
-pub one_star : (from words : List Word) → StarsSoFar from words → is_class class.Star (class_at words) ≡ true → StarsSoFar from (behind words)
+pub one_star : (from words : List Word) → StarsSoFar from words → is_class class.Star (class_at words) ≡ true
+    → StarsSoFar from (behind words)
 one_star from [] so seen = absurd (cc)
 one_star from (first ∷ others) so seen = record {
   room = omega (arith, so.room);
   rest = so.rest ∙ ap (with_stars (length from - length (first ∷ others))) opened
-      ∙ ap (λ n. (n, (read_stars (length others) others).1)) (counted (length from) (length others) (read_stars (length others) others).0 (omega (arith, so.room)));
+      ∙ ap (λ n. (n, (read_stars (length others) others).1))
+      (counted (length from) (length others) (read_stars (length others) others).0 (omega (arith, so.room)));
 }
   where
-    opened : read_stars (suc (length others)) (first ∷ others) ≡ (suc (read_stars (length others) others).0, (read_stars (length others) others).1)
+    opened : read_stars (suc (length others)) (first ∷ others)
+        ≡ (suc (read_stars (length others) others).0, (read_stars (length others) others).1)
     opened = rw seen refl
 
     counted : (f n more : ℕ) → suc n ≤ f → f - suc n + suc more ≡ f - n + more
@@ -47,7 +50,8 @@ all_stars from words so none = so.rest ∙ ap (with_stars (length from - length 
     ends zero = refl
     ends (suc times) = rw none refl
 
-no_specifier : (k : Class) (words : List Word) → (k ≡ class.Int → ⊥) → (k ≡ class.Void → ⊥) → (k ≡ class.Struct → ⊥) → (k ≡ class.Name → ⊥) → specifier_by k words ≡ wrong words
+no_specifier : (k : Class) (words : List Word) → (k ≡ class.Int → ⊥) → (k ≡ class.Void → ⊥) → (k ≡ class.Struct → ⊥) → (k ≡ class.Name → ⊥)
+    → specifier_by k words ≡ wrong words
 no_specifier class.Int words i v s n = absurd (i refl)
 no_specifier class.Void words i v s n = absurd (v refl)
 no_specifier class.Struct words i v s n = absurd (s refl)
@@ -61,5 +65,6 @@ specifier_stops fault words k is place i v s n =
     halts_at fault _ (record { deep = false; at = words }) (ap (λ c. specifier_by c words) (sym is) ∙ no_specifier k words i v s n) place
 
 -- what a test of the first word's class says
-pub seen_class : (begins : Class → Bool) (seen is : Bool) (k : Class) (words : List Word) → seen ≡ begins k → k ≡ class_at words → seen ≡ is → begins (class_at words) ≡ is
+pub seen_class : (begins : Class → Bool) (seen is : Bool) (k : Class) (words : List Word) → seen ≡ begins k → k ≡ class_at words → seen ≡ is
+    → begins (class_at words) ≡ is
 seen_class begins seen is k words test first same = ap begins (sym first) ∙ sym test ∙ same

@@ -12,7 +12,8 @@ abbrev pub print_args_from : ℕ → List tree.Expr → Texts → Texts
 print_args_from place [] behind = behind
 print_args_from place (one ∷ others) behind = print_comma place (print_expr one (print_args_from (place + 1) others behind))
 
-more_args : (place : ℕ) (args : List tree.Expr) (behind : Texts) → print_args_from (place + 1) args behind ≡ print_more_args (args_of args) behind
+more_args : (place : ℕ) (args : List tree.Expr) (behind : Texts)
+    → print_args_from (place + 1) args behind ≡ print_more_args (args_of args) behind
 more_args place [] behind = refl
 more_args place (one ∷ others) behind =
     ap (λ n. print_comma n (print_expr one (print_args_from (place + 1 + 1) others behind))) (add-one place)
@@ -24,7 +25,8 @@ all_args (one ∷ others) behind = ap (print_expr one) (more_args 0 others behin
 
 -- behind the last one
 pub arguments : (xs : List Expr) (i : ℕ) → length xs ≤ i → {a b : List ℕ}
-    → PrintsUpTo (print_args_from i (map expr_tree (drop i xs))) (print_args_from 0 (map expr_tree xs)) a b → Prints (print_args (args_tree xs)) a b
+    → PrintsUpTo (print_args_from i (map expr_tree (drop i xs))) (print_args_from 0 (map expr_tree xs)) a b
+    → Prints (print_args (args_tree xs)) a b
 arguments xs i past {a = a} {b = b} before = record {
   shown = λ behind.
       ap (λ texts. b ++ spaced_texts texts) (sym (at_drop_all (λ ys. print_args_from i (map expr_tree ys) behind) xs i past))

@@ -12,4 +12,5 @@ pub break_tree : (place : Place) → stmt_tree (Break place) ≡ tree.Stmt.Break
 break_tree place = ap stmt_tree (sym (rolls-Break place)) ∙ fold-roll-Stmt tree.Stmt BlockTree stmt_level block_level (Stmt-F.Break place)
 
 pub continue_tree : (place : Place) → stmt_tree (Continue place) ≡ tree.Stmt.Continue place
-continue_tree place = ap stmt_tree (sym (rolls-Continue place)) ∙ fold-roll-Stmt tree.Stmt BlockTree stmt_level block_level (Stmt-F.Continue place)
+continue_tree place = ap stmt_tree (sym (rolls-Continue place))
+    ∙ fold-roll-Stmt tree.Stmt BlockTree stmt_level block_level (Stmt-F.Continue place)

@@ -1,5 +1,6 @@
 -- Digits that the code tests, and the number that they write.
-use Rattle.std.proofs.Common.{◌≡◌, ℕ, zero, suc, ◌+◌, ◌*◌, ◌-◌, ◌^◌, ◌<◌, ◌≤◌, true, List, [], ◌∷◌, length, take, length-take-le, get_or, arith}
+use Rattle.std.proofs.Common.{◌≡◌, ℕ, zero, suc, ◌+◌, ◌*◌, ◌-◌, ◌^◌, ◌<◌, ◌≤◌, true, List, [], ◌∷◌, length, take, length-take-le, get_or}
+use Rattle.std.proofs.Common.{arith}
 use Rattle.std.specs.Prelude.{◌&&◌, ◌||◌, ◌==◌, not, nat_le, slice_index}
 use Rattle.std.specs.Char.{is_ascii_digit, digit_value}
 use Rattle.std.specs.List.{list_all}
@@ -36,7 +37,8 @@ all_digits (d ∷ ds) e =
 -- of a plain word each byte is a digit
 pub plain_digits : (word : List ℕ) → is_plain word ≡ true → AllDigits 10 word
 plain_digits word e =
-    let parts = both_true (nat_le (length word) 10) (list_all is_ascii_digit word && (not (slice_index word 0 == 48) || length word == 1)) e in
+    let parts =
+    both_true (nat_le (length word) 10) (list_all is_ascii_digit word && (not (slice_index word 0 == 48) || length word == 1)) e in
     let digits = both_true (list_all is_ascii_digit word) (not (slice_index word 0 == 48) || length word == 1) parts.1 in
     all_digits word digits.0
 
@@ -47,20 +49,23 @@ digits_front (suc n) [] digits = tt
 digits_front (suc n) (d ∷ ds) digits = (digits.0, digits_front n ds digits.1)
 
 -- what the digits so far write
-pub front_value : (word : List ℕ) (i value : ℕ) → AllDigits 10 word → value ≡ digits_value 10 (take i word) → i < length word → length word ≤ 10 → value < 10 ^ 10
+pub front_value : (word : List ℕ) (i value : ℕ) → AllDigits 10 word → value ≡ digits_value 10 (take i word) → i < length word
+    → length word ≤ 10 → value < 10 ^ 10
 front_value word i value digits is within short =
     let front = length-take-le i word (omega arith) in
     let bound = ten_digits (take i word) (digits_front i word digits) (omega arith) in
     omega arith
 
 -- one more digit
-pub next_digit : (word : List ℕ) (i : ℕ) → AllDigits 10 word → i < length word → (48 ≤ get_or word i 0) × (get_or word i 0 ≤ 57) × (get_or word i 0 - 48 ≡ digit_value (get_or word i 0))
+pub next_digit : (word : List ℕ) (i : ℕ) → AllDigits 10 word → i < length word
+    → (48 ≤ get_or word i 0) × (get_or word i 0 ≤ 57) × (get_or word i 0 - 48 ≡ digit_value (get_or word i 0))
 next_digit word i digits within =
     let range = digit_at word i digits within in
     let value = digit_value_digit (get_or word i 0) range in
     (range.0, range.1, omega (arith, value))
 
-pub next_value : (word : List ℕ) (i value digit : ℕ) → AllDigits 10 word → i < length word → value ≡ digits_value 10 (take i word) → digit ≡ get_or word i 0 - 48 → value * 10 + digit ≡ digits_value 10 (take (i + 1) word)
+pub next_value : (word : List ℕ) (i value digit : ℕ) → AllDigits 10 word → i < length word → value ≡ digits_value 10 (take i word)
+    → digit ≡ get_or word i 0 - 48 → value * 10 + digit ≡ digits_value 10 (take (i + 1) word)
 next_value word i value digit digits within is digit_is =
     let more = digits_value_more 10 word i within in
     let here = next_digit word i digits within in

@@ -1,5 +1,6 @@
 -- `#` lines: what the tokenizer reads of one is what the grammar says.
-use Rattle.std.proofs.Common.{◌≡◌, ℕ, zero, suc, ◌+◌, ◌-◌, ◌<◌, Bool, true, false, cond, take, drop, List, [], ◌∷◌, ◌++◌, length, inl, inr, ◌⊎◌, refl, sym, ap, ◌∙◌, subst, append_assoc, arith}
+use Rattle.std.proofs.Common.{◌≡◌, ℕ, zero, suc, ◌+◌, ◌-◌, ◌<◌, Bool, true, false, cond, take, drop, List, [], ◌∷◌, ◌++◌, length, inl, inr}
+use Rattle.std.proofs.Common.{◌⊎◌, refl, sym, ap, ◌∙◌, subst, append_assoc, arith}
 use Rattle.std.specs.Prelude.{◌==◌, ◌&&◌, nat_le, Option, Some, None, slice_index, codes}
 use Rattle.std.specs.List.{list_all, prefix_len}
 use Rattle.std.specs.Str.{bytes_eq}
@@ -54,7 +55,8 @@ abbrev pub directive_from : ℕ → Place → Part → List ℕ → Outcome
 directive_from taken here part [] = at_stop here [] part
 directive_from (suc taken) here part (b ∷ bytes) = directive_from taken (after here b) part bytes
 directive_from zero here part (b ∷ bytes) =
-    cond (b == 10) (at_stop here (b ∷ bytes) part) (behind_piece (first_piece here part (b ∷ bytes)) (λ taken next. directive_from taken (after here b) next bytes))
+    cond (b == 10) (at_stop here (b ∷ bytes) part)
+    (behind_piece (first_piece here part (b ∷ bytes)) (λ taken next. directive_from taken (after here b) next bytes))
 
 -- what is read behind it
 abbrev pub resumed : Outcome → Reading
@@ -81,23 +83,29 @@ stays_if false p q h k = k
 stays_bare : (here : Place) (part : Part) (bytes : List ℕ) → InDirective part → StaysInDirective (bare_piece here part bytes)
 stays_bare here LineStart bytes in_directive = absurd in_directive
 stays_bare here InLine bytes in_directive = absurd in_directive
-stays_bare here (Hash hash) bytes in_directive = stays_if (bytes_eq (take (prefix_len is_name_byte bytes) bytes) (codes "include")) (Passed 7 (Include hash)) (Bad (refusal hash 104)) tt tt
-stays_bare here (Include hash) bytes in_directive = stays_if (begins_with_header bytes) (Passed (header_len bytes + 2) (Header hash)) (Bad (refusal hash 104)) tt tt
+stays_bare here (Hash hash) bytes in_directive =
+    stays_if (bytes_eq (take (prefix_len is_name_byte bytes) bytes) (codes "include")) (Passed 7 (Include hash))
+    (Bad (refusal hash 104)) tt tt
+stays_bare here (Include hash) bytes in_directive =
+    stays_if (begins_with_header bytes) (Passed (header_len bytes + 2) (Header hash)) (Bad (refusal hash 104)) tt tt
 stays_bare here (Header hash) bytes in_directive = tt
 
 stays_block : (here : Place) (part : Part) (end : Option ℕ) → InDirective part → StaysInDirective (block_piece here part end)
 stays_block here part None in_directive = tt
 stays_block here part (Some n) in_directive = in_directive
 
-stays_first : (here : Place) (part : Part) (b : ℕ) (bytes : List ℕ) → (b == 10) ≡ false → InDirective part → StaysInDirective (first_piece here part (b ∷ bytes))
+stays_first : (here : Place) (part : Part) (b : ℕ) (bytes : List ℕ) → (b == 10) ≡ false → InDirective part
+    → StaysInDirective (first_piece here part (b ∷ bytes))
 stays_first here part b bytes other in_directive =
     subst StaysInDirective (sym (cond_false (b == 10) (line_feed_piece part) _ other))
     (stays_if (is_blank b) (Passed 1 part) _ in_directive
     (stays_if (b == 47 && slice_index (b ∷ bytes) 1 == 47) (Passed (line_end 0 false (drop 1 bytes) + 2) part) _ in_directive
-    (stays_if (b == 47 && slice_index (b ∷ bytes) 1 == 42) (block_piece here part (block_end 0 Other (drop 1 bytes))) _ (stays_block here part (block_end 0 Other (drop 1 bytes)) in_directive)
+    (stays_if (b == 47 && slice_index (b ∷ bytes) 1 == 42) (block_piece here part (block_end 0 Other (drop 1 bytes))) _
+    (stays_block here part (block_end 0 Other (drop 1 bytes)) in_directive)
     (stays_bare here part (b ∷ bytes) in_directive))))
 
-resumed_feed : (here : Place) (part : Part) (bytes : List ℕ) → InDirective part → reading_from zero here part (10 ∷ bytes) ≡ resumed (at_stop here (10 ∷ bytes) part)
+resumed_feed : (here : Place) (part : Part) (bytes : List ℕ) → InDirective part
+    → reading_from zero here part (10 ∷ bytes) ≡ resumed (at_stop here (10 ∷ bytes) part)
 resumed_feed here LineStart bytes in_directive = absurd in_directive
 resumed_feed here InLine bytes in_directive = absurd in_directive
 resumed_feed here (Hash hash) bytes in_directive = refl
@@ -111,25 +119,34 @@ resumed_end here (Hash hash) in_directive = refl
 resumed_end here (Include hash) in_directive = refl
 resumed_end here (Header hash) in_directive = refl
 
-resumed_piece : (piece : Piece) (here : Place) (bytes : List ℕ) (others : ℕ → Part → Reading) (outcomes : ℕ → Part → Outcome) → StaysInDirective piece → ((n : ℕ) (part : Part) → InDirective part → others n part ≡ resumed (outcomes n part)) → with_piece piece here bytes others ≡ resumed (behind_piece piece outcomes)
+resumed_piece : (piece : Piece) (here : Place) (bytes : List ℕ) (others : ℕ → Part → Reading) (outcomes : ℕ → Part → Outcome)
+    → StaysInDirective piece → ((n : ℕ) (part : Part) → InDirective part → others n part ≡ resumed (outcomes n part))
+    → with_piece piece here bytes others ≡ resumed (behind_piece piece outcomes)
 resumed_piece (Passed n part) here bytes others outcomes stays same = same (n - 1) part stays
 resumed_piece (Lexed kind n) here bytes others outcomes stays same = absurd stays
 resumed_piece (Bad refusal) here bytes others outcomes stays same = refl
 
 -- the text is read on behind the line
-pub resumes : (bytes : List ℕ) (taken : ℕ) (here : Place) (part : Part) → InDirective part → reading_from taken here part bytes ≡ resumed (directive_from taken here part bytes)
+pub resumes : (bytes : List ℕ) (taken : ℕ) (here : Place) (part : Part) → InDirective part
+    → reading_from taken here part bytes ≡ resumed (directive_from taken here part bytes)
 resumes [] taken here part in_directive = resumed_end here part in_directive
 resumes (b ∷ bytes) (suc taken) here part in_directive = resumes bytes taken (after here b) part in_directive
 resumes (b ∷ bytes) zero here part in_directive = by (b == 10) refl (λ n next stays. resumes bytes n (after here b) next stays)
   where
-    by : (c : Bool) → (b == 10) ≡ c → ((n : ℕ) (next : Part) → InDirective next → reading_from n (after here b) next bytes ≡ resumed (directive_from n (after here b) next bytes)) → reading_from zero here part (b ∷ bytes) ≡ resumed (directive_from zero here part (b ∷ bytes))
-    by true e same = subst (λ x. reading_from zero here part (x ∷ bytes) ≡ resumed (directive_from zero here part (x ∷ bytes))) (sym (eqb-true b 10 e)) (resumed_feed here part bytes in_directive)
+    by : (c : Bool) → (b == 10) ≡ c
+        → ((n : ℕ) (next : Part) → InDirective next
+        → reading_from n (after here b) next bytes ≡ resumed (directive_from n (after here b) next bytes))
+        → reading_from zero here part (b ∷ bytes) ≡ resumed (directive_from zero here part (b ∷ bytes))
+    by true e same =
+        subst (λ x. reading_from zero here part (x ∷ bytes) ≡ resumed (directive_from zero here part (x ∷ bytes))) (sym (eqb-true b 10 e))
+        (resumed_feed here part bytes in_directive)
     by false e same =
         resumed_piece (first_piece here part (b ∷ bytes)) here (b ∷ bytes) _ _ (stays_first here part b bytes e in_directive) same
         ∙ sym (ap resumed (cond_false (b == 10) (at_stop here (b ∷ bytes) part) _ e))
 
 -- the bytes that belong to the piece before are passed over
-behind_bytes : (piece behind : List ℕ) (here : Place) (part : Part) → directive_from (length piece) here part (piece ++ behind) ≡ directive_from zero (place_after here piece) part behind
+behind_bytes : (piece behind : List ℕ) (here : Place) (part : Part)
+    → directive_from (length piece) here part (piece ++ behind) ≡ directive_from zero (place_after here piece) part behind
 behind_bytes [] behind here part = refl
 behind_bytes (b ∷ piece) behind here part = behind_bytes piece behind (after here b) part
 
@@ -137,14 +154,17 @@ less_one : (n : ℕ) → suc n - 1 ≡ n
 less_one n = omega arith
 
 -- a piece of the line
-pub directive-passed : (here : Place) (part next : Part) (b : ℕ) (piece behind : List ℕ) → (b == 10) ≡ false → first_piece here part (b ∷ (piece ++ behind)) ≡ Passed (length (b ∷ piece)) next → directive_from zero here part (b ∷ (piece ++ behind)) ≡ directive_from zero (place_after here (b ∷ piece)) next behind
+pub directive-passed : (here : Place) (part next : Part) (b : ℕ) (piece behind : List ℕ) → (b == 10) ≡ false
+    → first_piece here part (b ∷ (piece ++ behind)) ≡ Passed (length (b ∷ piece)) next
+    → directive_from zero here part (b ∷ (piece ++ behind)) ≡ directive_from zero (place_after here (b ∷ piece)) next behind
 directive-passed here part next b piece behind other first =
     cond_false (b == 10) (at_stop here (b ∷ (piece ++ behind)) part) _ other
     ∙ ap (λ p. behind_piece p (λ taken more. directive_from taken (after here b) more (piece ++ behind))) first
     ∙ ap (λ k. directive_from k (after here b) next (piece ++ behind)) (less_one (length piece))
     ∙ behind_bytes piece behind (after here b) next
 
-pub directive-broken : (here : Place) (part : Part) (b : ℕ) (bytes : List ℕ) (why : Refusal) → (b == 10) ≡ false → first_piece here part (b ∷ bytes) ≡ Bad why → directive_from zero here part (b ∷ bytes) ≡ Broken why
+pub directive-broken : (here : Place) (part : Part) (b : ℕ) (bytes : List ℕ) (why : Refusal) → (b == 10) ≡ false
+    → first_piece here part (b ∷ bytes) ≡ Bad why → directive_from zero here part (b ∷ bytes) ≡ Broken why
 directive-broken here part b bytes why other first =
     cond_false (b == 10) (at_stop here (b ∷ bytes) part) _ other
     ∙ ap (λ p. behind_piece p (λ taken more. directive_from taken (after here b) more bytes)) first
@@ -173,7 +193,8 @@ gap_passed gap behind part (IsGap.space b is same) = record {
   is = same;
   other = space_other b is;
   named = space_no_name b is;
-  first = λ here. ap (λ l. first_piece here part (l ++ behind)) same ∙ first_space here part b behind is ∙ ap (λ l. Passed (length l) part) (sym same);
+  first = λ here. ap (λ l. first_piece here part (l ++ behind)) same ∙ first_space here part b behind is
+      ∙ ap (λ l. Passed (length l) part) (sym same);
 }
 gap_passed gap behind part (IsGap.comment is) = record {
   byte = 47;
@@ -195,13 +216,16 @@ line_passed comment behind part is = record {
 }
 
 -- the line goes on behind such a piece
-pub goes_behind : (here : Place) (piece behind : List ℕ) (part next : Part) → IsPassed piece behind part next → directive_from zero here part (piece ++ behind) ≡ directive_from zero (place_after here piece) next behind
+pub goes_behind : (here : Place) (piece behind : List ℕ) (part next : Part) → IsPassed piece behind part next
+    → directive_from zero here part (piece ++ behind) ≡ directive_from zero (place_after here piece) next behind
 goes_behind here piece behind part next is =
     ap (λ l. directive_from zero here part (l ++ behind)) is.is
-    ∙ directive-passed here part next is.byte is.bytes behind is.other (ap (λ l. first_piece here part (l ++ behind)) (sym is.is) ∙ is.first here ∙ ap (λ l. Passed (length l) next) is.is)
+    ∙ directive-passed here part next is.byte is.bytes behind is.other
+    (ap (λ l. first_piece here part (l ++ behind)) (sym is.is) ∙ is.first here ∙ ap (λ l. Passed (length l) next) is.is)
     ∙ ap (λ l. directive_from zero (place_after here l) next behind) (sym is.is)
 
-header_run : (name : List ℕ) (b : ℕ) (rest : List ℕ) → list_all is_header_byte name ≡ true → is_header_byte b ≡ false → prefix_len is_header_byte (name ++ b ∷ rest) ≡ length name
+header_run : (name : List ℕ) (b : ℕ) (rest : List ℕ) → list_all is_header_byte name ≡ true → is_header_byte b ≡ false
+    → prefix_len is_header_byte (name ++ b ∷ rest) ≡ length name
 header_run [] b rest each stops = cond_false (is_header_byte b) (1 + prefix_len is_header_byte rest) 0 stops
 header_run (c ∷ name) b rest each stops =
     let (first, others) = both_true (is_header_byte c) (list_all is_header_byte name) each in
@@ -221,7 +245,8 @@ header_passed hash header behind is = record {
   first = λ here.
       ap (λ l. first_piece here (Include hash) (l ++ behind)) is.is
       ∙ ap (λ l. first_piece here (Include hash) (60 ∷ l)) (append_assoc is.name (62 ∷ []) behind)
-      ∙ cond_true (begins_with_header (60 ∷ (is.name ++ 62 ∷ behind))) (Passed (header_len (60 ∷ (is.name ++ 62 ∷ behind)) + 2) (Header hash)) (Bad (refusal hash 104)) begins
+      ∙ cond_true (begins_with_header (60 ∷ (is.name ++ 62 ∷ behind)))
+      (Passed (header_len (60 ∷ (is.name ++ 62 ∷ behind)) + 2) (Header hash)) (Bad (refusal hash 104)) begins
       ∙ ap (λ n. Passed n (Header hash)) (ap (λ n. n + 2) count ∙ long ∙ sym (ap length is.is));
 }
   where
@@ -238,13 +263,17 @@ header_passed hash header behind is = record {
         next n = omega arith
 
     begins : begins_with_header (60 ∷ (is.name ++ 62 ∷ behind)) ≡ true
-    begins = true_both (nat_le 1 (header_len (60 ∷ (is.name ++ 62 ∷ behind)))) (slice_index (60 ∷ (is.name ++ 62 ∷ behind)) (header_len (60 ∷ (is.name ++ 62 ∷ behind)) + 1) == 62)
+    begins =
+        true_both (nat_le 1 (header_len (60 ∷ (is.name ++ 62 ∷ behind))))
+        (slice_index (60 ∷ (is.name ++ 62 ∷ behind)) (header_len (60 ∷ (is.name ++ 62 ∷ behind)) + 1) == 62)
         (ap (nat_le 1) count ∙ at_least_one (length is.name) is.some)
         (ap (λ n. slice_index (60 ∷ (is.name ++ 62 ∷ behind)) (n + 1) == 62) count ∙ ap (λ x. x == 62) close)
 
-pub include_passed : (hash : Place) (behind : List ℕ) → Stops behind → (here : Place) → first_piece here (Hash hash) (codes "include" ++ behind) ≡ Passed 7 (Include hash)
+pub include_passed : (hash : Place) (behind : List ℕ) → Stops behind → (here : Place)
+    → first_piece here (Hash hash) (codes "include" ++ behind) ≡ Passed 7 (Include hash)
 include_passed hash behind stops here =
-    ap (λ n. cond (bytes_eq (take n (codes "include" ++ behind)) (codes "include")) (Passed 7 (Include hash)) (Bad (refusal hash 104))) (run_len (codes "include") behind refl stops)
+    ap (λ n. cond (bytes_eq (take n (codes "include" ++ behind)) (codes "include")) (Passed 7 (Include hash)) (Bad (refusal hash 104)))
+    (run_len (codes "include") behind refl stops)
 
 -- ---- from the grammar to what is read
 
@@ -259,17 +288,20 @@ Follows AtHash rest = Unit {0}
 Follows AtInclude rest = Stops rest
 Follows AtHeader rest = Unit {0}
 
-follows_passed : (stage : Stage) (piece behind : List ℕ) (part next : Part) → IsPassed piece behind part next → Follows stage (piece ++ behind)
+follows_passed : (stage : Stage) (piece behind : List ℕ) (part next : Part) → IsPassed piece behind part next
+    → Follows stage (piece ++ behind)
 follows_passed AtHash piece behind part next is = tt
 follows_passed AtInclude piece behind part next is = subst (λ l. Stops (l ++ behind)) (sym is.is) is.named
 follows_passed AtHeader piece behind part next is = tt
 
-pub front_read : (hash : Place) (front : List ℕ) (stage : Stage) → IsDirective front stage → (rest : List ℕ) → Follows stage rest → directive_from zero hash LineStart (front ++ rest) ≡ directive_from zero (place_after hash front) (part_at stage hash) rest
+pub front_read : (hash : Place) (front : List ℕ) (stage : Stage) → IsDirective front stage → (rest : List ℕ) → Follows stage rest
+    → directive_from zero hash LineStart (front ++ rest) ≡ directive_from zero (place_after hash front) (part_at stage hash) rest
 front_read hash _ _ IsDirective.hash rest follows = refl
 front_read hash _ _ (IsDirective.include front is) rest follows =
     ap (directive_from zero hash LineStart) (append_assoc front (codes "include") rest)
     ∙ front_read hash front AtHash is (codes "include" ++ rest) tt
-    ∙ directive-passed (place_after hash front) (Hash hash) (Include hash) 105 (codes "nclude") rest refl (include_passed hash rest follows (place_after hash front))
+    ∙ directive-passed (place_after hash front) (Hash hash) (Include hash) 105 (codes "nclude") rest refl
+    (include_passed hash rest follows (place_after hash front))
     ∙ ap (λ p. directive_from zero p (Include hash) rest) (sym (place_after-append front (codes "include") hash))
 front_read hash _ _ (IsDirective.header front header is header_is) rest follows =
     let passed = header_passed hash header rest header_is in
@@ -295,7 +327,8 @@ comment_ends comment behind is = by is.ends
     by (inl none) = inl none
     by (inr (rest, same, free)) = inr (rest, same)
 
-pub include_read : (hash : Place) (line behind : List ℕ) → IsInclude line behind → directive_from zero hash LineStart (line ++ behind) ≡ Complete (place_after hash line) behind
+pub include_read : (hash : Place) (line behind : List ℕ) → IsInclude line behind
+    → directive_from zero hash LineStart (line ++ behind) ≡ Complete (place_after hash line) behind
 include_read hash line behind (IsInclude.bare is ends) =
     front_read hash line AtHeader is behind tt ∙ line_ends (place_after hash line) hash behind ends
 include_read hash line behind (IsInclude.commented front comment is comment_is same) =
@@ -311,12 +344,14 @@ follows_open AtHash rest opens = tt
 follows_open AtInclude rest (body, is, none) = subst Stops (sym is) refl
 follows_open AtHeader rest opens = tt
 
-pub open_read : (here : Place) (part : Part) (bytes : List ℕ) → OpensComment bytes → directive_from zero here part bytes ≡ Broken (refusal here 102)
+pub open_read : (here : Place) (part : Part) (bytes : List ℕ) → OpensComment bytes
+    → directive_from zero here part bytes ≡ Broken (refusal here 102)
 open_read here part bytes (body, is, none) =
     subst (λ l. directive_from zero here part l ≡ Broken (refusal here 102)) (sym is)
     (directive-broken here part 47 (42 ∷ body) (refusal here 102) refl (first_open here part (47 ∷ 42 ∷ body) (body, refl, none)))
 
-pub breaks_read : (hash : Place) (front bytes : List ℕ) → BreaksInclude front bytes → directive_from zero hash LineStart bytes ≡ Broken (refusal (place_after hash front) 102)
+pub breaks_read : (hash : Place) (front bytes : List ℕ) → BreaksInclude front bytes
+    → directive_from zero hash LineStart bytes ≡ Broken (refusal (place_after hash front) 102)
 breaks_read hash front bytes (stage, rest, is, opens, same) =
     ap (directive_from zero hash LineStart) same
     ∙ front_read hash front stage is rest (follows_open stage rest opens)

@@ -25,7 +25,8 @@ all_append p (x ∷ xs) ys f g =
     let both = both_true (p x) (list_all p xs) f in true_both (p x) (list_all p (xs ++ ys)) both.0 (all_append p xs ys both.1 g)
 
 -- of two lists that begin one text, the shorter one begins the longer one
-pub shorter_first : (xs ys us vs : List ℕ) → length xs ≤ length us → xs ++ ys ≡ us ++ vs → (mid : List ℕ) × (us ≡ xs ++ mid) × (ys ≡ mid ++ vs)
+pub shorter_first : (xs ys us vs : List ℕ) → length xs ≤ length us → xs ++ ys ≡ us ++ vs
+    → (mid : List ℕ) × (us ≡ xs ++ mid) × (ys ≡ mid ++ vs)
 shorter_first [] ys us vs short e = (us, refl, e)
 shorter_first (x ∷ xs) ys [] vs short e = absurd (omega arith)
 shorter_first (x ∷ xs) ys (u ∷ us) vs short e =

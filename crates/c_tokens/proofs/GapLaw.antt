@@ -1,5 +1,6 @@
 -- A blank or a comment right behind a token changes nothing but places.
-use Rattle.std.proofs.Common.{◌≡◌, ℕ, suc, Bool, true, false, List, [], ◌∷◌, ◌++◌, length, map, inl, inr, ◌⊎◌, refl, sym, ap, ◌∙◌, subst, append_assoc, arith}
+use Rattle.std.proofs.Common.{◌≡◌, ℕ, suc, Bool, true, false, List, [], ◌∷◌, ◌++◌, length, map, inl, inr, ◌⊎◌, refl, sym, ap, ◌∙◌, subst}
+use Rattle.std.proofs.Common.{append_assoc, arith}
 use Rattle.std.specs.Prelude.{◌==◌, ◌||◌, codes}
 use Rattle.std.proofs.lemmas.Bool.Decides.{nat_tests}
 use Rattle.std.proofs.lemmas.List.{append_cancel_right, map-append}
@@ -37,7 +38,8 @@ line_end_alike one other alike (inr (rest, same)) = inr (alike.more, alike.also 
 line_comment_alike : (comment one other : List ℕ) → StartAlike one other → IsLineComment comment one → IsLineComment comment other
 line_comment_alike comment one other alike is = record { body = is.body; is = is.is; spliced = is.spliced; ends = by is.ends }
   where
-    by : (one ≡ []) ⊎ ((rest : List ℕ) × (one ≡ 10 ∷ rest) × ¬ EndsInBackslash is.body) → (other ≡ []) ⊎ ((rest : List ℕ) × (other ≡ 10 ∷ rest) × ¬ EndsInBackslash is.body)
+    by : (one ≡ []) ⊎ ((rest : List ℕ) × (one ≡ 10 ∷ rest) × ¬ EndsInBackslash is.body)
+        → (other ≡ []) ⊎ ((rest : List ℕ) × (other ≡ 10 ∷ rest) × ¬ EndsInBackslash is.body)
     by (inl none) = let never : [] ≡ alike.byte ∷ alike.rest = sym none ∙ alike.is in absurd cc
     by (inr (rest, same, free)) = inr (alike.more, alike.also ∙ ap (λ b. b ∷ alike.more) (heads (sym alike.is ∙ same)), free)
 
@@ -51,7 +53,8 @@ longest_alike word one other alike is longest =
     subst (IsLongest word) (sym alike.also)
     (next_longest word alike.byte alike.more is (longest_never word alike.byte alike.rest (subst (IsLongest word) alike.is longest)))
 
-piece_alike : (at : Position) (piece one other : List ℕ) (found : List Token) (fresh : Bool) → StartAlike one other → IsPiece at piece one found fresh → IsPiece at piece other found fresh
+piece_alike : (at : Position) (piece one other : List ℕ) (found : List Token) (fresh : Bool) → StartAlike one other
+    → IsPiece at piece one found fresh → IsPiece at piece other found fresh
 piece_alike at piece one other _ _ alike (IsPiece.line_feed is) = IsPiece.line_feed is
 piece_alike at piece one other _ _ alike (IsPiece.gap is) = IsPiece.gap is
 piece_alike at piece one other _ _ alike (IsPiece.line_comment is) = IsPiece.line_comment (line_comment_alike piece one other alike is)
@@ -79,7 +82,8 @@ has_front at to _ rest _ (Reads.piece _ _ piece behind _ found tokens fresh is r
       alike = λ other alike.
           subst (λ l. Reads at l (found ++ tokens) to other) (sym (append_assoc piece more.front other))
           (Reads.piece at to piece (more.front ++ other) other found tokens fresh
-          (piece_alike at piece behind (more.front ++ other) found fresh (subst (λ l. StartAlike l (more.front ++ other)) (sym more.is) (start_append more.front rest other alike)) is)
+          (piece_alike at piece behind (more.front ++ other) found fresh
+          (subst (λ l. StartAlike l (more.front ++ other)) (sym more.is) (start_append more.front rest other alike)) is)
           (more.alike other alike));
     }
 
@@ -96,13 +100,24 @@ pub record Moved (at other : Position) (piece behind : List ℕ) (found : List T
   pub same : map spelling tokens ≡ map spelling found
   pub as_fresh : fresh ≡ true → after ≡ true
 
-piece_moved : (at other : Position) (piece behind : List ℕ) (found : List Token) (fresh : Bool) → AsFresh at other → IsPiece at piece behind found fresh → Moved at other piece behind found fresh
-piece_moved at other piece behind _ _ as_fresh (IsPiece.line_feed is) = record { tokens = []; after = true; is = IsPiece.line_feed is; same = refl; as_fresh = λ e. e }
-piece_moved at other piece behind _ _ as_fresh (IsPiece.gap is) = record { tokens = []; after = other.fresh; is = IsPiece.gap is; same = refl; as_fresh = as_fresh }
-piece_moved at other piece behind _ _ as_fresh (IsPiece.line_comment is) = record { tokens = []; after = other.fresh; is = IsPiece.line_comment is; same = refl; as_fresh = as_fresh }
-piece_moved at other piece behind _ _ as_fresh (IsPiece.include fresh is) = record { tokens = []; after = false; is = IsPiece.include (as_fresh fresh) is; same = refl; as_fresh = λ e. e }
+piece_moved : (at other : Position) (piece behind : List ℕ) (found : List Token) (fresh : Bool) → AsFresh at other
+    → IsPiece at piece behind found fresh → Moved at other piece behind found fresh
+piece_moved at other piece behind _ _ as_fresh (IsPiece.line_feed is) =
+    record { tokens = []; after = true; is = IsPiece.line_feed is; same = refl; as_fresh = λ e. e }
+piece_moved at other piece behind _ _ as_fresh (IsPiece.gap is) =
+    record { tokens = []; after = other.fresh; is = IsPiece.gap is; same = refl; as_fresh = as_fresh }
+piece_moved at other piece behind _ _ as_fresh (IsPiece.line_comment is) =
+    record { tokens = []; after = other.fresh; is = IsPiece.line_comment is; same = refl; as_fresh = as_fresh }
+piece_moved at other piece behind _ _ as_fresh (IsPiece.include fresh is) =
+    record { tokens = []; after = false; is = IsPiece.include (as_fresh fresh) is; same = refl; as_fresh = λ e. e }
 piece_moved at other piece behind _ _ as_fresh (IsPiece.token kind is longest) =
-    record { tokens = token_at kind piece other.place ∷ []; after = false; is = IsPiece.token kind is longest; same = refl; as_fresh = λ e. e }
+    record {
+      tokens = token_at kind piece other.place ∷ [];
+      after = false;
+      is = IsPiece.token kind is longest;
+      same = refl;
+      as_fresh = λ e. e;
+    }
 
 pub record ReadsMoved (other : Position) (bytes rest : List ℕ) (found : List Token) : Type 0 where
   pub tokens : List Token
@@ -110,25 +125,31 @@ pub record ReadsMoved (other : Position) (bytes rest : List ℕ) (found : List T
   pub reads : Reads other bytes tokens end rest
   pub same : map spelling tokens ≡ map spelling found
 
-reads_moved : (at to other : Position) (bytes rest : List ℕ) (found : List Token) → AsFresh at other → Reads at bytes found to rest → ReadsMoved other bytes rest found
-reads_moved at _ other bytes _ _ as_fresh (Reads.none _ _) = record { tokens = []; end = other; reads = Reads.none other bytes; same = refl }
+reads_moved : (at to other : Position) (bytes rest : List ℕ) (found : List Token) → AsFresh at other → Reads at bytes found to rest
+    → ReadsMoved other bytes rest found
+reads_moved at _ other bytes _ _ as_fresh (Reads.none _ _) =
+    record { tokens = []; end = other; reads = Reads.none other bytes; same = refl }
 reads_moved at to other _ rest _ as_fresh (Reads.piece _ _ piece behind _ found tokens fresh is reads) =
     let moved = piece_moved at other piece behind found fresh as_fresh is in
-    let more = reads_moved (behind_piece at piece fresh) to (behind_piece other piece moved.after) behind rest tokens moved.as_fresh reads in
+    let more =
+    reads_moved (behind_piece at piece fresh) to (behind_piece other piece moved.after) behind rest tokens moved.as_fresh reads in
     record {
       tokens = moved.tokens ++ more.tokens;
       end = more.end;
       reads = Reads.piece other more.end piece behind rest moved.tokens more.tokens moved.after moved.is more.reads;
-      same = map-append spelling moved.tokens more.tokens ∙ ap (λ l. l ++ map spelling more.tokens) moved.same ∙ ap (λ l. map spelling found ++ l) more.same ∙ sym (map-append spelling found tokens);
+      same = map-append spelling moved.tokens more.tokens ∙ ap (λ l. l ++ map spelling more.tokens) moved.same
+          ∙ ap (λ l. map spelling found ++ l) more.same ∙ sym (map-append spelling found tokens);
     }
 
 -- ---- reading on behind pieces
 
-reads_on : (at to end : Position) (bytes rest last : List ℕ) (found tokens : List Token) → Reads at bytes found to rest → Reads to rest tokens end last → Reads at bytes (found ++ tokens) end last
+reads_on : (at to end : Position) (bytes rest last : List ℕ) (found tokens : List Token) → Reads at bytes found to rest
+    → Reads to rest tokens end last → Reads at bytes (found ++ tokens) end last
 reads_on at _ end bytes _ last _ tokens (Reads.none _ _) on = on
 reads_on at to end _ rest last _ tokens (Reads.piece _ _ piece behind _ first more fresh is reads) on =
     subst (λ l. Reads at (piece ++ behind) l end last) (sym (append_assoc first more tokens))
-    (Reads.piece at end piece behind last first (more ++ tokens) fresh is (reads_on (behind_piece at piece fresh) to end behind rest last more tokens reads on))
+    (Reads.piece at end piece behind last first (more ++ tokens) fresh is
+    (reads_on (behind_piece at piece fresh) to end behind rest last more tokens reads on))
 
 -- ---- the gap
 
@@ -163,18 +184,25 @@ gap_longest : (word gap back : List ℕ) → IsLexeme word → IsGap gap ⊎ (ga
 gap_longest word gap back is is_gap =
     let first = gap_start gap is_gap in
     subst (λ l. IsLongest word (l ++ back)) (sym first.is)
-    (next_longest word first.byte (first.others ++ back) is (gap_never word first.byte (lexeme_some word is) (gap_no_name first.byte first.blank) (gap_no_sign first.byte first.blank)))
+    (next_longest word first.byte (first.others ++ back) is
+    (gap_never word first.byte (lexeme_some word is) (gap_no_name first.byte first.blank) (gap_no_sign first.byte first.blank)))
 
 -- the gap is a piece behind a token
-gap_piece : (at : Position) (gap back : List ℕ) → at.fresh ≡ false → IsGap gap ⊎ (gap ≡ 10 ∷ []) → (fresh : Bool) × IsPiece at gap back [] fresh
+gap_piece : (at : Position) (gap back : List ℕ) → at.fresh ≡ false → IsGap gap ⊎ (gap ≡ 10 ∷ [])
+    → (fresh : Bool) × IsPiece at gap back [] fresh
 gap_piece at gap back old (inl is) = (at.fresh, IsPiece.gap is)
 gap_piece at gap back old (inr is) = (true, IsPiece.line_feed is)
 
 -- what is read behind pieces of a text that has tokens
-rest_tokens : (found : List Token) (at : Position) (bytes : List ℕ) (tokens : List Token) → with_tokens found (read_at at bytes) ≡ Tokens tokens → (more : List Token) × (end : Position) × Reads at bytes more end [] × (tokens ≡ found ++ (more ++ token_at End (codes "#") end.place ∷ []))
+rest_tokens : (found : List Token) (at : Position) (bytes : List ℕ) (tokens : List Token)
+    → with_tokens found (read_at at bytes) ≡ Tokens tokens
+    → (more : List Token) × (end : Position) × Reads at bytes more end []
+    × (tokens ≡ found ++ (more ++ token_at End (codes "#") end.place ∷ []))
 rest_tokens found at bytes tokens e = by (read_at at bytes) refl (told (suc (length bytes)) at bytes (omega arith))
   where
-    by : (read : Reading) → read_at at bytes ≡ read → Told at bytes read → (more : List Token) × (end : Position) × Reads at bytes more end [] × (tokens ≡ found ++ (more ++ token_at End (codes "#") end.place ∷ []))
+    by : (read : Reading) → read_at at bytes ≡ read → Told at bytes read
+        → (more : List Token) × (end : Position) × Reads at bytes more end []
+        × (tokens ≡ found ++ (more ++ token_at End (codes "#") end.place ∷ []))
     by (Refused why) is told =
         let never : Refused why ≡ Tokens tokens = sym (with_tokens-refused found why) ∙ ap (with_tokens found) (sym is) ∙ e in absurd cc
     by (Tokens all) is (more, end, reads, same) =
@@ -183,15 +211,25 @@ rest_tokens found at bytes tokens e = by (read_at at bytes) refl (told (suc (len
         tokens_of : {one other : List Token} → Tokens one ≡ Tokens other → one ≡ other
         tokens_of e = cc
 
-spellings : (kind : TokenKind) (word : List ℕ) (at : Position) (found more moved all : List Token) (end last : Position) → all ≡ (found ++ token_at kind word at.place ∷ []) ++ (more ++ token_at End (codes "#") end.place ∷ []) → map spelling moved ≡ map spelling more → map spelling ((found ++ token_at kind word at.place ∷ moved) ++ token_at End (codes "#") last.place ∷ []) ≡ map spelling all
+spellings : (kind : TokenKind) (word : List ℕ) (at : Position) (found more moved all : List Token) (end last : Position)
+    → all ≡ (found ++ token_at kind word at.place ∷ []) ++ (more ++ token_at End (codes "#") end.place ∷ [])
+    → map spelling moved ≡ map spelling more
+    → map spelling ((found ++ token_at kind word at.place ∷ moved) ++ token_at End (codes "#") last.place ∷ []) ≡ map spelling all
 spellings kind word at found more moved all end last all_is same =
     map-append spelling (found ++ token_at kind word at.place ∷ moved) (token_at End (codes "#") last.place ∷ [])
-    ∙ ap (λ l. l ++ spelling (token_at End (codes "#") last.place) ∷ []) (map-append spelling found (token_at kind word at.place ∷ moved) ∙ ap (λ l. map spelling found ++ spelling (token_at kind word at.place) ∷ l) same)
-    ∙ sym (ap (map spelling) all_is ∙ map-append spelling (found ++ token_at kind word at.place ∷ []) (more ++ token_at End (codes "#") end.place ∷ [])
-    ∙ ap (λ l. l ++ map spelling (more ++ token_at End (codes "#") end.place ∷ [])) (map-append spelling found (token_at kind word at.place ∷ []))
-    ∙ ap (λ l. (map spelling found ++ spelling (token_at kind word at.place) ∷ []) ++ l) (map-append spelling more (token_at End (codes "#") end.place ∷ []))
-    ∙ append_assoc (map spelling found) (spelling (token_at kind word at.place) ∷ []) (map spelling more ++ spelling (token_at End (codes "#") end.place) ∷ [])
-    ∙ sym (append_assoc (map spelling found) (spelling (token_at kind word at.place) ∷ map spelling more) (spelling (token_at End (codes "#") end.place) ∷ [])))
+    ∙ ap (λ l. l ++ spelling (token_at End (codes "#") last.place) ∷ [])
+    (map-append spelling found (token_at kind word at.place ∷ moved)
+    ∙ ap (λ l. map spelling found ++ spelling (token_at kind word at.place) ∷ l) same)
+    ∙ sym (ap (map spelling) all_is
+    ∙ map-append spelling (found ++ token_at kind word at.place ∷ []) (more ++ token_at End (codes "#") end.place ∷ [])
+    ∙ ap (λ l. l ++ map spelling (more ++ token_at End (codes "#") end.place ∷ []))
+    (map-append spelling found (token_at kind word at.place ∷ []))
+    ∙ ap (λ l. (map spelling found ++ spelling (token_at kind word at.place) ∷ []) ++ l)
+    (map-append spelling more (token_at End (codes "#") end.place ∷ []))
+    ∙ append_assoc (map spelling found) (spelling (token_at kind word at.place) ∷ [])
+    (map spelling more ++ spelling (token_at End (codes "#") end.place) ∷ [])
+    ∙ sym (append_assoc (map spelling found) (spelling (token_at kind word at.place) ∷ map spelling more)
+    (spelling (token_at End (codes "#") end.place) ∷ [])))
 
 pub keep_tokens : KeepTokens
 keep_tokens front gap back tokens ends is_gap has =
@@ -201,7 +239,8 @@ keep_tokens front gap back tokens ends is_gap has =
     let behind = behind_piece ends.at ends.word false in
     let token : List Token = token_at ends.kind ends.word ends.at.place ∷ [] in
     -- the texts up to the token
-    let front_is : front ≡ front_has.front ++ ends.word = append_cancel_right front (front_has.front ++ ends.word) back (front_has.is ∙ sym (append_assoc front_has.front ends.word back)) in
+    let front_is : front ≡ front_has.front ++ ends.word =
+    append_cancel_right front (front_has.front ++ ends.word) back (front_has.is ∙ sym (append_assoc front_has.front ends.word back)) in
     let alike : StartAlike (ends.word ++ back) (ends.word ++ (gap ++ back)) = record {
       byte = first.byte;
       rest = first.others ++ back;
@@ -211,16 +250,30 @@ keep_tokens front gap back tokens ends is_gap has =
     } in
     let up_to = front_has.alike (ends.word ++ (gap ++ back)) alike in
     -- what stands behind it
-    let old_token = Reads.piece ends.at behind ends.word back back token [] false (IsPiece.token ends.kind ends.token ends.longest) (Reads.none behind back) in
+    let old_token =
+    Reads.piece ends.at behind ends.word back back token [] false (IsPiece.token ends.kind ends.token ends.longest)
+    (Reads.none behind back) in
     let old_reads = reads_on start ends.at behind (front ++ back) (ends.word ++ back) back ends.found token ends.reads old_token in
-    let (more, end, reads, all_is) = rest_tokens (ends.found ++ token) behind back tokens (sym (reads_read start behind (front ++ back) back (ends.found ++ token) old_reads) ∙ tokens_read (front ++ back) tokens has) in
+    let (more, end, reads, all_is) =
+    rest_tokens (ends.found ++ token) behind back tokens
+    (sym (reads_read start behind (front ++ back) back (ends.found ++ token) old_reads) ∙ tokens_read (front ++ back) tokens has) in
     let (fresh, gap_is) = gap_piece behind gap back refl is_gap in
     let moved = reads_moved behind end (behind_piece behind gap fresh) back [] more (λ e. absurd cc) reads in
-    let new_rest = Reads.piece ends.at moved.end ends.word (gap ++ back) [] token moved.tokens false (IsPiece.token ends.kind ends.token (gap_longest ends.word gap back lexeme is_gap))
+    let new_rest =
+    Reads.piece ends.at moved.end ends.word (gap ++ back) [] token moved.tokens false
+    (IsPiece.token ends.kind ends.token (gap_longest ends.word gap back lexeme is_gap))
     (Reads.piece behind moved.end gap back [] [] moved.tokens fresh gap_is moved.reads) in
-    let new_reads = reads_on start ends.at moved.end (front_has.front ++ (ends.word ++ (gap ++ back))) (ends.word ++ (gap ++ back)) [] ends.found (token ++ moved.tokens) up_to new_rest in
-    let whole : front_has.front ++ (ends.word ++ (gap ++ back)) ≡ front ++ (gap ++ back) = sym (append_assoc front_has.front ends.word (gap ++ back)) ∙ ap (λ l. l ++ (gap ++ back)) (sym front_is) in (
+    let new_reads =
+    reads_on start ends.at moved.end (front_has.front ++ (ends.word ++ (gap ++ back))) (ends.word ++ (gap ++ back)) [] ends.found
+    (token ++ moved.tokens) up_to new_rest in
+    let whole : front_has.front ++ (ends.word ++ (gap ++ back)) ≡ front ++ (gap ++ back) =
+    sym (append_assoc front_has.front ends.word (gap ++ back)) ∙ ap (λ l. l ++ (gap ++ back)) (sym front_is) in (
       (ends.found ++ (token ++ moved.tokens)) ++ token_at End (codes "#") moved.end.place ∷ [],
-      record { found = ends.found ++ (token ++ moved.tokens); end = moved.end; reads = subst (λ l. Reads start l (ends.found ++ (token ++ moved.tokens)) moved.end []) whole new_reads; is = refl },
+      record {
+        found = ends.found ++ (token ++ moved.tokens);
+        end = moved.end;
+        reads = subst (λ l. Reads start l (ends.found ++ (token ++ moved.tokens)) moved.end []) whole new_reads;
+        is = refl;
+      },
       spellings ends.kind ends.word ends.at ends.found more moved.tokens tokens end moved.end all_is moved.same,
     )

@@ -1,5 +1,6 @@
 -- The longest lexeme at a place: a run of letters, digits and underscores, or a sign.
-use Rattle.std.proofs.Common.{◌≡◌, ◌≢◌, ℕ, zero, suc, ◌+◌, ◌<◌, ◌≤◌, Bool, true, false, cond, List, [], ◌∷◌, ◌++◌, length, inl, inr, ◌⊎◌, refl, sym, ap, ◌∙◌, subst, append_assoc, arith}
+use Rattle.std.proofs.Common.{◌≡◌, ◌≢◌, ℕ, zero, suc, ◌+◌, ◌<◌, ◌≤◌, Bool, true, false, cond, List, [], ◌∷◌, ◌++◌, length, inl, inr, ◌⊎◌}
+use Rattle.std.proofs.Common.{refl, sym, ap, ◌∙◌, subst, append_assoc, arith}
 use Rattle.std.specs.Prelude.{◌==◌, ◌&&◌, ◌||◌, not, nat_le, slice_index}
 use Rattle.std.specs.List.{list_all, list_any, prefix_len}
 use Rattle.std.specs.Str.{bytes_eq}
@@ -15,17 +16,21 @@ use Rattle.c_tokens.proofs.Booleans.{both_true, true_both, cond_true, cond_false
 use Rattle.c_tokens.proofs.Fronts.{heads, tails, in_all, all_append, shorter_first}
 
 -- what holds of each word of a list holds of one that is found in it
-pub found_in : (p : List ℕ → Bool) (words : List (List ℕ)) (word : List ℕ) → list_any (λ other. bytes_eq other word) words ≡ true → list_all p words ≡ true → p word ≡ true
+pub found_in : (p : List ℕ → Bool) (words : List (List ℕ)) (word : List ℕ) → list_any (λ other. bytes_eq other word) words ≡ true
+    → list_all p words ≡ true → p word ≡ true
 found_in p [] word found each = absurd cc
-found_in p (other ∷ words) word found each = by (bytes_eq other word) refl (λ more. found_in p words word more (both_true (p other) (list_all p words) each).1)
+found_in p (other ∷ words) word found each =
+    by (bytes_eq other word) refl (λ more. found_in p words word more (both_true (p other) (list_all p words) each).1)
   where
     by : (c : Bool) → bytes_eq other word ≡ c → (list_any (λ other. bytes_eq other word) words ≡ true → p word ≡ true) → p word ≡ true
     by true e more = subst (λ w. p w ≡ true) ((bytes_eq-Decides other word).0 e) (both_true (p other) (list_all p words) each).0
     by false e more = more (sym (ap (λ t. t || list_any (λ other. bytes_eq other word) words) e) ∙ found)
 
-pub found_byte : (p : ℕ → Bool) (bytes : List ℕ) (byte : ℕ) → list_any (λ other. other == byte) bytes ≡ true → list_all p bytes ≡ true → p byte ≡ true
+pub found_byte : (p : ℕ → Bool) (bytes : List ℕ) (byte : ℕ) → list_any (λ other. other == byte) bytes ≡ true → list_all p bytes ≡ true
+    → p byte ≡ true
 found_byte p [] byte found each = absurd cc
-found_byte p (other ∷ bytes) byte found each = by (other == byte) refl (λ more. found_byte p bytes byte more (both_true (p other) (list_all p bytes) each).1)
+found_byte p (other ∷ bytes) byte found each =
+    by (other == byte) refl (λ more. found_byte p bytes byte more (both_true (p other) (list_all p bytes) each).1)
   where
     by : (c : Bool) → (other == byte) ≡ c → (list_any (λ other. other == byte) bytes ≡ true → p byte ≡ true) → p byte ≡ true
     by true e more = subst (λ b. p b ≡ true) (eqb-true other byte e) (both_true (p other) (list_all p bytes) each).0
@@ -34,7 +39,9 @@ found_byte p (other ∷ bytes) byte found each = by (other == byte) refl (λ mor
 -- ---- signs
 
 abbrev is_long_shape : List ℕ → Bool
-is_long_shape word = (length word == 2) && (not (is_name_byte (slice_index word 0)) && (not (slice_index word 0 == 35) && (not (slice_index word 0 == 47) && not (is_blank (slice_index word 0)))))
+is_long_shape word = (length word == 2)
+    && (not (is_name_byte (slice_index word 0))
+    && (not (slice_index word 0 == 35) && (not (slice_index word 0 == 47) && not (is_blank (slice_index word 0)))))
 
 long_shapes : list_all is_long_shape long_signs ≡ true
 long_shapes = refl
@@ -150,7 +157,15 @@ run_of (b ∷ bytes) = by (is_name_byte b) refl (run_of bytes)
       each = true_both (is_name_byte b) (list_all is_name_byte more.word) e more.each;
       stops = more.stops;
     }
-    by false e more = record { word = []; rest = b ∷ bytes; is = refl; count = cond_false (is_name_byte b) (1 + prefix_len is_name_byte bytes) 0 e; each = refl; stops = e }
+    by false e more =
+        record {
+          word = [];
+          rest = b ∷ bytes;
+          is = refl;
+          count = cond_false (is_name_byte b) (1 + prefix_len is_name_byte bytes) 0 e;
+          each = refl;
+          stops = e;
+        }
 
 pub run_len : (word rest : List ℕ) → list_all is_name_byte word ≡ true → Stops rest → prefix_len is_name_byte (word ++ rest) ≡ length word
 run_len [] [] each stops = refl
@@ -161,7 +176,8 @@ run_len (b ∷ word) rest each stops =
     cond_true (is_name_byte b) (1 + prefix_len is_name_byte (word ++ rest)) 0 first ∙ omega arith
 
 -- no run goes on behind its stop
-run_longest : (word rest other behind : List ℕ) → Stops rest → list_all is_name_byte other ≡ true → word ++ rest ≡ other ++ behind → length other ≤ length word
+run_longest : (word rest other behind : List ℕ) → Stops rest → list_all is_name_byte other ≡ true → word ++ rest ≡ other ++ behind
+    → length other ≤ length word
 run_longest word rest other behind stops each e = by (cases_lt (length word) (length other))
   where
     longer : (mid rest : List ℕ) → Stops rest → length word < length other → other ≡ word ++ mid → rest ≡ mid ++ behind → ⊥
@@ -224,17 +240,21 @@ abbrev pub SignCut : List ℕ → ℕ → Type 0
 SignCut bytes zero = (word behind : List ℕ) → IsLexeme word → bytes ≢ word ++ behind
 SignCut bytes (suc n) = (word behind : List ℕ) × (bytes ≡ word ++ behind) × (length word ≡ suc n) × IsSign word × IsLongest word behind
 
-pub sign_longest : (a : ℕ) (word behind : List ℕ) → is_name_byte a ≡ false → ((b : ℕ) (rest : List ℕ) → word ++ behind ≡ a ∷ b ∷ rest → is_long_sign (a ∷ b ∷ []) ≡ true → 2 ≤ length word) → 1 ≤ length word → (rest : List ℕ) → word ++ behind ≡ a ∷ rest → IsLongest word behind
+pub sign_longest : (a : ℕ) (word behind : List ℕ) → is_name_byte a ≡ false
+    → ((b : ℕ) (rest : List ℕ) → word ++ behind ≡ a ∷ b ∷ rest → is_long_sign (a ∷ b ∷ []) ≡ true → 2 ≤ length word) → 1 ≤ length word
+    → (rest : List ℕ) → word ++ behind ≡ a ∷ rest → IsLongest word behind
 sign_longest a word behind other long some rest starts lexeme after is e = by lexeme (shape lexeme is) e
   where
     by : (lexeme : List ℕ) → Shape lexeme → word ++ behind ≡ lexeme ++ after → length lexeme ≤ length word
-    by _ (Shape.of_run c more first each) e = let never : true ≡ false = sym first ∙ ap is_name_byte (heads (sym e ∙ starts)) ∙ other in absurd cc
+    by _ (Shape.of_run c more first each) e =
+        let never : true ≡ false = sym first ∙ ap is_name_byte (heads (sym e ∙ starts)) ∙ other in absurd cc
     by _ (Shape.of_short c is) e = some
     by _ (Shape.of_long c d is start) e =
         let same : c ≡ a = heads (sym e ∙ starts) in
         long d after (e ∙ ap (λ x. x ∷ d ∷ after) same) (subst (λ x. is_long_sign (x ∷ d ∷ []) ≡ true) same is)
 
-no_sign : (a : ℕ) (bytes : List ℕ) → is_name_byte a ≡ false → is_short_sign a ≡ false → ((b : ℕ) (rest : List ℕ) → bytes ≡ b ∷ rest → is_long_sign (a ∷ b ∷ []) ≡ false) → SignCut (a ∷ bytes) zero
+no_sign : (a : ℕ) (bytes : List ℕ) → is_name_byte a ≡ false → is_short_sign a ≡ false
+    → ((b : ℕ) (rest : List ℕ) → bytes ≡ b ∷ rest → is_long_sign (a ∷ b ∷ []) ≡ false) → SignCut (a ∷ bytes) zero
 no_sign a bytes other short long lexeme after is e = by lexeme (shape lexeme is) e
   where
     by : (lexeme : List ℕ) → Shape lexeme → a ∷ bytes ≡ lexeme ++ after → ⊥
@@ -248,8 +268,15 @@ sign_cut a [] other = by (is_short_sign a) refl
   where
     by : (c : Bool) → is_short_sign a ≡ c → SignCut (a ∷ []) (cond (is_short_sign a) 1 0)
     by true e =
-        subst (SignCut (a ∷ [])) (sym (cond_true (is_short_sign a) 1 0 e))
-        (a ∷ [], [], refl, refl, inl (a, e, refl), sign_longest a (a ∷ []) [] other (λ b rest f is. absurd (no_tail (tails f))) (omega arith) [] refl)
+        subst (SignCut (a ∷ [])) (sym (cond_true (is_short_sign a) 1 0 e)) (
+          a ∷ [],
+          [],
+          refl,
+          refl,
+          inl (a, e, refl),
+          sign_longest a (a ∷ []) [] other (λ b rest f is. absurd (no_tail (tails f)))
+              (omega arith) [] refl,
+        )
       where
         no_tail : {b : ℕ} {rest : List ℕ} → [] ≡ b ∷ rest → ⊥
         no_tail f = cc
@@ -258,22 +285,40 @@ sign_cut a (b ∷ bytes) other = subst (SignCut (a ∷ b ∷ bytes)) (sym (sign_
   where
     short : (c : Bool) → is_long_sign (a ∷ b ∷ []) ≡ false → is_short_sign a ≡ c → SignCut (a ∷ b ∷ bytes) (cond (is_short_sign a) 1 0)
     short true f e =
-        subst (SignCut (a ∷ b ∷ bytes)) (sym (cond_true (is_short_sign a) 1 0 e))
-        (a ∷ [], b ∷ bytes, refl, refl, inl (a, e, refl), sign_longest a (a ∷ []) (b ∷ bytes) other (λ d rest g is. let never : true ≡ false = sym is ∙ ap (λ x. is_long_sign (a ∷ x ∷ [])) (heads (tails (sym g))) ∙ f in absurd cc) (omega arith) (b ∷ bytes) refl)
+        subst (SignCut (a ∷ b ∷ bytes)) (sym (cond_true (is_short_sign a) 1 0 e)) (
+          a ∷ [],
+          b ∷ bytes,
+          refl,
+          refl,
+          inl (a, e, refl),
+          sign_longest a (a ∷ []) (b ∷ bytes) other
+              (λ d rest g is. let never : true ≡ false = sym is ∙ ap (λ x. is_long_sign (a ∷ x ∷ [])) (heads (tails (sym g)))
+              ∙ f in absurd cc)
+              (omega arith) (b ∷ bytes) refl,
+        )
     short false f e =
         subst (SignCut (a ∷ b ∷ bytes)) (sym (cond_false (is_short_sign a) 1 0 e))
         (no_sign a (b ∷ bytes) other e (λ d rest g. ap (λ x. is_long_sign (a ∷ x ∷ [])) (heads (sym g)) ∙ f))
 
-    long : (c : Bool) → is_long_sign (a ∷ b ∷ []) ≡ c → SignCut (a ∷ b ∷ bytes) (cond (is_long_sign (a ∷ b ∷ [])) 2 (cond (is_short_sign a) 1 0))
+    long : (c : Bool) → is_long_sign (a ∷ b ∷ []) ≡ c
+        → SignCut (a ∷ b ∷ bytes) (cond (is_long_sign (a ∷ b ∷ [])) 2 (cond (is_short_sign a) 1 0))
     long true e =
-        subst (SignCut (a ∷ b ∷ bytes)) (sym (cond_true (is_long_sign (a ∷ b ∷ [])) 2 (cond (is_short_sign a) 1 0) e))
-        (a ∷ b ∷ [], bytes, refl, refl, inr (e), sign_longest a (a ∷ b ∷ []) bytes other (λ d rest f is. omega arith) (omega arith) (b ∷ bytes) refl)
+        subst (SignCut (a ∷ b ∷ bytes)) (sym (cond_true (is_long_sign (a ∷ b ∷ [])) 2 (cond (is_short_sign a) 1 0) e)) (
+          a ∷ b ∷ [],
+          bytes,
+          refl,
+          refl,
+          inr (e),
+          sign_longest a (a ∷ b ∷ []) bytes other (λ d rest f is. omega arith) (omega arith)
+              (b ∷ bytes) refl,
+        )
     long false e =
         subst (SignCut (a ∷ b ∷ bytes)) (sym (cond_false (is_long_sign (a ∷ b ∷ [])) 2 (cond (is_short_sign a) 1 0) e))
         (short (is_short_sign a) e refl)
 
 -- two longest lexemes of one text are the same
-pub same_longest : (word behind other after : List ℕ) → IsLexeme word → IsLexeme other → IsLongest word behind → IsLongest other after → word ++ behind ≡ other ++ after → (word ≡ other) × (behind ≡ after)
+pub same_longest : (word behind other after : List ℕ) → IsLexeme word → IsLexeme other → IsLongest word behind → IsLongest other after
+    → word ++ behind ≡ other ++ after → (word ≡ other) × (behind ≡ after)
 same_longest word behind other after is are one two e =
     let low = one other after are e in
     let high = two word behind is (sym e) in
@@ -285,7 +330,8 @@ same_longest word behind other after is are one two e =
     by (m ∷ mid) same f low = let long = ap length same ∙ length-append word (m ∷ mid) in absurd (omega arith)
 
 -- the sign that a text begins with is as long as the scan says
-pub sign_scanned : (a : ℕ) (word behind : List ℕ) → is_name_byte a ≡ false → IsSign (a ∷ word) → IsLongest (a ∷ word) behind → sign_len (a ∷ (word ++ behind)) ≡ length (a ∷ word)
+pub sign_scanned : (a : ℕ) (word behind : List ℕ) → is_name_byte a ≡ false → IsSign (a ∷ word) → IsLongest (a ∷ word) behind
+    → sign_len (a ∷ (word ++ behind)) ≡ length (a ∷ word)
 sign_scanned a word behind other is longest = by (sign_len (a ∷ (word ++ behind))) (sign_cut a (word ++ behind) other)
   where
     by : (n : ℕ) → SignCut (a ∷ (word ++ behind)) n → n ≡ length (a ∷ word)
@@ -294,7 +340,8 @@ sign_scanned a word behind other is longest = by (sign_len (a ∷ (word ++ behin
         let same = same_longest (a ∷ word) behind found after (IsLexeme.sign is) (IsLexeme.sign sign) longest first e in
         sym long ∙ ap length (sym same.0)
 
-pub no_sign_scanned : (a : ℕ) (bytes : List ℕ) → is_name_byte a ≡ false → ((word behind : List ℕ) → IsLexeme word → a ∷ bytes ≢ word ++ behind) → sign_len (a ∷ bytes) ≡ 0
+pub no_sign_scanned : (a : ℕ) (bytes : List ℕ) → is_name_byte a ≡ false
+    → ((word behind : List ℕ) → IsLexeme word → a ∷ bytes ≢ word ++ behind) → sign_len (a ∷ bytes) ≡ 0
 no_sign_scanned a bytes other none = by (sign_len (a ∷ bytes)) (sign_cut a bytes other)
   where
     by : (n : ℕ) → SignCut (a ∷ bytes) n → n ≡ 0
@@ -307,7 +354,8 @@ next_longest word c rest (IsLexeme.name is) never = by word is never
   where
     by : (word : List ℕ) → IsCName word → ¬ IsLexeme (word ++ c ∷ []) → IsLongest word (c ∷ rest)
     by [] is never = let some = is.some in absurd (omega arith)
-    by (a ∷ word) is never = run_is_longest a word (c ∷ rest) (both_true (is_name_byte a) (list_all is_name_byte word) is.each).0 (stop (is_name_byte c) refl)
+    by (a ∷ word) is never =
+        run_is_longest a word (c ∷ rest) (both_true (is_name_byte a) (list_all is_name_byte word) is.each).0 (stop (is_name_byte c) refl)
       where
         stop : (d : Bool) → is_name_byte c ≡ d → is_name_byte c ≡ false
         stop true e = absurd (never (IsLexeme.name (name_goes_on (a ∷ word) is c e)))
@@ -316,7 +364,8 @@ next_longest word c rest (IsLexeme.numeral is) never = by word is never
   where
     by : (word : List ℕ) → IsNumeral word → ¬ IsLexeme (word ++ c ∷ []) → IsLongest word (c ∷ rest)
     by [] is never = let some = is.some in absurd (omega arith)
-    by (a ∷ word) is never = run_is_longest a word (c ∷ rest) (both_true (is_name_byte a) (list_all is_name_byte word) is.each).0 (stop (is_name_byte c) refl)
+    by (a ∷ word) is never =
+        run_is_longest a word (c ∷ rest) (both_true (is_name_byte a) (list_all is_name_byte word) is.each).0 (stop (is_name_byte c) refl)
       where
         stop : (d : Bool) → is_name_byte c ≡ d → is_name_byte c ≡ false
         stop true e = absurd (never (IsLexeme.numeral (numeral_goes_on (a ∷ word) is c e)))
@@ -327,11 +376,14 @@ next_longest word c rest (IsLexeme.sign (inl (byte, is, same))) never =
   where
     two : (b : ℕ) (more : List ℕ) → byte ∷ c ∷ rest ≡ byte ∷ b ∷ more → is_long_sign (byte ∷ b ∷ []) ≡ true → 2 ≤ 1
     two b more e long =
-        absurd (never (subst (λ w. IsLexeme (w ++ c ∷ [])) (sym same) (subst (λ x. IsLexeme (byte ∷ x ∷ [])) (heads (sym (tails e))) (IsLexeme.sign (inr long)))))
+        absurd (never
+        (subst (λ w. IsLexeme (w ++ c ∷ [])) (sym same)
+        (subst (λ x. IsLexeme (byte ∷ x ∷ [])) (heads (sym (tails e))) (IsLexeme.sign (inr long)))))
 next_longest word c rest (IsLexeme.sign (inr is)) never =
     let two = long_two word is in
     subst (λ w. IsLongest w (c ∷ rest)) (sym two.is)
-    (sign_longest two.first (two.first ∷ two.second ∷ []) (c ∷ rest) two.start.other (λ b more e long. omega arith) (omega arith) (two.second ∷ c ∷ rest) refl)
+    (sign_longest two.first (two.first ∷ two.second ∷ []) (c ∷ rest) two.start.other (λ b more e long. omega arith) (omega arith)
+    (two.second ∷ c ∷ rest) refl)
 
 -- a longest lexeme goes on to no other
 pub longest_never : (word : List ℕ) (c : ℕ) (rest : List ℕ) → IsLongest word (c ∷ rest) → ¬ IsLexeme (word ++ c ∷ [])
@@ -340,7 +392,8 @@ longest_never word c rest longest is =
     let more = length-append word (c ∷ []) in omega arith
 
 -- a byte that is no part of a name and no second byte of a sign ends each lexeme
-pub gap_never : (word : List ℕ) (g : ℕ) → 0 < length word → is_name_byte g ≡ false → ((a : ℕ) → is_long_sign (a ∷ g ∷ []) ≡ false) → ¬ IsLexeme (word ++ g ∷ [])
+pub gap_never : (word : List ℕ) (g : ℕ) → 0 < length word → is_name_byte g ≡ false → ((a : ℕ) → is_long_sign (a ∷ g ∷ []) ≡ false)
+    → ¬ IsLexeme (word ++ g ∷ [])
 gap_never word g some other second is = by (word ++ g ∷ []) refl (shape (word ++ g ∷ []) is)
   where
     two : (word : List ℕ) (a b : ℕ) → 0 < length word → word ++ g ∷ [] ≡ a ∷ b ∷ [] → g ≡ b

@@ -1,5 +1,6 @@
 -- The first piece of a text, by what stands there.
-use Rattle.std.proofs.Common.{◌≡◌, ◌≢◌, ℕ, suc, ◌+◌, Bool, true, false, List, [], ◌∷◌, ◌++◌, length, inl, inr, ◌⊎◌, refl, sym, ap, ◌∙◌, subst, append_assoc, arith}
+use Rattle.std.proofs.Common.{◌≡◌, ◌≢◌, ℕ, suc, ◌+◌, Bool, true, false, List, [], ◌∷◌, ◌++◌, length, inl, inr, ◌⊎◌, refl, sym, ap, ◌∙◌}
+use Rattle.std.proofs.Common.{subst, append_assoc, arith}
 use Rattle.std.specs.Prelude.{◌==◌, ◌&&◌, ◌||◌, Option, Some, None, slice_index, codes}
 use Rattle.std.proofs.lemmas.Bool.{eqb-true}
 use Rattle.std.proofs.lemmas.Bool.Decides.{nat_tests}
@@ -22,7 +23,8 @@ use Rattle.c_tokens.proofs.LineComments.{scanned_line, line_scanned}
 block_found : (body rest : List ℕ) → IsBody body → block_end 0 Other (body ++ 47 ∷ rest) ≡ Some (length body + 1)
 block_found body rest is = by (block_end 0 Other (body ++ 47 ∷ rest)) refl (scanned (body ++ 47 ∷ rest))
   where
-    by : (end : Option ℕ) → block_end 0 Other (body ++ 47 ∷ rest) ≡ end → Scanned (body ++ 47 ∷ rest) end → block_end 0 Other (body ++ 47 ∷ rest) ≡ Some (length body + 1)
+    by : (end : Option ℕ) → block_end 0 Other (body ++ 47 ∷ rest) ≡ end → Scanned (body ++ 47 ∷ rest) end
+        → block_end 0 Other (body ++ 47 ∷ rest) ≡ Some (length body + 1)
     by None e none = absurd (none (subst HasCommentEnd (append_assoc body (47 ∷ []) rest) (has_more (body ++ 47 ∷ []) rest is.0)))
     by (Some n) e (other, behind, are, same, count) =
         e ∙ ap (λ k. Some k) (count ∙ ap (λ l. length l + 1) (sym (same_body body other rest behind is are same).0))
@@ -40,11 +42,13 @@ open_found body none = by (block_end 0 Other body) refl (scanned body)
 space_no_feed : (b : ℕ) → is_space b ≡ true → (b == 10) ≡ false
 space_no_feed b e = grind (arith, nat_tests)
 
-pub first_space : (here : Place) (part : Part) (b : ℕ) (rest : List ℕ) → is_space b ≡ true → first_piece here part (b ∷ rest) ≡ Passed 1 part
+pub first_space : (here : Place) (part : Part) (b : ℕ) (rest : List ℕ) → is_space b ≡ true
+    → first_piece here part (b ∷ rest) ≡ Passed 1 part
 first_space here part b rest e =
     cond_false (b == 10) _ _ (space_no_feed b e) ∙ cond_true (is_blank b) _ _ (ap (λ t. t || b == 10) e)
 
-pub first_line : (here : Place) (part : Part) (comment behind : List ℕ) → IsLineComment comment behind → first_piece here part (comment ++ behind) ≡ Passed (length comment) part
+pub first_line : (here : Place) (part : Part) (comment behind : List ℕ) → IsLineComment comment behind
+    → first_piece here part (comment ++ behind) ≡ Passed (length comment) part
 first_line here part comment behind is =
     ap (λ l. first_piece here part (l ++ behind)) is.is
     ∙ ap (λ n. Passed n part) (ap (λ n. n + 2) (line_scanned comment behind is) ∙ two (length is.body) ∙ sym (ap length is.is))
@@ -52,7 +56,8 @@ first_line here part comment behind is =
     two : (n : ℕ) → n + 2 ≡ suc (suc n)
     two n = omega arith
 
-pub first_block : (here : Place) (part : Part) (comment behind : List ℕ) → IsBlockComment comment → first_piece here part (comment ++ behind) ≡ Passed (length comment) part
+pub first_block : (here : Place) (part : Part) (comment behind : List ℕ) → IsBlockComment comment
+    → first_piece here part (comment ++ behind) ≡ Passed (length comment) part
 first_block here part comment behind is =
     ap (λ l. first_piece here part (l ++ behind)) is.is
     ∙ ap (λ l. block_piece here part (block_end 0 Other l)) (append_assoc is.body (47 ∷ []) behind)
@@ -69,7 +74,8 @@ first_open here part bytes (body, is, none) =
 blank_no_feed : (b : ℕ) → is_blank b ≡ false → (b == 10) ≡ false
 blank_no_feed b e = grind (arith, nat_tests)
 
-no_second : (b : ℕ) (rest : List ℕ) (second : ℕ) → ((more : List ℕ) → b ∷ rest ≢ 47 ∷ second ∷ more) → (0 == second) ≡ false → (b == 47 && slice_index (b ∷ rest) 1 == second) ≡ false
+no_second : (b : ℕ) (rest : List ℕ) (second : ℕ) → ((more : List ℕ) → b ∷ rest ≢ 47 ∷ second ∷ more) → (0 == second) ≡ false
+    → (b == 47 && slice_index (b ∷ rest) 1 == second) ≡ false
 no_second b [] second none zero_other = and_second (b == 47) (0 == second) zero_other
 no_second b (c ∷ rest) second none zero_other = by (b == 47) (c == second) refl refl
   where
@@ -78,7 +84,8 @@ no_second b (c ∷ rest) second none zero_other = by (b == 47) (c == second) ref
     by true false e f = and_second (b == 47) (c == second) f
     by true true e f = absurd (none rest (ap (λ x. x ∷ c ∷ rest) (eqb-true b 47 e) ∙ ap (λ x. 47 ∷ x ∷ rest) (eqb-true c second f)))
 
-pub first_bare : (here : Place) (part : Part) (b : ℕ) (rest : List ℕ) → is_blank b ≡ false → ¬ BeginsComment (b ∷ rest) → first_piece here part (b ∷ rest) ≡ bare_piece here part (b ∷ rest)
+pub first_bare : (here : Place) (part : Part) (b : ℕ) (rest : List ℕ) → is_blank b ≡ false → ¬ BeginsComment (b ∷ rest)
+    → first_piece here part (b ∷ rest) ≡ bare_piece here part (b ∷ rest)
 first_bare here part b rest blank none =
     cond_false (b == 10) _ _ (blank_no_feed b blank)
     ∙ cond_false (is_blank b) _ _ blank
@@ -120,7 +127,9 @@ begin b rest = feed (b == 10) refl
     second (c ∷ rest) blank slash = line (c == 47) refl
       where
         block : (p : Bool) → (c == 47) ≡ false → (c == 42) ≡ p → Begin (b ∷ c ∷ rest)
-        block true f e = subst (λ x. Begin (x ∷ c ∷ rest)) (sym (eqb-true b 47 slash)) (subst (λ x. Begin (47 ∷ x ∷ rest)) (sym (eqb-true c 42 e)) (begin_block rest))
+        block true f e =
+            subst (λ x. Begin (x ∷ c ∷ rest)) (sym (eqb-true b 47 slash))
+            (subst (λ x. Begin (47 ∷ x ∷ rest)) (sym (eqb-true c 42 e)) (begin_block rest))
         block false f e = Begin.bare b (c ∷ rest) blank (λ (more, is). no more is)
           where
             no : (more : List ℕ) → (b ∷ c ∷ rest ≡ 47 ∷ 47 ∷ more) ⊎ (b ∷ c ∷ rest ≡ 47 ∷ 42 ∷ more) → ⊥
@@ -128,7 +137,9 @@ begin b rest = feed (b == 10) refl
             no more (inr g) = let same : c ≡ 42 = cc in grind (arith, nat_tests)
 
         line : (p : Bool) → (c == 47) ≡ p → Begin (b ∷ c ∷ rest)
-        line true e = subst (λ x. Begin (x ∷ c ∷ rest)) (sym (eqb-true b 47 slash)) (subst (λ x. Begin (47 ∷ x ∷ rest)) (sym (eqb-true c 47 e)) (begin_line rest))
+        line true e =
+            subst (λ x. Begin (x ∷ c ∷ rest)) (sym (eqb-true b 47 slash))
+            (subst (λ x. Begin (47 ∷ x ∷ rest)) (sym (eqb-true c 47 e)) (begin_line rest))
         line false e = block (c == 42) e refl
 
     slash : (c : Bool) → is_blank b ≡ false → (b == 47) ≡ c → Begin (b ∷ rest)

@@ -5,7 +5,8 @@ use Rattle.c_tokens.specs.declared.token.TokenKind.TheVariants.{Word, Sign}
 use Rattle.c_tokens.specs.Words.{is_reserved, is_long_sign, is_short_sign}
 use Rattle.c_tokens.specs.Lexemes.{IsToken}
 use Rattle.c_tokens.specs.Grammar.{start, behind_piece, token_at, IsPiece, Reads}
-use Rattle.c_tokens.specs.Examples.{column, TakesLongestSigns, EndsToken, EndsInComment, IncludesWithComment, NeedsTwoStars, RefusesOpenComment, RefusesOpenCommentFirst, RefusesSuffix, RefusesQuote, RefusesDefine}
+use Rattle.c_tokens.specs.Examples.{column, TakesLongestSigns, EndsToken, EndsInComment, IncludesWithComment, NeedsTwoStars}
+use Rattle.c_tokens.specs.Examples.{RefusesOpenComment, RefusesOpenCommentFirst, RefusesSuffix, RefusesQuote, RefusesDefine}
 use Rattle.c_tokens.proofs.LexemeLemmas.{run_is_longest, sign_longest}
 use Rattle.c_tokens.proofs.TextLaws.{has_read, refuses_read}
 
@@ -60,7 +61,9 @@ ends_token = record {
   at = behind_piece start (codes "x") _;
   kind = Sign;
   word = codes "++";
-  reads = Reads.piece start _ (codes "x") (codes "+++++y") _ (token_at Word (codes "x") (column 1) ∷ []) [] _ (IsPiece.token Word x_is_word (run_is_longest 120 [] (codes "+++++y") refl refl)) (Reads.none _ _);
+  reads =
+      Reads.piece start _ (codes "x") (codes "+++++y") _ (token_at Word (codes "x") (column 1) ∷ []) [] _
+      (IsPiece.token Word x_is_word (run_is_longest 120 [] (codes "+++++y") refl refl)) (Reads.none _ _);
   token = two_plus;
   longest = sign_longest 43 (codes "++") (codes "+++y") refl (λ b rest e is. omega arith) (omega arith) (codes "++++y") refl;
 }

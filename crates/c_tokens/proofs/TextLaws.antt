@@ -1,5 +1,6 @@
 -- The laws of tokens.
-use Rattle.std.proofs.Common.{◌≡◌, ℕ, zero, suc, ◌+◌, ◌<◌, ◌≤◌, Bool, true, false, List, [], ◌∷◌, ◌++◌, length, map, inl, inr, ◌⊎◌, refl, sym, ap, ◌∙◌, subst, append_assoc, arith}
+use Rattle.std.proofs.Common.{◌≡◌, ℕ, zero, suc, ◌+◌, ◌<◌, ◌≤◌, Bool, true, false, List, [], ◌∷◌, ◌++◌, length, map, inl, inr, ◌⊎◌, refl}
+use Rattle.std.proofs.Common.{sym, ap, ◌∙◌, subst, append_assoc, arith}
 use Rattle.std.specs.Prelude.{◌==◌, if◌then◌else◌, codes}
 use Rattle.std.specs.List.{AllByRecursion}
 use Rattle.std.proofs.lemmas.List.{map-append}
@@ -15,7 +16,8 @@ use Rattle.c_tokens.specs.Lexemes.{IsToken}
 use Rattle.c_tokens.specs.Grammar.{token_at, Position, start, behind_piece, IsPiece, Reads, HasTokens, Refuses, IsTokenFault}
 use Rattle.c_tokens.specs.TokenLists.{StandsBefore, IsTokenList}
 use Rattle.c_tokens.specs.Reading.{Reading, Tokens, Refused, reading, IsFault}
-use Rattle.c_tokens.specs.Laws.{HaveOneReading, HaveOneRefusal, HaveNotBoth, HaveEither, AreListed, RestsAreListed, Spelling, spelling, end_spelling, spaced, WordsReadBack}
+use Rattle.c_tokens.specs.Laws.{HaveOneReading, HaveOneRefusal, HaveNotBoth, HaveEither, AreListed, RestsAreListed, Spelling, spelling}
+use Rattle.c_tokens.specs.Laws.{end_spelling, spaced, WordsReadBack}
 use Rattle.c_tokens.proofs.LexemeLemmas.{next_longest, gap_never, long_second}
 use Rattle.c_tokens.proofs.TokenLemmas.{token_lexeme}
 use Rattle.c_tokens.proofs.Texts.{include_hash, lexeme_some, Answers, reading_answers, tokens_read, refusal_read}
@@ -71,7 +73,9 @@ IsEarlier one other = (one.line < other.line) ⊎ ((one.line ≡ other.line) × 
 after_later : (place : Place) (b : ℕ) → IsEarlier place (after place b)
 after_later place b = by (b == 10)
   where
-    by : (c : Bool) → IsEarlier place (if c then record { line = place.line + 1; column = 1 } else record { line = place.line; column = place.column + 1 })
+    by : (c : Bool)
+        → IsEarlier place
+        (if c then record { line = place.line + 1; column = 1 } else record { line = place.line; column = place.column + 1 })
     by true = inl (omega arith)
     by false = inr (refl, omega arith)
 
@@ -85,7 +89,8 @@ pub place_later : (bytes : List ℕ) (place : Place) → 0 < length bytes → Is
 place_later [] place some = absurd (omega arith)
 place_later (b ∷ []) place some = after_later place b
 place_later (b ∷ c ∷ bytes) place some =
-    earlier_trans place (after place b) (place_after (after place b) (c ∷ bytes)) (after_later place b) (place_later (c ∷ bytes) (after place b) (omega arith))
+    earlier_trans place (after place b) (place_after (after place b) (c ∷ bytes)) (after_later place b)
+    (place_later (c ∷ bytes) (after place b) (omega arith))
 
 not_before : (one two : Place) (token : Token) → IsEarlier one two → NotBefore two token → NotBefore one token
 not_before one two token (inl a) (inl b) = inl (omega arith)
@@ -93,7 +98,8 @@ not_before one two token (inl a) (inr (b, c)) = inl (omega arith)
 not_before one two token (inr (a, d)) (inl b) = inl (omega arith)
 not_before one two token (inr (a, d)) (inr (b, c)) = inr (omega arith, omega arith)
 
-stands_before : (kind : TokenKind) (word : List ℕ) (one two : Place) (token : Token) → IsEarlier one two → NotBefore two token → StandsBefore (token_at kind word one) token
+stands_before : (kind : TokenKind) (word : List ℕ) (one two : Place) (token : Token) → IsEarlier one two → NotBefore two token
+    → StandsBefore (token_at kind word one) token
 stands_before kind word one two token (inl a) (inl b) = inl (omega arith)
 stands_before kind word one two token (inl a) (inr (b, c)) = inl (omega arith)
 stands_before kind word one two token (inr (a, d)) (inl b) = inl (omega arith)
@@ -108,28 +114,48 @@ listed_later : (one two : Place) (tokens : List Token) → IsEarlier one two →
 listed_later one two [] earlier listed = absurd listed
 listed_later one two (token ∷ tokens) earlier listed = (listed.0, not_before one two token earlier listed.1)
 
-listed_token : (kind : TokenKind) (word : List ℕ) (place : Place) (tokens : List Token) → IsToken kind word → Listed (place_after place word) tokens → Listed place (token_at kind word place ∷ tokens)
+listed_token : (kind : TokenKind) (word : List ℕ) (place : Place) (tokens : List Token) → IsToken kind word
+    → Listed (place_after place word) tokens → Listed place (token_at kind word place ∷ tokens)
 listed_token kind word place [] is listed = absurd listed
-listed_token kind word place (token ∷ tokens) is listed =
-    ((is, stands_before kind word place (place_after place word) token (place_later word place (lexeme_some word (token_lexeme kind word is))) listed.1, listed.0), inr (refl, omega arith))
+listed_token kind word place (token ∷ tokens) is listed = (
+  (
+    is,
+    stands_before kind word place (place_after place word) token
+        (place_later word place (lexeme_some word (token_lexeme kind word is))) listed.1,
+    listed.0,
+  ),
+  inr (refl, omega arith),
+)
 
 -- a piece has a byte at least
-piece_some : (at : Position) (piece behind : List ℕ) (found : List Token) (fresh : Bool) → IsPiece at piece behind found fresh → 0 < length piece
+piece_some : (at : Position) (piece behind : List ℕ) (found : List Token) (fresh : Bool) → IsPiece at piece behind found fresh
+    → 0 < length piece
 piece_some at piece behind _ _ (IsPiece.line_feed is) = let one = ap length is in omega arith
 piece_some at piece behind _ _ (IsPiece.gap (IsGap.space b space is)) = let one = ap length is in omega arith
 piece_some at piece behind _ _ (IsPiece.gap (IsGap.comment is)) = let two = ap length is.is in omega arith
 piece_some at piece behind _ _ (IsPiece.line_comment is) = let two = ap length is.is in omega arith
-piece_some at piece behind _ _ (IsPiece.include fresh is) = let (rest, same) = include_hash piece behind is in let one = ap length same in omega arith
+piece_some at piece behind _ _ (IsPiece.include fresh is) =
+    let (rest, same) = include_hash piece behind is in let one = ap length same in omega arith
 piece_some at piece behind _ _ (IsPiece.token kind is longest) = lexeme_some piece (token_lexeme kind piece is)
 
-listed_piece : (at : Position) (piece behind : List ℕ) (found : List Token) (fresh : Bool) (tokens : List Token) → IsPiece at piece behind found fresh → Listed (place_after at.place piece) tokens → Listed at.place (found ++ tokens)
-listed_piece at piece behind _ _ tokens (IsPiece.line_feed is) listed = listed_later at.place (place_after at.place piece) tokens (place_later piece at.place (piece_some at piece behind _ _ (IsPiece.line_feed is))) listed
-listed_piece at piece behind _ _ tokens (IsPiece.gap is) listed = listed_later at.place (place_after at.place piece) tokens (place_later piece at.place (piece_some at piece behind _ _ (IsPiece.gap is))) listed
-listed_piece at piece behind _ _ tokens (IsPiece.line_comment is) listed = listed_later at.place (place_after at.place piece) tokens (place_later piece at.place (piece_some at piece behind _ _ (IsPiece.line_comment is))) listed
-listed_piece at piece behind _ _ tokens (IsPiece.include fresh is) listed = listed_later at.place (place_after at.place piece) tokens (place_later piece at.place (piece_some at piece behind _ _ (IsPiece.include fresh is))) listed
+listed_piece : (at : Position) (piece behind : List ℕ) (found : List Token) (fresh : Bool) (tokens : List Token)
+    → IsPiece at piece behind found fresh → Listed (place_after at.place piece) tokens → Listed at.place (found ++ tokens)
+listed_piece at piece behind _ _ tokens (IsPiece.line_feed is) listed =
+    listed_later at.place (place_after at.place piece) tokens
+    (place_later piece at.place (piece_some at piece behind _ _ (IsPiece.line_feed is))) listed
+listed_piece at piece behind _ _ tokens (IsPiece.gap is) listed =
+    listed_later at.place (place_after at.place piece) tokens
+    (place_later piece at.place (piece_some at piece behind _ _ (IsPiece.gap is))) listed
+listed_piece at piece behind _ _ tokens (IsPiece.line_comment is) listed =
+    listed_later at.place (place_after at.place piece) tokens
+    (place_later piece at.place (piece_some at piece behind _ _ (IsPiece.line_comment is))) listed
+listed_piece at piece behind _ _ tokens (IsPiece.include fresh is) listed =
+    listed_later at.place (place_after at.place piece) tokens
+    (place_later piece at.place (piece_some at piece behind _ _ (IsPiece.include fresh is))) listed
 listed_piece at piece behind _ _ tokens (IsPiece.token kind is longest) listed = listed_token kind piece at.place tokens is listed
 
-listed_reads : (at to : Position) (bytes rest : List ℕ) (found : List Token) → Reads at bytes found to rest → Listed at.place (found ++ token_at End (codes "#") to.place ∷ [])
+listed_reads : (at to : Position) (bytes rest : List ℕ) (found : List Token) → Reads at bytes found to rest
+    → Listed at.place (found ++ token_at End (codes "#") to.place ∷ [])
 listed_reads at _ bytes _ _ (Reads.none _ _) = (record { kind = refl; text = refl }, inr (refl, omega arith))
 listed_reads at to _ rest _ (Reads.piece _ _ piece behind _ found tokens fresh is reads) =
     subst (Listed at.place) (sym (append_assoc found tokens (token_at End (codes "#") to.place ∷ [])))
@@ -151,7 +177,8 @@ rests_listed (token ∷ next ∷ tokens) (suc n) listed within = rests_listed (n
 
 -- ---- words that are written and read
 
-pub words_read : (words : List Spelling) → AllByRecursion (λ (word : Spelling). IsToken word.kind word.text) words → (at : Position) → (found : List Token) × (end : Position) × Reads at (spaced words) found end [] × (map spelling found ≡ words)
+pub words_read : (words : List Spelling) → AllByRecursion (λ (word : Spelling). IsToken word.kind word.text) words → (at : Position)
+    → (found : List Token) × (end : Position) × Reads at (spaced words) found end [] × (map spelling found ≡ words)
 words_read [] are at = ([], at, Reads.none at [], refl)
 words_read (word ∷ words) are at =
     let lexeme = token_lexeme word.kind word.text are.0 in
@@ -160,7 +187,8 @@ words_read (word ∷ words) are at =
     let (found, end, reads, same) = words_read words are.1 (behind_piece behind (32 ∷ []) false) in (
       token_at word.kind word.text at.place ∷ found,
       end,
-      Reads.piece at end word.text (32 ∷ spaced words) [] (token_at word.kind word.text at.place ∷ []) found false (IsPiece.token word.kind are.0 longest)
+      Reads.piece at end word.text (32 ∷ spaced words) [] (token_at word.kind word.text at.place ∷ []) found false
+          (IsPiece.token word.kind are.0 longest)
           (Reads.piece behind end (32 ∷ []) (spaced words) [] [] found false (IsPiece.gap (IsGap.space 32 refl refl)) reads),
       ap (λ l. word ∷ l) same,
     )

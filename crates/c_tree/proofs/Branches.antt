@@ -13,4 +13,5 @@ use Rattle.c_tree.specs.declared.stmts.Stmt.TheFolds.{fold-roll-Stmt}
 pub if_else : (place : Place) (test : Expr) (body other : Box Stmt Global)
     → stmt_tree (If place test body (Some other)) ≡ tree.Stmt.IfElse place (expr_tree test) (stmt_tree body.value) (stmt_tree other.value)
 if_else place test body other =
-    ap stmt_tree (sym (rolls-If place test body (Some other))) ∙ fold-roll-Stmt tree.Stmt BlockTree stmt_level block_level (Stmt-F.If place test body (Some other))
+    ap stmt_tree (sym (rolls-If place test body (Some other)))
+    ∙ fold-roll-Stmt tree.Stmt BlockTree stmt_level block_level (Stmt-F.If place test body (Some other))

@@ -9,7 +9,8 @@ use Rattle.c_types_rules.specs.Laws.{HaveKnown}
 use Rattle.c_types.specs.Typing.{IsTyped}
 use Rattle.c_types.proofs.Known.{all_known}
 
-pub typed_is : HaveKnown → (files : List File) (tables : Tables) (found : List Kind) (defs : List StructDef) → IsWellTyped files → tables ≡ tables_of files → found ≡ kinds_of files
+pub typed_is : HaveKnown → (files : List File) (tables : Tables) (found : List Kind) (defs : List StructDef) → IsWellTyped files
+    → tables ≡ tables_of files → found ≡ kinds_of files
     → defs ≡ map (struct_def tables) (first_structures [] tables.structures) → IsTyped files tables defs found
 typed_is laws files tables found defs fine tables_is found_is defs_is = record {
   well_typed = fine;

@@ -22,7 +22,8 @@ begun unit found = record { unit = unit; found = found }
 module _ (tables before behind : Tables) (file : File) (rest : List File) (goes : behind ≡ joined before (declared_by file.items)) where
   pub refusal_turn : (unit : ℕ) (found : Option At) (kinds : List Kind) (now : Finding)
       → Adds (items tables before file.items) (record { first = begun unit found; kinds = kinds }) now
-      → first_with now.first.found (files_refusals tables behind (suc unit) rest) ≡ first_with found (files_refusals tables before unit (file ∷ rest))
+      → first_with now.first.found (files_refusals tables behind (suc unit) rest)
+      ≡ first_with found (files_refusals tables before unit (file ∷ rest))
   refusal_turn unit found kinds now adds =
       let all = map (in_unit unit) (items tables before file.items).refusals in
       let found_now : now.first.found ≡ first_with found all =
@@ -37,7 +38,8 @@ module _ (tables before behind : Tables) (file : File) (rest : List File) (goes 
   kinds_turn first kinds now adds =
       ap (λ t. now.kinds ++ (items tables t (items_of rest)).kinds) goes
       ∙ ap (λ ks. ks ++ (items tables (joined before (declared_by file.items)) (items_of rest)).kinds) adds.kinds
-      ∙ append_assoc kinds (items tables before file.items).kinds (items tables (joined before (declared_by file.items)) (items_of rest)).kinds
+      ∙ append_assoc kinds (items tables before file.items).kinds
+      (items tables (joined before (declared_by file.items)) (items_of rest)).kinds
       ∙ ap (λ ks. kinds ++ ks) (sym (items-append tables before file.items (items_of rest)))
 
   pub tables_turn : joined behind (declared_by (items_of rest)) ≡ joined before (declared_by (items_of (file ∷ rest)))
@@ -47,10 +49,12 @@ module _ (tables before behind : Tables) (file : File) (rest : List File) (goes 
       ∙ ap (joined before) (sym (declared-append file.items (items_of rest)))
 
 -- the same, at a turn of a loop
-module _ (tables before behind : Tables) (units : List Unit) (i : ℕ) (one : Unit) (within : i < length units) (is : one ≡ get_or units i one)
+module _ (tables before behind : Tables) (units : List Unit) (i : ℕ) (one : Unit) (within : i < length units)
+    (is : one ≡ get_or units i one)
     (goes : behind ≡ joined before (declared_by (unit_tree one).items)) where
   here : {T : Type 0} (F : List File → T) → F (map unit_tree (drop i units)) ≡ F (unit_tree one ∷ map unit_tree (drop (i + 1) units))
-  here F = at_drop_more (λ (xs : List Unit). F (map unit_tree xs)) units i one within ∙ ap (λ (x : Unit). F (unit_tree x ∷ map unit_tree (drop (i + 1) units))) (sym is)
+  here F = at_drop_more (λ (xs : List Unit). F (map unit_tree xs)) units i one within
+      ∙ ap (λ (x : Unit). F (unit_tree x ∷ map unit_tree (drop (i + 1) units))) (sym is)
 
   next : i + 1 ≡ suc i
   next = omega arith

@@ -8,7 +8,8 @@ use Rattle.c_types_names.specs.declared.first_refusal.FirstRefusal.{FirstRefusal
 use Rattle.c_types_names.specs.FirstRefusal.{least, with_refusal, with_refusals}
 use Rattle.c_types.specs.FirstRefusals.{first_with}
 
-pub first_with-append : (found : Option At) (one other : List At) → first_with found (one ++ other) ≡ first_with (first_with found one) other
+pub first_with-append : (found : Option At) (one other : List At)
+    → first_with found (one ++ other) ≡ first_with (first_with found one) other
 unfolding first_with
 first_with-append found [] other = refl
 first_with-append found (next ∷ others) other = first_with-append (least found next) others other
@@ -17,7 +18,8 @@ pub first_with-nil : (found : Option At) → first_with found [] ≡ found
 unfolding first_with
 first_with-nil found = refl
 
-pub with_refusals-found : (first : FirstRefusal) (all : List Refusal) → (with_refusals first all).found ≡ first_with first.found (map (in_unit first.unit) all)
+pub with_refusals-found : (first : FirstRefusal) (all : List Refusal)
+    → (with_refusals first all).found ≡ first_with first.found (map (in_unit first.unit) all)
 unfolding with_refusals first_with
 with_refusals-found first [] = refl
 with_refusals-found first (one ∷ others) = with_refusals-found (with_refusal first one) others

@@ -11,9 +11,12 @@ three structures aliases procedures = record { structures = structures; aliases 
 
 pub joined-assoc : (one other third : Tables) → joined (joined one other) third ≡ joined one (joined other third)
 joined-assoc one other third =
-    ap (λ xs. three xs ((one.aliases ++ other.aliases) ++ third.aliases) ((one.procedures ++ other.procedures) ++ third.procedures)) (append_assoc one.structures other.structures third.structures)
-    ∙ ap (λ xs. three (one.structures ++ (other.structures ++ third.structures)) xs ((one.procedures ++ other.procedures) ++ third.procedures)) (append_assoc one.aliases other.aliases third.aliases)
-    ∙ ap (λ xs. three (one.structures ++ (other.structures ++ third.structures)) (one.aliases ++ (other.aliases ++ third.aliases)) xs) (append_assoc one.procedures other.procedures third.procedures)
+    ap (λ xs. three xs ((one.aliases ++ other.aliases) ++ third.aliases) ((one.procedures ++ other.procedures) ++ third.procedures))
+    (append_assoc one.structures other.structures third.structures)
+    ∙ ap (λ xs. three (one.structures ++ (other.structures ++ third.structures)) xs
+    ((one.procedures ++ other.procedures) ++ third.procedures)) (append_assoc one.aliases other.aliases third.aliases)
+    ∙ ap (λ xs. three (one.structures ++ (other.structures ++ third.structures)) (one.aliases ++ (other.aliases ++ third.aliases)) xs)
+    (append_assoc one.procedures other.procedures third.procedures)
 
 pub joined-none : (one : Tables) → joined one no_tables ≡ one
 joined-none one =
@@ -24,14 +27,18 @@ joined-none one =
 pub declared-append : (one other : List Item) → declared_by (one ++ other) ≡ joined (declared_by one) (declared_by other)
 declared-append [] other = refl
 declared-append (first ∷ others) other =
-    ap (joined (declares first)) (declared-append others other) ∙ sym (joined-assoc (declares first) (declared_by others) (declared_by other))
+    ap (joined (declares first)) (declared-append others other)
+    ∙ sym (joined-assoc (declares first) (declared_by others) (declared_by other))
 
 -- the types of items, one file behind another
 pub items-append : (tables before : Tables) (one other : List Item)
-    → (items tables before (one ++ other)).kinds ≡ (items tables before one).kinds ++ (items tables (joined before (declared_by one)) other).kinds
+    → (items tables before (one ++ other)).kinds
+    ≡ (items tables before one).kinds ++ (items tables (joined before (declared_by one)) other).kinds
 items-append tables before [] other = ap (λ t. (items tables t other).kinds) (sym (joined-none before))
 items-append tables before (first ∷ others) other =
     ap (λ ks. (item tables before first).kinds ++ ks)
     (items-append tables (joined before (declares first)) others other
-    ∙ ap (λ t. (items tables (joined before (declares first)) others).kinds ++ (items tables t other).kinds) (joined-assoc before (declares first) (declared_by others)))
-    ∙ sym (append_assoc (item tables before first).kinds (items tables (joined before (declares first)) others).kinds (items tables (joined before (declared_by (first ∷ others))) other).kinds)
+    ∙ ap (λ t. (items tables (joined before (declares first)) others).kinds ++ (items tables t other).kinds)
+    (joined-assoc before (declares first) (declared_by others)))
+    ∙ sym (append_assoc (item tables before first).kinds (items tables (joined before (declares first)) others).kinds
+    (items tables (joined before (declared_by (first ∷ others))) other).kinds)

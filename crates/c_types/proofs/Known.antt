@@ -10,4 +10,5 @@ known_one (Some kind) is = refl
 
 pub all_known : (kinds : List Kind) → All IsKnown kinds → map Some (map known kinds) ≡ kinds
 all_known [] are = refl
-all_known (kind ∷ kinds) are = ap (λ k. k ∷ map Some (map known kinds)) (known_one kind (All-head IsKnown kind kinds are)) ∙ ap (λ ks. kind ∷ ks) (all_known kinds (All-tail IsKnown kind kinds are))
+all_known (kind ∷ kinds) are = ap (λ k. k ∷ map Some (map known kinds)) (known_one kind (All-head IsKnown kind kinds are))
+    ∙ ap (λ ks. kind ∷ ks) (all_known kinds (All-tail IsKnown kind kinds are))

@@ -15,10 +15,12 @@ pub ruleset lining = (with_refusals-nil, with_refusals-append, append_assoc, app
 -- what is refused where a structure of the tag has these fields, if there is one before
 abbrev pub repeated_by : Tables → Option (List DeclaredTree) → Name → List Fields → List Refusal
 repeated_by tables None tag lines = []
-repeated_by tables (Some fields) tag lines = unless (same_fields (map (kind_of_declared tables) fields) (field_kinds tables lines)) tag.place DIFFERS
+repeated_by tables (Some fields) tag lines =
+    unless (same_fields (map (kind_of_declared tables) fields) (field_kinds tables lines)) tag.place DIFFERS
 
 pub repeated_is : (tables : Tables) (found : Option Structure) (tag : Name) (lines : List Fields)
     → repeated_by tables (option_map fields_of found) tag lines ≡ repeated_refusals tables found tag lines
 repeated_is tables None tag lines = refl
 repeated_is tables (Some one) tag lines =
-    ap (λ (kinds : List FieldKind). unless (same_fields kinds (field_kinds tables lines)) tag.place DIFFERS) (kinds_declared tables one.lines)
+    ap (λ (kinds : List FieldKind). unless (same_fields kinds (field_kinds tables lines)) tag.place DIFFERS)
+    (kinds_declared tables one.lines)

@@ -1,5 +1,6 @@
 -- Names one by one.
-use Rattle.std.proofs.Common.{◌≡◌, ℕ, ◌+◌, ◌<◌, Bool, true, false, ◌||◌, if◌then◌else◌, Option, Some, None, List, [], ◌∷◌, ◌++◌, length, map, take, reverse, get_or, append_assoc, refl, ap, ◌∙◌, arith}
+use Rattle.std.proofs.Common.{◌≡◌, ℕ, ◌+◌, ◌<◌, Bool, true, false, ◌||◌, if◌then◌else◌, Option, Some, None, List, [], ◌∷◌, ◌++◌, length}
+use Rattle.std.proofs.Common.{map, take, reverse, get_or, append_assoc, refl, ap, ◌∙◌, arith}
 use Rattle.std.proofs.lemmas.List.{append-nil, map-append, reverse-append, take_more}
 use Rattle.std.specs.Str.{bytes_eq}
 use Rattle.c_grammar.specs.Trees.{Name}
@@ -13,7 +14,8 @@ pub before-nil : names_before [] ≡ []
 unfolding names_before
 before-nil = refl
 
-pub before_more : (names : List Named) (i : ℕ) (d : Named) → i < length names → names_before (take (i + 1) names) ≡ named_seen (get_or names i d) ∷ names_before (take i names)
+pub before_more : (names : List Named) (i : ℕ) (d : Named) → i < length names
+    → names_before (take (i + 1) names) ≡ named_seen (get_or names i d) ∷ names_before (take i names)
 unfolding names_before
 before_more names i d within =
     ap (λ xs. reverse (map named_seen xs)) (take_more names i d within)
@@ -33,8 +35,10 @@ pub ruleset pushing = (append_assoc, append-nil, with_name-append)
 pub lists_none : (set : NameSet) → ((n : List ℕ) → has set n ≡ false) → Lists set []
 lists_none set none = record { same = λ n. none n.text }
 
-pub lists_more : (set more : NameSet) (names : List Name) (n : Name) → Lists set names → ((m : List ℕ) → has more m ≡ (bytes_eq n.text m || has set m)) → Lists more (n ∷ names)
-lists_more set more names n h goes = record { same = λ m. goes m.text ∙ by_test (bytes_eq n.text m.text) (has set m.text) (is_listed names m) (h.same m) }
+pub lists_more : (set more : NameSet) (names : List Name) (n : Name) → Lists set names
+    → ((m : List ℕ) → has more m ≡ (bytes_eq n.text m || has set m)) → Lists more (n ∷ names)
+lists_more set more names n h goes =
+    record { same = λ m. goes m.text ∙ by_test (bytes_eq n.text m.text) (has set m.text) (is_listed names m) (h.same m) }
   where
     by_test : (b x y : Bool) → x ≡ y → (b || x) ≡ (if b then true else y)
     by_test true x y e = refl

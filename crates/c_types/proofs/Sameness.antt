@@ -17,7 +17,8 @@ none_left one other left n is rest = grind (arith, is, rest)
 
 -- where the one list is at its end, the other is too where it is no longer
 module _ {Y : Type 0} (same : List Y → List Y → Bool) (left : (list : List Y) → same [] list ≡ (length list == 0)) where
-  pub ends_same : (ones others : List Y) (one other n : ℕ) → one ≡ n → ones ≡ [] → length others ≡ other - n → (all : Bool) → same ones others ≡ all → leb other one ≡ all
+  pub ends_same : (ones others : List Y) (one other n : ℕ) → one ≡ n → ones ≡ [] → length others ≡ other - n → (all : Bool)
+      → same ones others ≡ all → leb other one ≡ all
   ends_same ones others one other n is none rest all known =
       none_left one other (length others) n is rest ∙ sym (left others) ∙ ap (λ list. same list others) (sym none) ∙ known
 

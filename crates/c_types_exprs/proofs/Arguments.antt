@@ -29,7 +29,8 @@ pub counted : (kind : Kind) (kinds : List Kind) (args : List Argument) (n : ℕ)
 counted kind kinds [] n some is = absurd (omega arith)
 counted kind kinds (arg ∷ rest) n some is =
     let within : length (arg ∷ rest) - 1 ≤ length rest = omega arith in
-    let all : length (take (length (arg ∷ rest) - 1) rest) ≡ length rest = length-take-le (length (arg ∷ rest) - 1) rest within ∙ omega arith in
+    let all : length (take (length (arg ∷ rest) - 1) rest) ≡ length rest =
+    length-take-le (length (arg ∷ rest) - 1) rest within ∙ omega arith in
     ap (λ m. n == m) all ∙ ap (λ m. m == length rest) is ∙ sym (by_number kinds rest)
 
 pub ruleset arguments = (by_number, none_fit)

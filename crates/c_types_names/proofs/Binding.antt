@@ -1,5 +1,7 @@
 -- Bindings, as variables are declared and forgotten. The last one declared is the first of each list here.
-use Rattle.std.proofs.Common.{◌≡◌, ℕ, zero, suc, ◌<◌, ◌≤◌, Bool, true, false, cond, nat_le, List, [], ◌∷◌, ◌++◌, length, map, take, drop, reverse, option_map, Option, Some, None, if◌then◌else◌, refl, sym, ap, ◌∙◌, true≢false, Result, Ok, Err, OnErr, is_some, arith}
+use Rattle.std.proofs.Common.{◌≡◌, ℕ, zero, suc, ◌<◌, ◌≤◌, Bool, true, false, cond, nat_le, List, [], ◌∷◌, ◌++◌, length, map, take, drop}
+use Rattle.std.proofs.Common.{reverse, option_map, Option, Some, None, if◌then◌else◌, refl, sym, ap, ◌∙◌, true≢false, Result, Ok, Err}
+use Rattle.std.proofs.Common.{OnErr, is_some, arith}
 use Rattle.std.proofs.lemmas.List.{map-append, reverse-append, take-append-drop, length-reverse, length-append, length-take-le}
 use Rattle.std.proofs.lemmas.Bool.Decides.{nat_tests}
 use Rattle.std.proofs.lemmas.Slice.Eq.{bytes_eq-Decides}
@@ -41,14 +43,17 @@ stacked_turned all = seen_turned all
 
 seen_if : (passes : Bool) (v : Variable) (place : ℕ) (o : Option Binding) (p : Option scopes.Variable)
     → option_map (λ b. variable_seen (variable_bound b)) o ≡ p
-    → option_map (λ b. variable_seen (variable_bound b)) (if passes then Some (record { variable = v; place = place }) else o) ≡ (if passes then Some (variable_seen v) else p)
+    → option_map (λ b. variable_seen (variable_bound b)) (if passes then Some (record { variable = v; place = place }) else o)
+    ≡ (if passes then Some (variable_seen v) else p)
 seen_if true v place o p is = refl
 seen_if false v place o p is = is
 
 -- a name is bound to the variable that stands
-pub bound_is : (all : List Declared) (n : List ℕ) → option_map (λ b. variable_seen (variable_bound b)) (binding_in all n) ≡ variable_in (map declared_seen all) n
+pub bound_is : (all : List Declared) (n : List ℕ)
+    → option_map (λ b. variable_seen (variable_bound b)) (binding_in all n) ≡ variable_in (map declared_seen all) n
 bound_is [] n = refl
-bound_is (x ∷ xs) n = seen_if (bytes_eq x.variable.name.now n) x.variable (length xs) (binding_in xs n) (variable_in (map declared_seen xs) n) (bound_is xs n)
+bound_is (x ∷ xs) n =
+    seen_if (bytes_eq x.variable.name.now n) x.variable (length xs) (binding_in xs n) (variable_in (map declared_seen xs) n) (bound_is xs n)
 
 -- whether it is bound to a variable that does not stand before this place
 abbrev pub is_from : ℕ → Option Binding → Bool
@@ -72,16 +77,20 @@ none_from (x ∷ xs) n begin less =
     let shorter : length xs < begin = omega arith in
     before_if (bytes_eq x.variable.name.now n) x.variable (length xs) begin (binding_in xs n) shorter (none_from xs n begin (omega arith))
 
-from_if : (passes : Bool) (v : Variable) (place begin : ℕ) (o : Option Binding) (p : Option scopes.Variable) → begin ≤ place → is_from begin o ≡ is_some p
-    → is_from begin (if passes then Some (record { variable = v; place = place }) else o) ≡ is_some (if passes then Some (variable_seen v) else p)
+from_if : (passes : Bool) (v : Variable) (place begin : ℕ) (o : Option Binding) (p : Option scopes.Variable) → begin ≤ place
+    → is_from begin o ≡ is_some p
+    → is_from begin (if passes then Some (record { variable = v; place = place }) else o)
+    ≡ is_some (if passes then Some (variable_seen v) else p)
 from_if true v place begin o p less is = is_at begin place less
 from_if false v place begin o p less is = is
 
-from_around : (here around : List Declared) (n : List ℕ) → is_from (length around) (binding_in (here ++ around) n) ≡ is_some (variable_in (map declared_seen here) n)
+from_around : (here around : List Declared) (n : List ℕ)
+    → is_from (length around) (binding_in (here ++ around) n) ≡ is_some (variable_in (map declared_seen here) n)
 from_around [] around n = none_from around n (length around) (omega arith)
 from_around (x ∷ xs) around n =
     let longer : length around ≤ length (xs ++ around) = omega (arith, length-append xs around) in
-    from_if (bytes_eq x.variable.name.now n) x.variable (length (xs ++ around)) (length around) (binding_in (xs ++ around) n) (variable_in (map declared_seen xs) n) longer
+    from_if (bytes_eq x.variable.name.now n) x.variable (length (xs ++ around)) (length around) (binding_in (xs ++ around) n)
+    (variable_in (map declared_seen xs) n) longer
     (from_around xs around n)
 
 -- the variable that a name is bound to
@@ -116,20 +125,24 @@ bound_from all begin n within =
     ∙ ap (λ xs. is_some (variable_in (stacked xs) n)) (map-drop variable_of begin all)
 
 -- one more is declared
-module _ (old new : List ℕ → Option (Option Binding)) (all : List Declared) (v : Variable) (place : ℕ) (found : (n : List ℕ) → option_flatten (old n) ≡ binding_in all n) (last : place ≡ length all)
+module _ (old new : List ℕ → Option (Option Binding)) (all : List Declared) (v : Variable) (place : ℕ)
+    (found : (n : List ℕ) → option_flatten (old n) ≡ binding_in all n) (last : place ≡ length all)
     (updates : (n : List ℕ) → new n ≡ cond (bytes_eq v.name.now n) (Some (Some (record { variable = v; place = place }))) (old n)) where
-  flat : (b : Bool) (at : Option (Option Binding)) (bound : Binding) (rest : Option Binding) → option_flatten at ≡ rest → option_flatten (cond b (Some (Some bound)) at) ≡ (if b then Some bound else rest)
+  flat : (b : Bool) (at : Option (Option Binding)) (bound : Binding) (rest : Option Binding) → option_flatten at ≡ rest
+      → option_flatten (cond b (Some (Some bound)) at) ≡ (if b then Some bound else rest)
   flat true at bound rest is = refl
   flat false at bound rest is = is
 
-  pub declared_found : (hidden : Option Binding) (n : List ℕ) → option_flatten (new n) ≡ binding_in (record { variable = v; hidden = hidden } ∷ all) n
+  pub declared_found : (hidden : Option Binding) (n : List ℕ)
+      → option_flatten (new n) ≡ binding_in (record { variable = v; hidden = hidden } ∷ all) n
   declared_found hidden n =
       ap option_flatten (updates n)
       ∙ flat (bytes_eq v.name.now n) (old n) (record { variable = v; place = place }) (binding_in all n) (found n)
       ∙ ap (λ (k : ℕ). if bytes_eq v.name.now n then Some (record { variable = v; place = k }) else binding_in all n) last
 
 -- the last one is forgotten
-module _ (old new : List ℕ → Option (Option Binding)) (all : List Declared) (last : Declared) (found : (n : List ℕ) → option_flatten (old n) ≡ binding_in (last ∷ all) n)
+module _ (old new : List ℕ → Option (Option Binding)) (all : List Declared) (last : Declared)
+    (found : (n : List ℕ) → option_flatten (old n) ≡ binding_in (last ∷ all) n)
     (linked : last.hidden ≡ binding_in all last.variable.name.now)
     (updates : (n : List ℕ) → new n ≡ cond (bytes_eq last.variable.name.now n) (Some last.hidden) (old n)) where
   turned : (n : List ℕ) (b : Bool) → bytes_eq last.variable.name.now n ≡ b
@@ -144,14 +157,16 @@ module _ (old new : List ℕ → Option (Option Binding)) (all : List Declared) 
 -- the last one is bound
 pub bound_there : (last : Declared) (before : List Declared) → is_some (binding_in (last ∷ before) last.variable.name.now) ≡ true
 bound_there last before =
-    ap (λ b. is_some (if b then Some (record { variable = last.variable; place = length before }) else binding_in before last.variable.name.now))
+    ap (λ b. is_some
+    (if b then Some (record { variable = last.variable; place = length before }) else binding_in before last.variable.name.now))
     ((bytes_eq-Decides last.variable.name.now last.variable.name.now).1 refl)
 
 is_none : {X : Type 0} (o : Option X) → is_some o ≡ true → o ≡ None → ⊥
 is_none None some none = true≢false (sym some)
 is_none (Some x) some none = absurd cc
 
-pub must_be_ok : {T E : Type 0} (result : Result T E) (o : Option (Option Binding)) → is_some (option_flatten o) ≡ true → OnErr result (o ≡ None) → IsOk result
+pub must_be_ok : {T E : Type 0} (result : Result T E) (o : Option (Option Binding)) → is_some (option_flatten o) ≡ true
+    → OnErr result (o ≡ None) → IsOk result
 must_be_ok (Ok value) o there absent = refl
 must_be_ok (Err e) o there absent = absurd (is_none o (outer o there) absent)
   where

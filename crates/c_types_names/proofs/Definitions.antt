@@ -9,13 +9,15 @@ use Rattle.c_types_names.specs.FirstOfName.{or_first}
 use Rattle.c_types_names.proofs.Noting.{one_more}
 
 by_tests : (defined : Bool) (first : Procedure) (others : List Procedure) (n : List ℕ)
-    → procedure_in (if defined then first ∷ others else others) n ≡ (if defined && bytes_eq first.head.declarator.name.text n then Some first else procedure_in others n)
+    → procedure_in (if defined then first ∷ others else others) n
+    ≡ (if defined && bytes_eq first.head.declarator.name.text n then Some first else procedure_in others n)
 by_tests true first others n = refl
 by_tests false first others n = refl
 
 pub definition_step : (wanted : Bool) (first : Procedure) (others : List Procedure) (n : List ℕ)
     → procedure_in (definitions wanted (first ∷ others)) n
-    ≡ (if same_bool first.defines wanted && bytes_eq first.head.declarator.name.text n then Some first else procedure_in (definitions wanted others) n)
+    ≡ (if same_bool first.defines wanted && bytes_eq first.head.declarator.name.text n then Some first
+    else procedure_in (definitions wanted others) n)
 definition_step wanted first others n = by_tests (same_bool first.defines wanted) first (definitions wanted others) n
 
 pub same_true : (defined : Bool) → same_bool defined true ≡ defined
@@ -26,9 +28,11 @@ pub same_false : (defined : Bool) → same_bool defined false ≡ not defined
 same_false true = refl
 same_false false = refl
 
-pub definition_more : (wanted : Bool) (n : List ℕ) (before after : Option declared.Procedure) (xs : List declared.Procedure) (x : declared.Procedure)
+pub definition_more : (wanted : Bool) (n : List ℕ) (before after : Option declared.Procedure) (xs : List declared.Procedure)
+    (x : declared.Procedure)
     → option_map procedure_seen before ≡ procedure_in (definitions wanted (map procedure_seen xs)) n
     → after ≡ or_first before (same_bool (procedure_seen x).defines wanted && bytes_eq (procedure_seen x).head.declarator.name.text n) x
     → option_map procedure_seen after ≡ procedure_in (definitions wanted (map procedure_seen (xs ++ x ∷ []))) n
 definition_more wanted n =
-    one_more procedure_seen (λ y. same_bool y.defines wanted && bytes_eq y.head.declarator.name.text n) (λ ys. procedure_in (definitions wanted ys) n) refl (λ y ys. definition_step wanted y ys n)
+    one_more procedure_seen (λ y. same_bool y.defines wanted && bytes_eq y.head.declarator.name.text n)
+    (λ ys. procedure_in (definitions wanted ys) n) refl (λ y ys. definition_step wanted y ys n)

@@ -1,5 +1,6 @@
 -- The first thing of each name, after one more thing.
-use Rattle.std.proofs.Common.{◌≡◌, ℕ, Bool, true, false, cond, is_some, List, [], ◌∷◌, ◌++◌, map, option_map, Option, Some, None, Result, Ok, OnOk, refl, sym, ap, subst, ◌∙◌, true≢false, if◌then◌else◌}
+use Rattle.std.proofs.Common.{◌≡◌, ℕ, Bool, true, false, cond, is_some, List, [], ◌∷◌, ◌++◌, map, option_map, Option, Some, None, Result}
+use Rattle.std.proofs.Common.{Ok, OnOk, refl, sym, ap, subst, ◌∙◌, true≢false, if◌then◌else◌}
 use Rattle.std.proofs.lemmas.Slice.Eq.{bytes_eq-Decides}
 use Rattle.std.specs.Str.{bytes_eq}
 use Rattle.c_types_names.specs.FirstOfName.{or_first}
@@ -11,7 +12,8 @@ none_is : {X : Type 0} (o : Option X) → is_some o ≡ false → o ≡ None
 none_is None e = refl
 none_is (Some x) e = absurd (true≢false e)
 
-put : {X : Type 0} (o : Option X) (passes : Bool) (x : X) → (passes ≡ true → is_some o ≡ false) → cond passes (Some x) o ≡ or_first o passes x
+put : {X : Type 0} (o : Option X) (passes : Bool) (x : X) → (passes ≡ true → is_some o ≡ false)
+    → cond passes (Some x) o ≡ or_first o passes x
 put None true x new = refl
 put None false x new = refl
 put (Some found) true x new = absurd (true≢false (new refl))
@@ -27,14 +29,16 @@ module _ {X : Type 0} (old : List ℕ → Option X) (name n : List ℕ) (x : X) 
   put_first new = put (old n) (bytes_eq name n) x (λ same. ap (λ bs. is_some (old bs)) (sym ((bytes_eq-Decides name n).0 same)) ∙ new)
 
   pub stays_first : is_some (old name) ≡ true → old n ≡ or_first (old n) (bytes_eq name n) x
-  stays_first there = stays (old n) (bytes_eq name n) x (λ same. ap (λ bs. is_some (old bs)) (sym ((bytes_eq-Decides name n).0 same)) ∙ there)
+  stays_first there =
+      stays (old n) (bytes_eq name n) x (λ same. ap (λ bs. is_some (old bs)) (sym ((bytes_eq-Decides name n).0 same)) ∙ there)
 
 behind : {X : Type 0} (passes : Bool) (found : X) (o : Option X) (last : Bool) (x : X)
     → (if passes then Some found else or_first o last x) ≡ or_first (if passes then Some found else o) last x
 behind true found o last x = refl
 behind false found o last x = refl
 
-over : {X Y : Type 0} (seen : X → Y) (o : Option X) (passes : Bool) (x : X) → option_map seen (or_first o passes x) ≡ or_first (option_map seen o) passes (seen x)
+over : {X Y : Type 0} (seen : X → Y) (o : Option X) (passes : Bool) (x : X)
+    → option_map seen (or_first o passes x) ≡ or_first (option_map seen o) passes (seen x)
 over seen None true x = refl
 over seen None false x = refl
 over seen (Some found) passes x = refl
@@ -54,7 +58,8 @@ module _ {X Y : Type 0} (seen : X → Y) (test : Y → Bool) (find : List Y → 
       ∙ ap (λ o. if test first then Some first else o) (last others y)
       ∙ sym (step first (others ++ y ∷ []))
 
-  pub one_more : (before after : Option X) (xs : List X) (x : X) → option_map seen before ≡ find (map seen xs) → after ≡ or_first before (test (seen x)) x
+  pub one_more : (before after : Option X) (xs : List X) (x : X) → option_map seen before ≡ find (map seen xs)
+      → after ≡ or_first before (test (seen x)) x
       → option_map seen after ≡ find (map seen (xs ++ x ∷ []))
   one_more before after xs x found is =
       ap (option_map seen) is

@@ -1,6 +1,8 @@
 -- The variables of a scope, the last one first.
-use Rattle.std.proofs.Common.{◌≡◌, ℕ, ◌+◌, ◌<◌, ◌≤◌, List, [], ◌∷◌, ◌++◌, length, map, take, drop, reverse, get_or, refl, sym, ap, ◌∙◌, arith}
-use Rattle.std.proofs.lemmas.List.{map-append, reverse-append, take-append-drop, take_more, length-reverse, length-map, length-append, length-take-le, drop-append-le, take-append-le, take_at, drop_at}
+use Rattle.std.proofs.Common.{◌≡◌, ℕ, ◌+◌, ◌<◌, ◌≤◌, List, [], ◌∷◌, ◌++◌, length, map, take, drop, reverse, get_or, refl, sym, ap, ◌∙◌}
+use Rattle.std.proofs.Common.{arith}
+use Rattle.std.proofs.lemmas.List.{map-append, reverse-append, take-append-drop, take_more, length-reverse, length-map, length-append}
+use Rattle.std.proofs.lemmas.List.{length-take-le, drop-append-le, take-append-le, take_at, drop_at}
 use Rattle.std.proofs.Math.Seq.{drop-length, take-length}
 use Rattle.c_types_rules.specs.Tables.{Tables}
 use Rattle.c_types_rules.specs.Scopes.{Env, with_variable, entered}
@@ -10,7 +12,8 @@ use Rattle.c_types_names.specs.Seen.{kind_seen, variable_seen, stacked}
 
 pub stacked-append : (one other : List Variable) → stacked (one ++ other) ≡ stacked other ++ stacked one
 unfolding stacked
-stacked-append one other = ap reverse (map-append variable_seen one other) ∙ reverse-append (map variable_seen one) (map variable_seen other)
+stacked-append one other = ap reverse (map-append variable_seen one other)
+    ∙ reverse-append (map variable_seen one) (map variable_seen other)
 
 pub stacked-nil : stacked [] ≡ []
 unfolding stacked
@@ -50,8 +53,10 @@ module _ (tables : Tables) (begin : ℕ) (variables : List Variable) (within : b
       → env_seen tables begin more ≡ with_variable (env_seen tables begin variables) v.name.now (kind_seen v.kind)
   added more v is =
       ap (env_seen tables begin) is
-      ∙ ap (λ xs. around_seen tables (stacked (take begin (variables ++ v ∷ []))) (stacked xs)) (drop-append-le begin variables (v ∷ []) within)
-      ∙ ap (λ xs. around_seen tables (stacked xs) (stacked (drop begin variables ++ v ∷ []))) (take-append-le begin variables (v ∷ []) within)
+      ∙ ap (λ xs. around_seen tables (stacked (take begin (variables ++ v ∷ []))) (stacked xs))
+      (drop-append-le begin variables (v ∷ []) within)
+      ∙ ap (λ xs. around_seen tables (stacked xs) (stacked (drop begin variables ++ v ∷ [])))
+      (take-append-le begin variables (v ∷ []) within)
       ∙ ap (λ xs. around_seen tables (stacked (take begin variables)) xs) (stacked-push (drop begin variables) v)
 
   pub went_in : (end : ℕ) → end ≡ length variables → env_seen tables end variables ≡ entered (env_seen tables begin variables)
@@ -62,7 +67,8 @@ module _ (tables : Tables) (begin : ℕ) (variables : List Variable) (within : b
       ∙ ap (λ xs. around_seen tables (stacked variables) xs) stacked-nil
       ∙ ap (λ xs. around_seen tables xs []) (sym (stacked-parts begin variables))
 
-same_tail : (one other here around : List scopes.Variable) → one ++ other ≡ here ++ around → length other ≡ length around → (one ≡ here) × (other ≡ around)
+same_tail : (one other here around : List scopes.Variable) → one ++ other ≡ here ++ around → length other ≡ length around
+    → (one ≡ here) × (other ≡ around)
 same_tail one other here around is same =
     let front : length one ≡ length here = omega (arith, length-append one other, length-append here around, ap length is) in (
       sym (take_at one other (length here) front) ∙ ap (take (length here)) is ∙ take_at here around (length here) refl,
@@ -73,5 +79,7 @@ same_tail one other here around is same =
 pub left : (tables : Tables) (begin : ℕ) (variables : List Variable) → begin ≤ length variables → (here around : List scopes.Variable)
     → stacked variables ≡ here ++ around → length around ≡ begin → env_seen tables begin variables ≡ around_seen tables around here
 left tables begin variables within here around is same =
-    let parts = same_tail (stacked (drop begin variables)) (stacked (take begin variables)) here around (stacked-parts begin variables ∙ is) (length_around tables begin variables within ∙ sym same) in
+    let parts =
+    same_tail (stacked (drop begin variables)) (stacked (take begin variables)) here around (stacked-parts begin variables ∙ is)
+    (length_around tables begin variables within ∙ sym same) in
     ap (λ xs. around_seen tables (stacked (take begin variables)) xs) (parts.0) ∙ ap (λ xs. around_seen tables xs here) (parts.1)

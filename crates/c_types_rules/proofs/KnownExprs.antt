@@ -12,9 +12,13 @@ use Rattle.c_grammar.specs.FirstPlaces.{place_of_expr}
 use Rattle.c_types_rules.specs.Types.{Kind, IsKnown, may_be_int, UNDECLARED}
 use Rattle.c_types_rules.specs.Tables.{Procedure, Tables, FieldKind, procedure_in, is_defined, pointer_of, field_of}
 use Rattle.c_types_rules.specs.Scopes.{Variable, Env, variable_in, variable}
-use Rattle.c_types_rules.specs.Expressions.{kind_of_variable, kind_of_field, kind_of_call, kind_of_member, kind_of_members, int_of, kind_of_binary, kind_of_prefix, kind_of, kind_of_chain, is_null, Given, given_by, may_stand_by, may_stand_behind, lacks, member_refusals, members_refusals, callee_refusals, expr_refusals, links_refusals, args_refusals, call_refusals, whole_refusals}
+use Rattle.c_types_rules.specs.Expressions.{kind_of_variable, kind_of_field, kind_of_call, kind_of_member, kind_of_members, int_of}
+use Rattle.c_types_rules.specs.Expressions.{kind_of_binary, kind_of_prefix, kind_of, kind_of_chain, is_null, Given, given_by, may_stand_by}
+use Rattle.c_types_rules.specs.Expressions.{may_stand_behind, lacks, member_refusals, members_refusals, callee_refusals, expr_refusals}
+use Rattle.c_types_rules.specs.Expressions.{links_refusals, args_refusals, call_refusals, whole_refusals}
 use Rattle.c_types_rules.specs.Kinds.{link_kinds, member_kinds, first_kinds, later_kinds, operand_kinds, arg_kinds, kinds}
-use Rattle.c_types_rules.proofs.KnownTables.{nil_left, nil_right, holds, all_append, look_up, IsSound, known_of, named_sound, IsFieldSound, IsProcedureSound, SoundTables, procedure_sound, field_sound}
+use Rattle.c_types_rules.proofs.KnownTables.{nil_left, nil_right, holds, all_append, look_up, IsSound, known_of, named_sound, IsFieldSound}
+use Rattle.c_types_rules.proofs.KnownTables.{IsProcedureSound, SoundTables, procedure_sound, field_sound}
 
 abbrev pub AreKnown : List Kind → Type 0
 AreKnown all = AllByRecursion IsKnown all
@@ -48,7 +52,8 @@ found_variable : (tables : Tables) (found : Option Variable) (one : Refusal) →
 found_variable tables None one h e = absurd (cc)
 found_variable tables (Some found) one h e = h
 
-found_field : (tables : Tables) (tag : List ℕ) (found : Option FieldKind) → is_defined tables tag ≡ true → IfSome found (IsFieldSound tables)
+found_field : (tables : Tables) (tag : List ℕ) (found : Option FieldKind) → is_defined tables tag ≡ true
+    → IfSome found (IsFieldSound tables)
     → not (lacks tables tag found) ≡ true → IsSound tables (kind_of_field found)
 found_field tables tag None h k e = absurd (clash (is_defined tables tag) h e)
   where
@@ -87,7 +92,8 @@ gives_kind env (Expr.Paren place inner) h = gives_kind env inner h
 gives_kind env (Expr.Malloc place as_type target) h = absurd (cc)
 gives_kind env other h = refl
 
-ints_sound : (tables : Tables) (left right : Kind) → IsSound tables left → IsSound tables right → (may_be_int left && may_be_int right) ≡ true
+ints_sound : (tables : Tables) (left right : Kind) → IsSound tables left → IsSound tables right
+    → (may_be_int left && may_be_int right) ≡ true
     → IsSound tables (elim (int_of left) [ None ↦ None | Some kind ↦ int_of right ])
 ints_sound tables None right h k e = absurd h
 ints_sound tables (Some Int) None h k e = absurd k
@@ -95,7 +101,8 @@ ints_sound tables (Some Int) (Some Int) h k e = tt
 ints_sound tables (Some Int) (Some other) h k e = absurd (cc)
 ints_sound tables (Some other) right h k e = absurd (cc)
 
-pub binary_sound : (tables : Tables) (op : BinaryOp) (left : Kind) (left_null : Bool) (right : Kind) (right_null : Bool) → IsSound tables left → IsSound tables right
+pub binary_sound : (tables : Tables) (op : BinaryOp) (left : Kind) (left_null : Bool) (right : Kind) (right_null : Bool)
+    → IsSound tables left → IsSound tables right
     → may_stand_by op (Given.OfKind left) left_null (Given.OfKind right) right_null ≡ true → IsSound tables (kind_of_binary op left right)
 binary_sound tables BinaryOp.Add left left_null right right_null h k e = ints_sound tables left right h k e
 binary_sound tables BinaryOp.Subtract left left_null right right_null h k e = ints_sound tables left right h k e
@@ -135,18 +142,23 @@ mutual
   plain_known env known (Expr.Prefix place op inner) e =
       let one = plain_known env known inner (nil_left _ _ e) in
       let own = prefix_sound env.tables op (kind_of env inner) one.own
-      (subst (λ (given : Given). may_stand_behind op given ≡ true) (gives_kind env inner (nil_left _ _ e)) (holds _ _ _ (nil_right _ _ e))) in
+      (subst (λ (given : Given). may_stand_behind op given ≡ true) (gives_kind env inner (nil_left _ _ e))
+      (holds _ _ _ (nil_right _ _ e))) in
       record { firsts = alone_known env (kind_of_prefix op (kind_of env inner)) own; laters = kinds_known env inner one; own = own }
   plain_known env known (Expr.Members base first others) e =
       let one = plain_known env known base (nil_left _ _ e) in
-      let behind = members_known env.tables known.tables (place_of_expr base) (kind_of env base) (first ∷ others) one.own (nil_right _ _ e) in
+      let behind =
+      members_known env.tables known.tables (place_of_expr base) (kind_of env base) (first ∷ others) one.own (nil_right _ _ e) in
       record {
-        firsts = all_append IsKnown (first_kinds env base) (member_kinds env.tables (kind_of env base) (first ∷ others)) one.firsts behind.0;
+        firsts =
+            all_append IsKnown (first_kinds env base) (member_kinds env.tables (kind_of env base) (first ∷ others)) one.firsts behind.0;
         laters = one.laters;
         own = behind.1;
       }
   plain_known env known (Expr.Variable n) e =
-      let one = found_variable env.tables (variable env n.text) (refusal n.place UNDECLARED) (variable_in_sound env.tables (env.scopes.here ++ env.scopes.around) known.variables n.text) e in
+      let one =
+      found_variable env.tables (variable env n.text) (refusal n.place UNDECLARED)
+      (variable_in_sound env.tables (env.scopes.here ++ env.scopes.around) known.variables n.text) e in
       record { firsts = alone_known env (kind_of_variable (variable env n.text)) one; laters = tt; own = one }
   plain_known env known (Expr.Number place value) e = record { firsts = (tt, tt); laters = tt; own = tt }
   plain_known env known (Expr.Null place) e = record { firsts = (tt, tt); laters = tt; own = tt }
@@ -193,6 +205,7 @@ whole_known env known (Expr.Call callee args) e =
       own = one;
     }
 whole_known env known (Expr.Malloc place as_type target) e =
-    let one = named_sound env.tables known.tables.aliases target (nil_left _ _ (nil_right _ _ (nil_left _ _ e))) (holds _ _ _ (nil_right _ _ e)) in
+    let one =
+    named_sound env.tables known.tables.aliases target (nil_left _ _ (nil_right _ _ (nil_left _ _ e))) (holds _ _ _ (nil_right _ _ e)) in
     record { firsts = alone_known env (pointer_of env.tables target) one; laters = tt; own = one }
 whole_known env known other e = plain_known env known other e

@@ -9,7 +9,9 @@ use Rattle.c_types_rules.specs.Types.{Kind, IsKnown}
 use Rattle.c_types_rules.specs.Tables.{specifier_refusals, procedure_in}
 use Rattle.c_types_rules.specs.Scopes.{Env, entered, is_hidden}
 use Rattle.c_types_rules.specs.Expressions.{kind_of_call}
-use Rattle.c_types_rules.specs.Statements.{Found, nothing_found, refuses, ◌⊹◌, plain, whole, target, simple, local_kind, behind_local, behind_locals, behind_declaration, initializer, local, locals, declaration, test, maybe_test, maybe_simple, init, behind_init, returned, behind_stmt, stmt, stmts}
+use Rattle.c_types_rules.specs.Statements.{Found, nothing_found, refuses, ◌⊹◌, plain, whole, target, simple, local_kind, behind_local}
+use Rattle.c_types_rules.specs.Statements.{behind_locals, behind_declaration, initializer, local, locals, declaration, test, maybe_test}
+use Rattle.c_types_rules.specs.Statements.{maybe_simple, init, behind_init, returned, behind_stmt, stmt, stmts}
 use Rattle.c_types_rules.proofs.KnownTables.{nil_left, nil_right, holds, all_append, known_of, object_sound}
 use Rattle.c_types_rules.proofs.KnownExprs.{AreKnown, SoundEnv, kinds_known, plain_known, args_known, call_sound, whole_known}
 
@@ -42,8 +44,11 @@ simple_fine : (env : Env) → SoundEnv env → (s : Simple) → Fine (simple env
 simple_fine env known (Simple.Assign left op right) =
     both (target env left) _ (target_fine env known left) (checked (whole env right) _ (whole_fine env known right))
 simple_fine env known (Simple.Step left op) = checked (target env left) _ (target_fine env known left)
-simple_fine env known (Simple.Perform callee args) = λ h.
-    (known_of env.tables (kind_of_call env.tables (procedure_in env.tables.procedures callee.text)) (call_sound env known callee args h), args_known env known args (nil_left _ _ h))
+simple_fine env known (Simple.Perform callee args) = λ h. (
+  known_of env.tables (kind_of_call env.tables (procedure_in env.tables.procedures callee.text))
+      (call_sound env known callee args h),
+  args_known env known args (nil_left _ _ h),
+)
 simple_fine env known (Simple.Free place pointer) = checked (plain env pointer) _ (plain_fine env known pointer)
 
 -- DECLARATIONS
@@ -55,15 +60,19 @@ local_behind env known s one e h = record {
   variables = (object_sound env.tables known.tables.aliases s one.declarator.stars e (holds _ _ _ (nil_left _ _ h)), known.variables);
 }
 
-initializer_fine : (env : Env) → SoundEnv env → (place : Place) (kind : Kind) (value : Option Expr) → Fine (initializer env place kind value)
+initializer_fine : (env : Env) → SoundEnv env → (place : Place) (kind : Kind) (value : Option Expr)
+    → Fine (initializer env place kind value)
 initializer_fine env known place kind None = λ _. tt
 initializer_fine env known place kind (Some value) = checked (whole env value) _ (whole_fine env known value)
 
-local_fine : (env : Env) → SoundEnv env → (s : Specifier) (one : Initialized) → specifier_refusals env.tables s ≡ [] → Fine (local env s one)
+local_fine : (env : Env) → SoundEnv env → (s : Specifier) (one : Initialized) → specifier_refusals env.tables s ≡ []
+    → Fine (local env s one)
 local_fine env known s one e h =
-    initializer_fine (behind_local env s one) (local_behind env known s one e h) (place_of_specifier s) (local_kind env s one) one.value (nil_right _ _ (nil_right _ _ h))
+    initializer_fine (behind_local env s one) (local_behind env known s one e h) (place_of_specifier s) (local_kind env s one) one.value
+    (nil_right _ _ (nil_right _ _ h))
 
-locals_fine : (env : Env) → SoundEnv env → (s : Specifier) (all : List Initialized) → specifier_refusals env.tables s ≡ [] → Fine (locals env s all)
+locals_fine : (env : Env) → SoundEnv env → (s : Specifier) (all : List Initialized) → specifier_refusals env.tables s ≡ []
+    → Fine (locals env s all)
 locals_fine env known s [] e = λ _. tt
 locals_fine env known s (first ∷ others) e =
     behind (local env s first) (locals (behind_local env s first) s others) (local_fine env known s first e)
@@ -79,8 +88,11 @@ locals_behind env known s (first ∷ others) e h =
 pub accepted_specifier : (env : Env) (l : Local) → (declaration env l).refusals ≡ [] → specifier_refusals env.tables l.specifier ≡ []
 accepted_specifier env l h = nil_left _ _ (nil_left _ _ h)
 
-pub accepted_locals : (env : Env) (l : Local) → (declaration env l).refusals ≡ [] → (locals env l.specifier (l.first ∷ l.others)).refusals ≡ []
-accepted_locals env l h = by_test (is_hidden env l.specifier) (holds _ _ _ (nil_right (specifier_refusals env.tables l.specifier) _ (nil_left _ _ h))) (nil_right _ _ h)
+pub accepted_locals : (env : Env) (l : Local) → (declaration env l).refusals ≡ []
+    → (locals env l.specifier (l.first ∷ l.others)).refusals ≡ []
+accepted_locals env l h =
+    by_test (is_hidden env l.specifier) (holds _ _ _ (nil_right (specifier_refusals env.tables l.specifier) _ (nil_left _ _ h)))
+    (nil_right _ _ h)
   where
     found : Found
     found = locals env l.specifier (l.first ∷ l.others)
@@ -100,7 +112,8 @@ declaration_fine env known l h = by_test (is_hidden env l.specifier) (nil_right 
     by_test false e = locals_fine env known l.specifier (l.first ∷ l.others) (accepted_specifier env l h) e
 
 declaration_behind : (env : Env) → SoundEnv env → (l : Local) → (declaration env l).refusals ≡ [] → SoundEnv (behind_declaration env l)
-declaration_behind env known l h = locals_behind env known l.specifier (l.first ∷ l.others) (accepted_specifier env l h) (accepted_locals env l h)
+declaration_behind env known l h =
+    locals_behind env known l.specifier (l.first ∷ l.others) (accepted_specifier env l h) (accepted_locals env l h)
 
 -- STATEMENTS
 
@@ -151,7 +164,8 @@ mutual
   stmt_fine env known result loops (Stmt.While place condition body) =
       both (test env condition) _ (test_fine env known condition) (stmt_fine (entered env) (entered_sound env known) result true body)
   stmt_fine env known result loops (Stmt.DoWhile place body condition) =
-      both (stmt (entered env) result true body) _ (stmt_fine (entered env) (entered_sound env known) result true body) (test_fine env known condition)
+      both (stmt (entered env) result true body) _ (stmt_fine (entered env) (entered_sound env known) result true body)
+      (test_fine env known condition)
   stmt_fine env known result loops (Stmt.For place first condition step body) =
       behind (init (entered env) first) _ (init_fine (entered env) (entered_sound env known) first) (λ h.
       let inner = init_behind (entered env) (entered_sound env known) first h in

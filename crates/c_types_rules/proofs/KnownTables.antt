@@ -9,7 +9,10 @@ use Rattle.shape_data.specs.declared.program.Ty.TheVariants.{Ptr}
 use Rattle.c_tokens.specs.declared.places.Place.{Place}
 use Rattle.c_grammar.specs.Trees.{Specifier, Declarator, Fields, Head, Item}
 use Rattle.c_types_rules.specs.Types.{Kind, IsKnown, unless}
-use Rattle.c_types_rules.specs.Tables.{Structure, Alias, Procedure, Tables, FieldKind, tag_or, declared_by, structure_in, alias_in, procedure_in, is_defined, pointer_to, pointer_by, pointer_of, specifier_refusals, names_structure, object_kind, may_be_object, result_kind, may_be_result, field_kind, field_kinds, field_in, field_by, field_of, kind_of_result}
+use Rattle.c_types_rules.specs.Tables.{Structure, Alias, Procedure, Tables, FieldKind, tag_or, declared_by, structure_in, alias_in}
+use Rattle.c_types_rules.specs.Tables.{procedure_in, is_defined, pointer_to, pointer_by, pointer_of, specifier_refusals, names_structure}
+use Rattle.c_types_rules.specs.Tables.{object_kind, may_be_object, result_kind, may_be_result, field_kind, field_kinds, field_in, field_by}
+use Rattle.c_types_rules.specs.Tables.{field_of, kind_of_result}
 use Rattle.c_types_rules.specs.Items.{declarator_refusals, lines_refusals, head_refusals, item}
 
 pub nil_left : {A : Type 0} (xs ys : List A) → xs ++ ys ≡ [] → xs ≡ []
@@ -29,7 +32,8 @@ all_append P [] ys h k = k
 all_append P (x ∷ xs) ys h k = (h.0, all_append P xs ys h.1 k)
 
 -- a step of a look-up
-pub look_up : {X : Type 0} (P : X → Type 0) (b : Bool) (x : X) (others : Option X) → P x → IfSome others P → IfSome (cond b (Some x) others) P
+pub look_up : {X : Type 0} (P : X → Type 0) (b : Bool) (x : X) (others : Option X) → P x → IfSome others P
+    → IfSome (cond b (Some x) others) P
 look_up P true x others h k = h
 look_up P false x others h k = k
 
@@ -45,7 +49,8 @@ has_tag all tag = elim (structure_in all tag) [ None ↦ false | Some found ↦ 
 tag_first : (first : Structure) (others : List Structure) → has_tag (first ∷ others) first.tag ≡ true
 tag_first first others = by_test (bytes_eq first.tag first.tag) ((bytes_eq-Decides first.tag first.tag).1 refl)
   where
-    by_test : (b : Bool) → b ≡ true → (elim (cond b (Some first) (structure_in others first.tag)) [ None ↦ false | Some found ↦ true ]) ≡ true
+    by_test : (b : Bool) → b ≡ true
+        → (elim (cond b (Some first) (structure_in others first.tag)) [ None ↦ false | Some found ↦ true ]) ≡ true
     by_test true e = refl
     by_test false e = absurd (cc)
 
@@ -65,15 +70,18 @@ abbrev pub AreAliasesDefined : Tables → Type 0
 AreAliasesDefined tables = AllByRecursion (IsAliasDefined tables) tables.aliases
 
 pub aliases_defined : (tables : Tables) (all : List Item)
-    → ((tag : List ℕ) → has_tag (declared_by all).structures tag ≡ true → is_defined tables tag ≡ true) → AllByRecursion (IsAccepted tables) all
+    → ((tag : List ℕ) → has_tag (declared_by all).structures tag ≡ true → is_defined tables tag ≡ true)
+    → AllByRecursion (IsAccepted tables) all
     → AllByRecursion (IsAliasDefined tables) (declared_by all).aliases
 aliases_defined tables [] within h = tt
-aliases_defined tables (Item.StructItem place tag lines ∷ others) within h = aliases_defined tables others (λ t k. within t (tag_behind _ _ t k)) h.1
+aliases_defined tables (Item.StructItem place tag lines ∷ others) within h =
+    aliases_defined tables others (λ t k. within t (tag_behind _ _ t k)) h.1
 aliases_defined tables (Item.TypedefStruct place tag lines alias ∷ others) within h = (
   within (tag_or tag alias).text (tag_first (record { tag = (tag_or tag alias).text; lines = lines }) (declared_by others).structures),
   aliases_defined tables others (λ t k. within t (tag_behind _ _ t k)) h.1,
 )
-aliases_defined tables (Item.TypedefAlias place tag alias ∷ others) within h = (holds _ _ _ (nil_left _ _ h.0.1), aliases_defined tables others within h.1)
+aliases_defined tables (Item.TypedefAlias place tag alias ∷ others) within h =
+    (holds _ _ _ (nil_left _ _ h.0.1), aliases_defined tables others within h.1)
 aliases_defined tables (Item.Prototype head ∷ others) within h = aliases_defined tables others within h.1
 aliases_defined tables (Item.Definition head place body end ∷ others) within h = aliases_defined tables others within h.1
 
@@ -102,12 +110,15 @@ alias_sound : (tables : Tables) (all : List Alias) → AllByRecursion (IsAliasDe
 alias_sound tables [] h n e = absurd (cc)
 alias_sound tables (first ∷ others) h n e = by_test (bytes_eq first.name n) (alias_sound tables others h.1 n) e
   where
-    by_test : (b : Bool) → ((elim (alias_in others n) [ None ↦ false | Some found ↦ true ]) ≡ true → IsSound tables (pointer_by tables (alias_in others n)))
-        → (elim (cond b (Some first) (alias_in others n)) [ None ↦ false | Some found ↦ true ]) ≡ true → IsSound tables (pointer_by tables (cond b (Some first) (alias_in others n)))
+    by_test : (b : Bool)
+        → ((elim (alias_in others n) [ None ↦ false | Some found ↦ true ]) ≡ true → IsSound tables (pointer_by tables (alias_in others n)))
+        → (elim (cond b (Some first) (alias_in others n)) [ None ↦ false | Some found ↦ true ]) ≡ true
+        → IsSound tables (pointer_by tables (cond b (Some first) (alias_in others n)))
     by_test true behind f = pointer_sound tables first.tag h.0
     by_test false behind f = behind f
 
-pub named_sound : (tables : Tables) → AreAliasesDefined tables → (s : Specifier) → specifier_refusals tables s ≡ [] → names_structure s ≡ true
+pub named_sound : (tables : Tables) → AreAliasesDefined tables → (s : Specifier) → specifier_refusals tables s ≡ []
+    → names_structure s ≡ true
     → IsSound tables (pointer_of tables s)
 named_sound tables aliases (Specifier.Int place) e h = absurd (cc)
 named_sound tables aliases (Specifier.Void place) e h = absurd (cc)
@@ -166,7 +177,8 @@ structures_sound tables aliases (Item.Definition head place body end ∷ others)
 abbrev pub IsProcedureSound : Tables → Procedure → Type 0
 IsProcedureSound tables one = IsSound tables (kind_of_result tables one.head)
 
-pub head_sound : (tables : Tables) → AreAliasesDefined tables → (head : Head) → head_refusals tables head ≡ [] → IsSound tables (kind_of_result tables head)
+pub head_sound : (tables : Tables) → AreAliasesDefined tables → (head : Head) → head_refusals tables head ≡ []
+    → IsSound tables (kind_of_result tables head)
 head_sound tables aliases head e =
     let named = nil_left _ _ (nil_left _ _ e) in
     result_sound tables aliases head.specifier head.declarator.stars (nil_left _ _ named) (holds _ _ _ (nil_right _ _ named))
@@ -192,27 +204,37 @@ pub record SoundTables (tables : Tables) : Type 0 where
 pub tables_sound : (all : List Item) → AllByRecursion (IsAccepted (declared_by all)) all → SoundTables (declared_by all)
 tables_sound all h =
     let aliases = aliases_defined (declared_by all) all (λ tag k. k) h in
-    record { aliases = aliases; structures = structures_sound (declared_by all) aliases all h; procedures = procedures_sound (declared_by all) aliases all h }
+    record {
+      aliases = aliases;
+      structures = structures_sound (declared_by all) aliases all h;
+      procedures = procedures_sound (declared_by all) aliases all h;
+    }
 
-pub field_in_sound : (tables : Tables) (all : List FieldKind) → AllByRecursion (IsFieldSound tables) all → (n : List ℕ) → IfSome (field_in all n) (IsFieldSound tables)
+pub field_in_sound : (tables : Tables) (all : List FieldKind) → AllByRecursion (IsFieldSound tables) all → (n : List ℕ)
+    → IfSome (field_in all n) (IsFieldSound tables)
 field_in_sound tables [] h n = tt
-field_in_sound tables (first ∷ others) h n = look_up (IsFieldSound tables) (bytes_eq first.name.text n) first (field_in others n) h.0 (field_in_sound tables others h.1 n)
+field_in_sound tables (first ∷ others) h n =
+    look_up (IsFieldSound tables) (bytes_eq first.name.text n) first (field_in others n) h.0 (field_in_sound tables others h.1 n)
 
 structure_in_sound : (tables : Tables) (all : List Structure) → AllByRecursion (IsStructureSound tables) all → (tag : List ℕ)
     → IfSome (structure_in all tag) (IsStructureSound tables)
 structure_in_sound tables [] h tag = tt
 structure_in_sound tables (first ∷ others) h tag =
-    look_up (IsStructureSound tables) (bytes_eq first.tag tag) first (structure_in others tag) h.0 (structure_in_sound tables others h.1 tag)
+    look_up (IsStructureSound tables) (bytes_eq first.tag tag) first (structure_in others tag) h.0
+    (structure_in_sound tables others h.1 tag)
 
 pub procedure_sound : (tables : Tables) (all : List Procedure) → AllByRecursion (IsProcedureSound tables) all → (n : List ℕ)
     → IfSome (procedure_in all n) (IsProcedureSound tables)
 procedure_sound tables [] h n = tt
 procedure_sound tables (first ∷ others) h n =
-    look_up (IsProcedureSound tables) (bytes_eq first.head.declarator.name.text n) first (procedure_in others n) h.0 (procedure_sound tables others h.1 n)
+    look_up (IsProcedureSound tables) (bytes_eq first.head.declarator.name.text n) first (procedure_in others n) h.0
+    (procedure_sound tables others h.1 n)
 
 pub field_sound : (tables : Tables) → SoundTables tables → (tag n : List ℕ) → IfSome (field_of tables tag n) (IsFieldSound tables)
-field_sound tables known tag n = by_structure (structure_in tables.structures tag) (structure_in_sound tables tables.structures known.structures tag)
+field_sound tables known tag n =
+    by_structure (structure_in tables.structures tag) (structure_in_sound tables tables.structures known.structures tag)
   where
-    by_structure : (found : Option Structure) → IfSome found (IsStructureSound tables) → IfSome (field_by tables found n) (IsFieldSound tables)
+    by_structure : (found : Option Structure) → IfSome found (IsStructureSound tables)
+        → IfSome (field_by tables found n) (IsFieldSound tables)
     by_structure None h = tt
     by_structure (Some found) h = field_in_sound tables (field_kinds tables found.lines) h n

@@ -14,7 +14,8 @@ last_behind : (first : Option Kind) (xs : List Kind) (y : Kind) (ys : List Kind)
 last_behind first [] y ys = refl
 last_behind first (x ∷ xs) y ys = last_behind (Some x) xs y ys
 
-last_link : (env : Env) (kind : Kind) (others : Links) → last_or (Some kind) (link_kinds env kind others) ≡ Some (kind_of_chain env kind others)
+last_link : (env : Env) (kind : Kind) (others : Links)
+    → last_or (Some kind) (link_kinds env kind others) ≡ Some (kind_of_chain env kind others)
 last_link env kind Links.NoLinks = refl
 last_link env kind (Links.Link op operand others) = last_link env (kind_of_binary op kind (kind_of env operand)) others
 
@@ -29,6 +30,7 @@ have_own env level (Expr.Chain first (Links.Link op second others)) from to h =
     let kind = kind_of_binary op (kind_of env first) (kind_of env second) in
     last_behind None (first_kinds env first) kind (link_kinds env kind others) ∙ last_link env kind others
 have_own env level (Expr.Members base first others) from to h =
-    last_behind None (first_kinds env base) (kind_of_member env.tables (kind_of env base) first) (member_kinds env.tables (kind_of_member env.tables (kind_of env base) first) others)
+    last_behind None (first_kinds env base) (kind_of_member env.tables (kind_of env base) first)
+    (member_kinds env.tables (kind_of_member env.tables (kind_of env base) first) others)
     ∙ last_member env.tables (kind_of_member env.tables (kind_of env base) first) others
 have_own env level other from to h = refl

@@ -27,7 +27,8 @@ at_specifier (Specifier.Void place) from to h = at_word place _ from to h
 at_specifier (Specifier.Struct place tag) from to h = at_word place _ from _ h.1
 at_specifier (Specifier.Alias n) from to h = at_name n from to h
 
-at_malloc : (place : Place) (as_type : Option Specifier) (target : Specifier) (from to : List Word) → malloc place as_type target from to → place_at from ≡ place
+at_malloc : (place : Place) (as_type : Option Specifier) (target : Specifier) (from to : List Word) → malloc place as_type target from to
+    → place_at from ≡ place
 at_malloc place None target from to h = at_word place _ from _ h.1
 at_malloc place (Some as_type) target from to h = at_word place _ from _ h.1.1
 

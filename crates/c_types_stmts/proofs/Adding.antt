@@ -1,5 +1,6 @@
 -- What is found in one part and then in another.
-use Rattle.std.proofs.Common.{◌≡◌, ℕ, ◌+◌, ◌<◌, List, ◌∷◌, ◌++◌, length, drop, get_or, Result, Ok, Err, OnOk, append_assoc, sym, ap, ◌∙◌, subst}
+use Rattle.std.proofs.Common.{◌≡◌, ℕ, ◌+◌, ◌<◌, List, ◌∷◌, ◌++◌, length, drop, get_or, Result, Ok, Err, OnOk, append_assoc, sym, ap, ◌∙◌}
+use Rattle.std.proofs.Common.{subst}
 use Rattle.std.proofs.lemmas.List.{append-nil, at_drop_more}
 use Rattle.c_tokens.specs.declared.places.Refusal.{Refusal}
 use Rattle.c_types_rules.specs.Types.{Kind}
@@ -15,7 +16,8 @@ pub nothing : (f : Finding) → Adds nothing_found f f
 nothing f = record { first = more.nothing f.first; kinds = sym (append-nil f.kinds) }
 
 -- something is refused
-pub refused : (all : List Refusal) (f : Finding) (first : FirstRefusal) → first ≡ with_refusals f.first all → Adds (refuses all) f (record { first = first; kinds = f.kinds })
+pub refused : (all : List Refusal) (f : Finding) (first : FirstRefusal) → first ≡ with_refusals f.first all
+    → Adds (refuses all) f (record { first = first; kinds = f.kinds })
 refused all f first is = record { first = is; kinds = sym (append-nil f.kinds) }
 
 -- one part, and then the other
@@ -26,13 +28,15 @@ then {one = one} {other = other} {a = a} {b = b} {c = c} first next = record {
 }
 
 -- the same, where the second is what a function ends with
-pub ends : {T E : Type 0} (r : Result T E) (other : Found) (c : Finding) {one : Found} {a b : Finding} → Adds one a b → OnOk r (Adds other b c) → OnOk r (Adds (one ⊹ other) a c)
+pub ends : {T E : Type 0} (r : Result T E) (other : Found) (c : Finding) {one : Found} {a b : Finding} → Adds one a b
+    → OnOk r (Adds other b c) → OnOk r (Adds (one ⊹ other) a c)
 ends (Ok x) other c first next = then first next
 ends (Err e) other c first next = tt
 
 -- refusals and types that are found by two functions
 pub both : {T E : Type 0} (r : Result T E) (found : Found) (f : Finding) (first : FirstRefusal) (kinds : List Kind)
-    → first ≡ with_refusals f.first found.refusals → OnOk r (kinds ≡ f.kinds ++ found.kinds) → OnOk r (Adds found f (record { first = first; kinds = kinds }))
+    → first ≡ with_refusals f.first found.refusals → OnOk r (kinds ≡ f.kinds ++ found.kinds)
+    → OnOk r (Adds found f (record { first = first; kinds = kinds }))
 both (Ok x) found f first kinds is more = record { first = is; kinds = more }
 both (Err e) found f first kinds is more = tt
 
@@ -40,7 +44,8 @@ both (Err e) found f first kinds is more = tt
 pub same : {one : Found} {a b : Finding} → Adds one a b → (other : Found) → one ≡ other → Adds other a b
 same {a = a} {b = b} now other is = subst (λ f. Adds f a b) is now
 
-pub ends_same : {T E : Type 0} (r : Result T E) (one other : Found) (a b : Finding) → OnOk r (Adds one a b) → one ≡ other → OnOk r (Adds other a b)
+pub ends_same : {T E : Type 0} (r : Result T E) (one other : Found) (a b : Finding) → OnOk r (Adds one a b) → one ≡ other
+    → OnOk r (Adds other a b)
 ends_same (Ok x) one other a b now is = same now other is
 ends_same (Err e) one other a b now is = tt
 
@@ -49,8 +54,10 @@ pub begun : (all : Found) (f : Finding) → AddsUpTo all all f f
 begun all f = record { whole = λ after now. now }
 
 -- a turn of a loop
-pub turn : {left all one : Found} {start now next : Finding} (rest : Found) → AddsUpTo left all start now → Adds one now next → left ≡ one ⊹ rest → AddsUpTo rest all start next
-turn {now = now} rest before step parts = record { whole = λ after more. before.whole after (subst (λ f. Adds f now after) (sym parts) (then step more)) }
+pub turn : {left all one : Found} {start now next : Finding} (rest : Found) → AddsUpTo left all start now → Adds one now next
+    → left ≡ one ⊹ rest → AddsUpTo rest all start next
+turn {now = now} rest before step parts =
+    record { whole = λ after more. before.whole after (subst (λ f. Adds f now after) (sym parts) (then step more)) }
 
 -- behind the last turn
 pub over : {left all : Found} {start now : Finding} → AddsUpTo left all start now → left ≡ nothing_found → Adds all start now
@@ -72,7 +79,8 @@ module _ {S X : Type 0} (all : S → List X → Found) (one : S → X → Found)
   turned before more = turn (all to (drop (i + 1) xs)) before more parts
 
 -- where the state is behind the loop
-module _ {S X T : Type 0} (end : S → List X → T) (next : S → X → S) (step : (s : S) (x : X) (xs : List X) → end s (x ∷ xs) ≡ end (next s x) xs)
+module _ {S X T : Type 0} (end : S → List X → T) (next : S → X → S)
+    (step : (s : S) (x : X) (xs : List X) → end s (x ∷ xs) ≡ end (next s x) xs)
     (xs : List X) (i : ℕ) (x : X) (within : i < length xs) (is : x ≡ get_or xs i x) (s to : S) (goes : to ≡ next s x) where
   pub passed : (all : T) → end s (drop i xs) ≡ all → end to (drop (i + 1) xs) ≡ all
   passed all before =

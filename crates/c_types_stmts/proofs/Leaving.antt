@@ -56,7 +56,8 @@ Leaves before begin after =
     → after ≡ record { tables = before.tables; scopes = record { here = here; around = around } }
 
 -- behind a scope that was entered the variables stand as before
-pub left : (outer within inner after : Env) (begin : ℕ) → within ≡ entered outer → IsWithin within inner → begin ≡ length outer.scopes.around
+pub left : (outer within inner after : Env) (begin : ℕ) → within ≡ entered outer → IsWithin within inner
+    → begin ≡ length outer.scopes.around
     → Leaves inner begin after → after ≡ outer
 left outer within inner after begin entry kept is leaves =
     let around : inner.scopes.around ≡ outer.scopes.here ++ outer.scopes.around = kept.around ∙ ap (λ (e : Env). e.scopes.around) entry in
@@ -64,9 +65,11 @@ left outer within inner after begin entry kept is leaves =
     ∙ ap (λ (t : Tables). record { tables = t; scopes = outer.scopes }) (kept.tables ∙ ap (λ (e : Env). e.tables) entry)
 
 -- a scope that was entered may be left
-pub may_leave : (outer within inner : Env) (begin : ℕ) → within ≡ entered outer → IsWithin within inner → begin ≡ length outer.scopes.around → begin ≤ length inner.scopes.around
+pub may_leave : (outer within inner : Env) (begin : ℕ) → within ≡ entered outer → IsWithin within inner → begin ≡ length outer.scopes.around
+    → begin ≤ length inner.scopes.around
 may_leave outer within inner begin entry kept is =
-    let around : length inner.scopes.around ≡ length (outer.scopes.here ++ outer.scopes.around) = ap length (kept.around ∙ ap (λ (e : Env). e.scopes.around) entry) in
+    let around : length inner.scopes.around ≡ length (outer.scopes.here ++ outer.scopes.around) =
+    ap length (kept.around ∙ ap (λ (e : Env). e.scopes.around) entry) in
     omega (arith, length-append outer.scopes.here outer.scopes.around)
 
 pub stmt_kept : (within inner : Env) (one : Stmt) → inner ≡ behind_stmt within one → IsWithin within inner

@@ -1,5 +1,6 @@
 -- A sorted list of numbers is the one that the definition gives by putting one number in after the other.
-use Rattle.std.proofs.Common.{Ordering, ◌≡◌, ◌≢◌, ℕ, zero, suc, ◌+◌, ◌<◌, ◌≤◌, ◌==◌, nat_lt, nat_eq, Bool, true, false, cond, List, [], ◌∷◌, ◌++◌, length, get_or, Some, None, Result, Ok, Err, ◌⊎◌, inl, inr, refl, sym, ap, ◌∙◌, subst, arith, All}
+use Rattle.std.proofs.Common.{Ordering, ◌≡◌, ◌≢◌, ℕ, zero, suc, ◌+◌, ◌<◌, ◌≤◌, ◌==◌, nat_lt, nat_eq, Bool, true, false, cond, List, [], ◌∷◌}
+use Rattle.std.proofs.Common.{◌++◌, length, get_or, Some, None, Result, Ok, Err, ◌⊎◌, inl, inr, refl, sym, ap, ◌∙◌, subst, arith, All}
 use Rattle.std.specs.Prelude.{⊤, if◌then◌else◌, slice_index_or, position, MatchResult}
 use Rattle.std.specs.Ordering.{nat_cmp, is_lt, is_gt, ordering_reverse, ordering_then, MatchOrdering}
 use Rattle.std.specs.declared.cmp.Ordering.TheVariants.{Less, Equal, Greater}
@@ -55,7 +56,8 @@ not_less k place e = by_order (cases_lt k place)
 
 -- ---- the first that passes a test
 
-position_some : (p : List ℕ → Bool) (xs : List (List ℕ)) (place : ℕ) → place < length xs → p (get_or xs place []) ≡ true → ((k : ℕ) → k < place → p (get_or xs k []) ≡ false) → position p xs ≡ Some place
+position_some : (p : List ℕ → Bool) (xs : List (List ℕ)) (place : ℕ) → place < length xs → p (get_or xs place []) ≡ true →
+    ((k : ℕ) → k < place → p (get_or xs k []) ≡ false) → position p xs ≡ Some place
 position_some p xs place lt passes before =
     let e : position_or_len p xs ≡ place = position_or_len_is p xs place [] (omega (arith, lt)) before (λ less. passes) in
     let t : nat_lt place (length xs) ≡ true = (Decides-ltb place (length xs)).1 lt in
@@ -63,7 +65,8 @@ position_some p xs place lt passes before =
 
 position_none : (p : List ℕ → Bool) (xs : List (List ℕ)) → ((k : ℕ) → k < length xs → p (get_or xs k []) ≡ false) → position p xs ≡ None
 position_none p xs none =
-    let e : position_or_len p xs ≡ length xs = position_or_len_is p xs (length xs) [] (omega arith) none (λ less. absurd (omega (arith, less))) in
+    let e : position_or_len p xs ≡ length xs =
+    position_or_len_is p xs (length xs) [] (omega arith) none (λ less. absurd (omega (arith, less))) in
     ap (λ n. cond (nat_lt n (length xs)) (Some n) None) e ∙ not_below (nat_lt (length xs) (length xs)) refl
   where
     not_below : (b : Bool) → nat_lt (length xs) (length xs) ≡ b → cond b (Some (length xs)) None ≡ None
@@ -133,7 +136,8 @@ module _ (names : List (List ℕ)) where
   IsRising (x ∷ xs) = All (IsUpTo x) xs × IsRising xs
 
   first_up_to : (x y : ℕ) (ys : List ℕ) → IsRising (y ∷ ys) → 0 < times x (y ∷ ys) → IsUpTo y x
-  first_up_to x y ys rising some = All-contains (IsUpTo y) (y ∷ ys) x (All-cons (IsUpTo y) y ys (ap is_gt (tied_itself total y)) rising.0) (contained x (y ∷ ys) some)
+  first_up_to x y ys rising some =
+      All-contains (IsUpTo y) (y ∷ ys) x (All-cons (IsUpTo y) y ys (ap is_gt (tied_itself total y)) rising.0) (contained x (y ∷ ys) some)
 
   -- two lists of the same numbers that rise are the same
   one_order : (xs ys : List ℕ) → IsRising xs → IsRising ys → ((x : ℕ) → times x xs ≡ times x ys) → xs ≡ ys
@@ -155,7 +159,10 @@ module _ (names : List (List ℕ)) where
       let once_y : own y y ≡ 1 = own_once y in
       let same_x : times x (x ∷ xs) ≡ times x (y ∷ ys) = same x in
       let same_y : times y (x ∷ xs) ≡ times y (y ∷ ys) = same y in
-      let head : x ≡ y = alike x y (first_up_to y x xs rx (omega (arith, in_ys, once_y, same_y))) (first_up_to x y ys ry (omega (arith, in_xs, once, same_x))) in
+      let head : x
+      ≡ y =
+      alike x y (first_up_to y x xs rx (omega (arith, in_ys, once_y, same_y)))
+      (first_up_to x y ys ry (omega (arith, in_xs, once, same_x))) in
       let rest : xs ≡ ys = one_order xs ys rx.1 ry.1 (λ z. tails z head) in
       λ i. head i ∷ rest i
     where
@@ -167,21 +174,29 @@ module _ (names : List (List ℕ)) where
           let all : times z (x ∷ xs) ≡ times z (y ∷ ys) = same z in
           omega (arith, left, right, owns, all)
 
-  rising_from : (xs : List ℕ) → ((i j : ℕ) (d : ℕ) → i ≤ j → j < length xs → is_lt (rank (get_or xs j d) (get_or xs i d)) ≡ false) → IsRising xs
+  rising_from : (xs : List ℕ) → ((i j : ℕ) (d : ℕ) → i ≤ j → j < length xs → is_lt (rank (get_or xs j d) (get_or xs i d)) ≡ false) →
+      IsRising xs
   rising_from [] far = tt
   rising_from (x ∷ xs) far = (
-    (λ k d lt. sym (turned (rank x (get_or xs k d))) ∙ ap is_lt (sym (total.antisymm (get_or xs k d) x)) ∙ far 0 (suc k) d (omega arith) (omega (arith, lt))),
+    (λ k d lt. sym (turned (rank x (get_or xs k d))) ∙ ap is_lt (sym (total.antisymm (get_or xs k d) x))
+        ∙ far 0 (suc k) d (omega arith) (omega (arith, lt))),
     rising_from xs (λ i j d le lt. far (suc i) (suc j) d (omega (arith, le)) (omega (arith, lt))),
   )
 
   put_rising : (number : ℕ) (order : List ℕ) → All (λ x. x < number) order → IsRising order → IsRising (in_name_order names number order)
   put_rising number [] less rising = (All-nil (IsUpTo number), tt)
-  put_rising number (x ∷ order) less rising = by_test (is_before names number x) refl (put_rising number order (All-tail (λ y. y < number) x order less) rising.1)
+  put_rising number (x ∷ order) less rising =
+      by_test (is_before names number x) refl (put_rising number order (All-tail (λ y. y < number) x order less) rising.1)
     where
-      by_test : (b : Bool) → is_before names number x ≡ b → IsRising (in_name_order names number order) → IsRising (if b then number ∷ x ∷ order else x ∷ in_name_order names number order)
+      by_test : (b : Bool) → is_before names number x ≡ b → IsRising (in_name_order names number order) →
+          IsRising (if b then number ∷ x ∷ order else x ∷ in_name_order names number order)
       by_test true e again =
-          let here : IsUpTo number x = first_less (slice_cmp nat_cmp (slice_index_or names number []) (slice_index_or names x [])) (nat_cmp number x) e in
-          (All-cons (IsUpTo number) x order here (All-weaker (IsUpTo x) (IsUpTo number) (λ z le. upto total number x z here le) order rising.0), rising)
+          let here : IsUpTo number x =
+          first_less (slice_cmp nat_cmp (slice_index_or names number []) (slice_index_or names x [])) (nat_cmp number x) e in (
+            All-cons (IsUpTo number) x order here
+                (All-weaker (IsUpTo x) (IsUpTo number) (λ z le. upto total number x z here le) order rising.0),
+            rising,
+          )
       by_test false e again =
           let own_less : x < number = less 0 0 (omega arith) in
           let here : IsUpTo x number =
@@ -202,7 +217,8 @@ module _ (names : List (List ℕ)) where
           times x (if b then number ∷ y ∷ order else y ∷ in_name_order names number order) ≡ own x number + times x (y ∷ order)
       by_test true again = sum_by-cons (own x) number (y ∷ order)
       by_test false again =
-          let left : times x (y ∷ in_name_order names number order) ≡ own x y + times x (in_name_order names number order) = sum_by-cons (own x) y (in_name_order names number order) in
+          let left : times x (y ∷ in_name_order names number order) ≡ own x y + times x (in_name_order names number order) =
+          sum_by-cons (own x) y (in_name_order names number order) in
           let right : times x (y ∷ order) ≡ own x y + times x order = sum_by-cons (own x) y order in
           omega (arith, left, right, again)
 
@@ -215,9 +231,11 @@ module _ (names : List (List ℕ)) where
       omega (arith, put, push, again)
 
   -- the numbers below, sorted
-  pub sorted_is : (n : ℕ) (before after : List ℕ) → before ≡ below n → IsPermutation before after → IsSortedBy (λ one other. is_lt (name_rank names one other)) after → after ≡ by_name names n
+  pub sorted_is : (n : ℕ) (before after : List ℕ) → before ≡ below n → IsPermutation before after →
+      IsSortedBy (λ one other. is_lt (name_rank names one other)) after → after ≡ by_name names n
   sorted_is n before after is moved sorted =
-      one_order after (by_name names n) (rising_from after (sorted_far (λ one other. is_lt (name_rank names one other)) ranks_numbers after sorted)) (by_name_rising n)
+      one_order after (by_name names n)
+      (rising_from after (sorted_far (λ one other. is_lt (name_rank names one other)) ranks_numbers after sorted)) (by_name_rising n)
       (λ x. sum_by-IsPermutation (own x) before after moved ∙ ap (times x) is ∙ sym (times_by_name x n))
 
   -- ---- a name is looked up in the order
@@ -228,19 +246,25 @@ module _ (names : List (List ℕ)) where
   rising_pairs (x ∷ xs) rising zero (suc j) d lt less = rising.0 j d (omega (arith, less))
   rising_pairs (x ∷ xs) rising (suc i) (suc j) d lt less = rising_pairs xs rising.1 i j d (omega (arith, lt)) (omega (arith, less))
 
-  by_name_sorted : (n : ℕ) → IsSortedBy (λ one other. is_lt (slice_cmp nat_cmp (slice_index_or names one []) (slice_index_or names other []))) (by_name names n)
+  by_name_sorted : (n : ℕ) →
+      IsSortedBy (λ one other. is_lt (slice_cmp nat_cmp (slice_index_or names one []) (slice_index_or names other []))) (by_name names n)
   by_name_sorted n k d low high =
       let one : ℕ = get_or (by_name names n) k d in
       let next : ℕ = get_or (by_name names n) (k + 1) d in
       first_not_less (slice_cmp nat_cmp (slice_index_or names next []) (slice_index_or names one [])) (nat_cmp next one)
-      (ap is_lt (total.antisymm next one) ∙ turned (rank one next) ∙ rising_pairs (by_name names n) (by_name_rising n) k (k + 1) d (omega arith) high)
+      (ap is_lt (total.antisymm next one) ∙ turned (rank one next)
+      ∙ rising_pairs (by_name names n) (by_name_rising n) k (k + 1) d (omega arith) high)
 
   -- where each name of the order is another one, none is this one
-  none_named : (name : List ℕ) → ((k d : ℕ) → k < length (by_name names (length names)) → slice_cmp nat_cmp (get_or names (get_or (by_name names (length names)) k d) []) name ≢ Equal) →
+  none_named : (name : List ℕ) →
+      ((k d : ℕ) → k < length (by_name names (length names)) →
+      slice_cmp nat_cmp (get_or names (get_or (by_name names (length names)) k d) []) name ≢ Equal) →
       position (λ other. pointwise nat_eq other name) names ≡ None
-  none_named name differ = position_none (λ other. pointwise nat_eq other name) names (λ i lt. by_test i lt (pointwise nat_eq (get_or names i []) name) refl)
+  none_named name differ =
+      position_none (λ other. pointwise nat_eq other name) names (λ i lt. by_test i lt (pointwise nat_eq (get_or names i []) name) refl)
     where
-      by_test : (i : ℕ) → i < length names → (b : Bool) → pointwise nat_eq (get_or names i []) name ≡ b → pointwise nat_eq (get_or names i []) name ≡ false
+      by_test : (i : ℕ) → i < length names → (b : Bool) → pointwise nat_eq (get_or names i []) name ≡ b →
+          pointwise nat_eq (get_or names i []) name ≡ false
       by_test i lt false e = e
       by_test i lt true e =
           let order : List ℕ = by_name names (length names) in
@@ -248,10 +272,12 @@ module _ (names : List (List ℕ)) where
           let same : get_or names i [] ≡ name = (bytes_decides (get_or names i []) name).0 e in
           let number : get_or order place.0 i ≡ i = get_or_from_slice_get order place.0 i i place.1 in
           let named : get_or names (get_or order place.0 i) [] ≡ name = ap (λ n. get_or names n []) number ∙ same in
-          absurd (differ place.0 i (slice_get_within order place.0 i place.1) (ap (λ l. slice_cmp nat_cmp l name) named ∙ tied_itself nat_list_cmp_total name))
+          absurd (differ place.0 i (slice_get_within order place.0 i place.1)
+          (ap (λ l. slice_cmp nat_cmp l name) named ∙ tied_itself nat_list_cmp_total name))
 
   -- the number that is found is the first of its name, since it is the only one
-  one_named : AreApart names → (name : List ℕ) (number : ℕ) → number < length names → slice_cmp nat_cmp (get_or names number []) name ≡ Equal →
+  one_named : AreApart names → (name : List ℕ) (number : ℕ) → number < length names →
+      slice_cmp nat_cmp (get_or names number []) name ≡ Equal →
       position (λ other. pointwise nat_eq other name) names ≡ Some number
   one_named apart name number lt e =
       position_some (λ other. pointwise nat_eq other name) names number lt ((bytes_decides (get_or names number []) name).1 same)
@@ -260,30 +286,38 @@ module _ (names : List (List ℕ)) where
       same : get_or names number [] ≡ name
       same = exact_bytes (get_or names number []) name e
 
-      by_test : (i : ℕ) → i < number → (b : Bool) → pointwise nat_eq (get_or names i []) name ≡ b → pointwise nat_eq (get_or names i []) name ≡ false
+      by_test : (i : ℕ) → i < number → (b : Bool) → pointwise nat_eq (get_or names i []) name ≡ b →
+          pointwise nat_eq (get_or names i []) name ≡ false
       by_test i less false f = f
       by_test i less true f =
           let is : get_or names i [] ≡ name = (bytes_decides (get_or names i []) name).0 f in
           let one : i ≡ number =
-          apart i number name (slice_get-get_or names i [] (omega (arith, less, lt)) ∙ ap (λ l. Some l) is) (slice_get-get_or names number [] lt ∙ ap (λ l. Some l) same) in
+          apart i number name (slice_get-get_or names i [] (omega (arith, less, lt)) ∙ ap (λ l. Some l) is)
+          (slice_get-get_or names number [] lt ∙ ap (λ l. Some l) same) in
           absurd (omega (arith, one, less))
 
-  pub looked_up : AreApart names → (order : List ℕ) → order ≡ by_name names (length names) → (name : List ℕ) (r : Result ℕ ℕ) → IsSearchInRange r (length order) →
+  pub looked_up : AreApart names → (order : List ℕ) → order ≡ by_name names (length names) → (name : List ℕ) (r : Result ℕ ℕ) →
+      IsSearchInRange r (length order) →
       IsBinarySearchResult (λ number. slice_cmp nat_cmp (slice_index_or names number []) name) order r →
-      MatchResult r (λ place. position (λ other. pointwise nat_eq other name) names ≡ Some (get_or order place 0)) (λ place. position (λ other. pointwise nat_eq other name) names ≡ None)
+      MatchResult r (λ place. position (λ other. pointwise nat_eq other name) names ≡ Some (get_or order place 0))
+      (λ place. position (λ other. pointwise nat_eq other name) names ≡ None)
   looked_up apart order is name (Ok place) range answer =
-      one_named apart name (get_or order place 0) (subst (All (λ k. k < length names)) (sym is) (by_name_below names (length names)) place 0 range) (answer 0)
+      one_named apart name (get_or order place 0)
+      (subst (All (λ k. k < length names)) (sym is) (by_name_below names (length names)) place 0 range) (answer 0)
   looked_up apart order is name (Err place) range answer =
       none_named name
       (subst (λ o. (k d : ℕ) → k < length o → slice_cmp nat_cmp (slice_index_or names (get_or o k d) []) name ≢ Equal) is
       (λ k d lt e. apart_from k (nat_lt k place) refl d lt e))
     where
-      parted : IsPartitionPoint (λ number. slice_cmp nat_cmp (slice_index_or names number []) name ≡ Less) (λ number. slice_cmp nat_cmp (slice_index_or names number []) name ≡ Greater) order place
+      parted : IsPartitionPoint (λ number. slice_cmp nat_cmp (slice_index_or names number []) name ≡ Less)
+          (λ number. slice_cmp nat_cmp (slice_index_or names number []) name ≡ Greater) order place
       parted =
           answer
           (searchable_from_sorted nat_list_cmp_total (λ number. slice_index_or names number []) order name
-          (subst (IsSortedBy (λ one other. is_lt (slice_cmp nat_cmp (slice_index_or names one []) (slice_index_or names other [])))) (sym is) (by_name_sorted (length names))))
+          (subst (IsSortedBy (λ one other. is_lt (slice_cmp nat_cmp (slice_index_or names one []) (slice_index_or names other []))))
+          (sym is) (by_name_sorted (length names))))
 
-      apart_from : (k : ℕ) (b : Bool) → nat_lt k place ≡ b → (d : ℕ) → k < length order → slice_cmp nat_cmp (slice_index_or names (get_or order k d) []) name ≢ Equal
+      apart_from : (k : ℕ) (b : Bool) → nat_lt k place ≡ b → (d : ℕ) → k < length order →
+          slice_cmp nat_cmp (slice_index_or names (get_or order k d) []) name ≢ Equal
       apart_from k true b d lt e = let less : Less ≡ Equal = sym (parted.0 k d (omega arith) ((Decides-ltb k place).0 b)) ∙ e in cc
       apart_from k false b d lt e = let more : Greater ≡ Equal = sym (parted.1 k d (not_less k place b) lt) ∙ e in cc

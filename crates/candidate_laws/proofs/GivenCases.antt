@@ -45,7 +45,8 @@ use Rattle.candidate_laws.proofs.LeavingLaws.{GoesOn, no_return_goes_on}
 -- what holds of each of a list, and what else does
 both-each : {A : Type 0} (P Q : A → Type 0) (xs : List A) → All P xs → All Q xs → All (λ x. P x × Q x) xs
 both-each P Q [] p q = All-nil (λ x. P x × Q x)
-both-each P Q (x ∷ xs) p q = All-cons (λ y. P y × Q y) x xs (All-head P x xs p, All-head Q x xs q) (both-each P Q xs (All-tail P x xs p) (All-tail Q x xs q))
+both-each P Q (x ∷ xs) p q =
+    All-cons (λ y. P y × Q y) x xs (All-head P x xs p, All-head Q x xs q) (both-each P Q xs (All-tail P x xs p) (All-tail Q x xs q))
 
 module _ (task : Task) (good : IsTask task) where
   abbrev params : ℕ
@@ -63,7 +64,8 @@ module _ (task : Task) (good : IsTask task) where
   -- ---- a pair comes to a node
 
   -- a well-formed pair without many parts
-  narrowed : (most : ℕ) (pair : Pair) → IsPair (with_at_most most) task.structs params slots pair → has_many_parts pair ≡ false → IsTaskPair task pair
+  narrowed : (most : ℕ) (pair : Pair) → IsPair (with_at_most most) task.structs params slots pair → has_many_parts pair ≡ false →
+      IsTaskPair task pair
   narrowed most pair is few =
       let parts = or_parts (ltb 96 (parts_of pair.missing)) (ltb 96 (parts_of pair.state.heap)) few in
       record {
@@ -71,21 +73,26 @@ module _ (task : Task) (good : IsTask task) where
         state = record {
           one_each = is.state.one_each;
           locals = is.state.locals;
-          heap = record { parts = ltb-false 96 (parts_of pair.state.heap) parts.1; facts = is.state.heap.facts; atoms = is.state.heap.atoms };
+          heap =
+              record { parts = ltb-false 96 (parts_of pair.state.heap) parts.1; facts = is.state.heap.facts; atoms = is.state.heap.atoms };
         };
       }
 
   -- a well-formed pair of few atoms may come
-  comes : (most : ℕ) → most ≤ 131100000 → (node : ℕ) (pair : Pair) → node < nodes → IsPair (with_at_most most) task.structs params slots pair →
+  comes : (most : ℕ) → most ≤ 131100000 → (node : ℕ) (pair : Pair) → node < nodes →
+      IsPair (with_at_most most) task.structs params slots pair →
       length pair.missing.spatial ≤ 12000 → length pair.state.heap.spatial ≤ 12000 → MayCome task node pair
   comes most small node pair within is missing state =
       let room = large_pair_has_room most task.structs params slots pair good.structs good.flow.slots is state in
       record { within = within; room = record { missing = room.1; state = room.0 }; gives = by_mark (mark_at task.flow node) }
     where
-      by_made : (mark : HeadMark) (made : Option Pair) → abstract_pair pair task.flow mark task.structs ≡ made → IfSome made (λ form. has_many_parts form ≡ false → IsTaskPair task form)
+      by_made : (mark : HeadMark) (made : Option Pair) → abstract_pair pair task.flow mark task.structs ≡ made →
+          IfSome made (λ form. has_many_parts form ≡ false → IsTaskPair task form)
       by_made mark None same = tt
       by_made mark (Some form) same =
-          narrowed most form (abstract_pair_is_within most task.structs task.structs slots pair form task.flow mark small good.structs good.flow.slots known is missing state same)
+          narrowed most form
+          (abstract_pair_is_within most task.structs task.structs slots pair form task.flow mark small good.structs good.flow.slots known is
+          missing state same)
 
       by_mark : (mark : Option HeadMark) → IfSome (pair_at_mark task mark pair) (λ form. has_many_parts form ≡ false → IsTaskPair task form)
       by_mark None = narrowed most pair is
@@ -100,11 +107,13 @@ module _ (task : Task) (good : IsTask task) where
   pub start-comes : (start : SymState) → start_form task.flow emp ≡ Some start → MayCome task 0 (start_pair task start)
   start-comes start is =
       let beside : Pair = record { missing = emp; state = start } in
-      let state : IsState widest task.structs params slots start = start_form_is_well_formed task emp start good.structs good.flow empty-fine is in
+      let state : IsState widest task.structs params slots start =
+      start_form_is_well_formed task emp start good.structs good.flow empty-fine is in
       let parts : length start.heap.pure + length start.heap.spatial ≤ 4000 = state.heap.parts in
       let few : length start.heap.spatial ≤ 12000 = omega (arith, parts) in
       let fine : IsPair (with_at_most 4000) task.structs params slots (canon_of params beside) =
-      canon_is_well_formed 4000 task.structs params slots beside (lit≤ tt) good.structs good.flow.slots known (record { missing = empty-fine; state = state }) (lit≤ tt) few in
+      canon_is_well_formed 4000 task.structs params slots beside (lit≤ tt) good.structs good.flow.slots known
+      (record { missing = empty-fine; state = state }) (lit≤ tt) few in
       let short : HasNoMoreAtoms beside (canon_of params beside) = canon-short params beside in
       comes 4000 (lit≤ tt) 0 (start_pair task start) good.flow.entry fine (omega (arith, short.missing)) (omega (arith, short.state, few))
 
@@ -150,33 +159,49 @@ module _ (task : Task) (good : IsTask task) where
     row-atoms : (command : Cmd) → IsNoCall command → IsCmd task.structs slots nodes command → All HasAtoms (cases_of setting pair command)
     row-atoms command no_call is_command =
         All-weaker (IsCaseWithin task.structs params slots nodes 99 195) HasAtoms few-of (cases_of setting pair command)
-        (rows-room task.structs good.structs params slots nodes good.flow.slots Search params known task.table 96 192 (omega arith) (omega arith) pair room command no_call is_command)
+        (rows-room task.structs good.structs params slots nodes good.flow.slots Search params known task.table 96 192 (omega arith)
+        (omega arith) pair room command no_call is_command)
 
-    going : (command : Cmd) → All HasAtoms (cases_of setting pair command) → All GoesOn (cases_of setting pair command) → All IsShort (cases_of setting pair command)
+    going : (command : Cmd) → All HasAtoms (cases_of setting pair command) → All GoesOn (cases_of setting pair command) →
+        All IsShort (cases_of setting pair command)
     going command atoms goes =
-        All-weaker (λ case. HasAtoms case × GoesOn case) IsShort going-short (cases_of setting pair command) (both-each HasAtoms GoesOn (cases_of setting pair command) atoms goes)
+        All-weaker (λ case. HasAtoms case × GoesOn case) IsShort going-short (cases_of setting pair command)
+        (both-each HasAtoms GoesOn (cases_of setting pair command) atoms goes)
 
-    short : (command : Cmd) → FitsTable task.table command → IsCmd task.structs slots nodes command → All IsShort (cases_of setting pair command)
+    short : (command : Cmd) → FitsTable task.table command → IsCmd task.structs slots nodes command →
+        All IsShort (cases_of setting pair command)
     short (cmd.Call to callee args next) fits is_command =
         going (cmd.Call to callee args next)
-        (All-weaker (λ case. IsRoomy case × HasAtoms case) HasAtoms (λ case two. two.1) (cases_of setting pair (cmd.Call to callee args next))
-        (call-both task.structs good.structs params slots nodes good.flow.slots Search params known task.table 96 192 (omega arith) (omega arith) pair room 96
+        (All-weaker (λ case. IsRoomy case × HasAtoms case) HasAtoms (λ case two. two.1)
+        (cases_of setting pair (cmd.Call to callee args next))
+        (call-both task.structs good.structs params slots nodes good.flow.slots Search params known task.table 96 192 (omega arith)
+        (omega arith) pair room 96
         (omega arith) good.table to callee args next is_command.3 fits))
         (no_return_goes_on setting pair (cmd.Call to callee args next) tt)
     short (cmd.Return value) fits is_command = All-cons IsShort _ [] refl (All-nil IsShort)
-    short (cmd.Copy to from next) fits is_command = going (cmd.Copy to from next) (row-atoms (cmd.Copy to from next) tt is_command) (no_return_goes_on setting pair (cmd.Copy to from next) tt)
+    short (cmd.Copy to from next) fits is_command =
+        going (cmd.Copy to from next) (row-atoms (cmd.Copy to from next) tt is_command)
+        (no_return_goes_on setting pair (cmd.Copy to from next) tt)
     short (cmd.Arith to op left right next) fits is_command =
-        going (cmd.Arith to op left right next) (row-atoms (cmd.Arith to op left right next) tt is_command) (no_return_goes_on setting pair (cmd.Arith to op left right next) tt)
-    short (cmd.Any to ty next) fits is_command = going (cmd.Any to ty next) (row-atoms (cmd.Any to ty next) tt is_command) (no_return_goes_on setting pair (cmd.Any to ty next) tt)
+        going (cmd.Arith to op left right next) (row-atoms (cmd.Arith to op left right next) tt is_command)
+        (no_return_goes_on setting pair (cmd.Arith to op left right next) tt)
+    short (cmd.Any to ty next) fits is_command =
+        going (cmd.Any to ty next) (row-atoms (cmd.Any to ty next) tt is_command) (no_return_goes_on setting pair (cmd.Any to ty next) tt)
     short (cmd.Load to base kind field next) fits is_command =
-        going (cmd.Load to base kind field next) (row-atoms (cmd.Load to base kind field next) tt is_command) (no_return_goes_on setting pair (cmd.Load to base kind field next) tt)
+        going (cmd.Load to base kind field next) (row-atoms (cmd.Load to base kind field next) tt is_command)
+        (no_return_goes_on setting pair (cmd.Load to base kind field next) tt)
     short (cmd.Store base kind field from next) fits is_command =
-        going (cmd.Store base kind field from next) (row-atoms (cmd.Store base kind field from next) tt is_command) (no_return_goes_on setting pair (cmd.Store base kind field from next) tt)
-    short (cmd.New to kind next) fits is_command = going (cmd.New to kind next) (row-atoms (cmd.New to kind next) tt is_command) (no_return_goes_on setting pair (cmd.New to kind next) tt)
+        going (cmd.Store base kind field from next) (row-atoms (cmd.Store base kind field from next) tt is_command)
+        (no_return_goes_on setting pair (cmd.Store base kind field from next) tt)
+    short (cmd.New to kind next) fits is_command =
+        going (cmd.New to kind next) (row-atoms (cmd.New to kind next) tt is_command)
+        (no_return_goes_on setting pair (cmd.New to kind next) tt)
     short (cmd.Free base kind next) fits is_command =
-        going (cmd.Free base kind next) (row-atoms (cmd.Free base kind next) tt is_command) (no_return_goes_on setting pair (cmd.Free base kind next) tt)
+        going (cmd.Free base kind next) (row-atoms (cmd.Free base kind next) tt is_command)
+        (no_return_goes_on setting pair (cmd.Free base kind next) tt)
     short (cmd.Branch op pointers left right on_true on_false) fits is_command =
-        going (cmd.Branch op pointers left right on_true on_false) (row-atoms (cmd.Branch op pointers left right on_true on_false) tt is_command)
+        going (cmd.Branch op pointers left right on_true on_false)
+        (row-atoms (cmd.Branch op pointers left right on_true on_false) tt is_command)
         (no_return_goes_on setting pair (cmd.Branch op pointers left right on_true on_false) tt)
 
     -- ---- their forms
@@ -187,7 +212,8 @@ module _ (task : Task) (good : IsTask task) where
     IsShortForm (Leaves one) = parts_of one.missing ≤ 96
     IsShortForm (Drops cause) = Unit {0}
 
-    form-short : (case : Case) (cases : List Case) → IsShort case → All IsShortForm cases → All IsShortForm (cons_option (formed_case setting case) cases)
+    form-short : (case : Case) (cases : List Case) → IsShort case → All IsShortForm cases →
+        All IsShortForm (cons_option (formed_case setting case) cases)
     form-short (On node one) cases few others = by_form (both_forms setting one) refl
       where
         by_form : (o : Option Pair) → pair_in_forms params one ≡ o → All IsShortForm (cons_option (option_map (On node) o) cases)
@@ -208,13 +234,16 @@ module _ (task : Task) (good : IsTask task) where
 
     forms-short : (cases : List Case) → All IsShort cases → All IsShortForm (filter_map (formed_case setting) cases)
     forms-short [] each = All-nil IsShortForm
-    forms-short (case ∷ cases) each = form-short case (filter_map (formed_case setting) cases) (All-head IsShort case cases each) (forms-short cases (All-tail IsShort case cases each))
+    forms-short (case ∷ cases) each =
+        form-short case (filter_map (formed_case setting) cases) (All-head IsShort case cases each)
+        (forms-short cases (All-tail IsShort case cases each))
 
     -- such a case, within the room of an execution, is what may be given
     given-of : (case : Case) → IsRoomy case × IsShortForm case → IsGivenCase task case
     given-of (On node one) both =
         let parts : length one.state.heap.pure + length one.state.heap.spatial ≤ 96 + 96 + may_miss Search 96 = both.0.1.state.heap.parts in
-        let weight : length one.missing.pure + length one.missing.spatial + length one.state.heap.spatial ≤ 192 + 96 + may_miss Search 96 = both.0.1.light in
+        let weight : length one.missing.pure + length one.missing.spatial + length one.state.heap.spatial ≤ 192 + 96 + may_miss Search 96 =
+        both.0.1.light in
         let fine : IsPair (with_at_most 131100000) task.structs params slots one = record {
           missing = record { parts = omega (arith, weight); facts = both.0.1.facts; atoms = both.0.1.atoms };
           state = record {
@@ -227,7 +256,8 @@ module _ (task : Task) (good : IsTask task) where
     given-of (Leaves one) both =
         let few : parts_of one.missing ≤ 96 = both.1 in
         let fine : IsTaskHeap task one.missing = record { parts = few; facts = both.0.facts; atoms = both.0.atoms } in
-        let wide : IsSymHeap widest task.structs params one.missing = record { parts = omega (arith, few); facts = both.0.facts; atoms = both.0.atoms } in
+        let wide : IsSymHeap widest task.structs params one.missing =
+        record { parts = omega (arith, few); facts = both.0.facts; atoms = both.0.atoms } in
         record { room = cells_have_few_fields task.structs params one.missing good.structs wide; fine = fine }
     given-of (Drops cause) both = tt
 
@@ -236,17 +266,23 @@ module _ (task : Task) (good : IsTask task) where
     node-given at None same = All-nil (IsGivenCase task)
     node-given at (Some node) same =
         let command = (All-at (IsNode task.structs slots nodes) task.flow.nodes at node good.flow.nodes same).command in
-        let fits = All-at (λ (one : Node). FitsCall (λ (it : Callee). it.name) (λ (it : Callee). it.params) (callees_of task.table) one.cmd) task.flow.nodes at node good.fits same in
+        let fits =
+        All-at (λ (one : Node). FitsCall (λ (it : Callee). it.name) (λ (it : Callee). it.params)
+        (callees_of task.table) one.cmd) task.flow.nodes at node good.fits same in
         let within : All IsRoomy (search_cases task.flow task.structs at pair task.table) =
-        search_cases_are_well_formed task.flow task.structs at node pair task.table 96 192 96 good.structs good.flow same good.table fits (omega arith) (omega arith) (omega arith)
+        search_cases_are_well_formed task.flow task.structs at node pair task.table 96 192 96 good.structs good.flow same good.table fits
+        (omega arith) (omega arith) (omega arith)
         (omega arith) room in
         let here : All IsRoomy (formed_cases setting pair node.cmd) = rw same at within in
         All-weaker (λ case. IsRoomy case × IsShortForm case) (IsGivenCase task) given-of (formed_cases setting pair node.cmd)
-        (both-each IsRoomy IsShortForm (formed_cases setting pair node.cmd) here (forms-short (cases_of setting pair node.cmd) (short node.cmd fits command)))
+        (both-each IsRoomy IsShortForm (formed_cases setting pair node.cmd) here
+        (forms-short (cases_of setting pair node.cmd) (short node.cmd fits command)))
 
   -- with a state in normal form
-  pub executed-given : (pair : Pair) (form : SymState) → IsTaskPair task pair → normal_state pair.state ≡ Some form → IsTaskPair task (record { missing = pair.missing; state = form })
-  executed-given pair form is same = record { missing = is.missing; state = normal_state_is_well_formed analysable task params slots pair.state form is.state same }
+  pub executed-given : (pair : Pair) (form : SymState) → IsTaskPair task pair → normal_state pair.state ≡ Some form →
+      IsTaskPair task (record { missing = pair.missing; state = form })
+  executed-given pair form is same =
+      record { missing = is.missing; state = normal_state_is_well_formed analysable task params slots pair.state form is.state same }
 
   -- WHAT A TURN GIVES
   pub cases-given : (node : ℕ) (pair : Pair) → IsTaskPair task pair → All (IsGivenCase task) (cases_of_pair task node pair)
@@ -254,4 +290,6 @@ module _ (task : Task) (good : IsTask task) where
     where
       by_form : (o : Option SymState) → normal_state pair.state ≡ o → All (IsGivenCase task) (cases_of_form task node pair.missing o)
       by_form None same = All-nil (IsGivenCase task)
-      by_form (Some form) same = node-given (record { missing = pair.missing; state = form }) (executed-given pair form is same) node (slice_get task.flow.nodes node) refl
+      by_form (Some form) same =
+          node-given (record { missing = pair.missing; state = form }) (executed-given pair form is same) node
+          (slice_get task.flow.nodes node) refl

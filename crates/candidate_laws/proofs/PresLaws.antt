@@ -1,5 +1,6 @@
 -- What each new candidate keeps of a search's candidates, a search does; so each has a sample, and they are few.
-use Rattle.std.specs.Prelude.{◌≡◌, ℕ, zero, suc, ◌+◌, ◌<◌, ◌≤◌, Bool, true, false, ◌&&◌, if◌then◌else◌, leb, List, [], ◌∷◌, ◌++◌, length, option_map, All}
+use Rattle.std.specs.Prelude.{◌≡◌, ℕ, zero, suc, ◌+◌, ◌<◌, ◌≤◌, Bool, true, false, ◌&&◌, if◌then◌else◌, leb, List, [], ◌∷◌, ◌++◌, length}
+use Rattle.std.specs.Prelude.{option_map, All}
 use Rattle.std.specs.List.{list_all, list_any}
 use Rattle.std.specs.declared.option.Option.{Option}
 use Rattle.std.specs.declared.option.Option.TheVariants.{None, Some}
@@ -19,39 +20,48 @@ use Rattle.exec_laws.specs.declared.parts.Case.TheVariants.{On, Leaves, Drops}
 use Rattle.certificate_laws.specs.Coming.{Task}
 use Rattle.certificate_laws.specs.Gaps.{line_at}
 use Rattle.certificate_laws.specs.Sameness.{same_heap}
-use Rattle.candidate_laws.specs.Candidates.{MOST_TURNS, candidates, case_comes, cases_come, cases_of_pair, empty_search, started, turns, turn_of, with_turn, without_turns}
+use Rattle.candidate_laws.specs.Candidates.{MOST_TURNS, candidates, case_comes, cases_come, cases_of_pair, empty_search, started, turns}
+use Rattle.candidate_laws.specs.Candidates.{turn_of, with_turn, without_turns}
 use Rattle.candidate_laws.specs.Coming.{candidate_by, candidate_of, has_many_parts, pair_at_node, same_pair, start_pair_at_node}
 use Rattle.candidate_laws.specs.Laws.{CandidatesAreFew, CandidatesHaveSamples}
-use Rattle.candidate_laws.specs.Searching.{MOST_CANDIDATES, Search, candidate_comes, drops, listed_at, pair_comes, unless_none, with_candidate, with_pair}
+use Rattle.candidate_laws.specs.Searching.{MOST_CANDIDATES, Search, candidate_comes, drops, listed_at, pair_comes, unless_none}
+use Rattle.candidate_laws.specs.Searching.{with_candidate, with_pair}
 
 -- what holds of both holds of the chosen one
-pub on_test : (P : Search → Type 0) (b : Bool) (one other : Search) → (b ≡ true → P one) → (b ≡ false → P other) → P (if b then one else other)
+pub on_test : (P : Search → Type 0) (b : Bool) (one other : Search) → (b ≡ true → P one) → (b ≡ false → P other) →
+    P (if b then one else other)
 on_test P true one other here there = here refl
 on_test P false one other here there = there refl
 
 module _ (task : Task) (R : List SymHeap → Type 0)
-    (adds : (pres : List SymHeap) (missing pre : SymHeap) → candidate_of task missing ≡ Some pre → has_plain_sources pre ≡ true → length pres < MOST_CANDIDATES → R pres → R (pres ++ pre ∷ [])) where
+    (adds : (pres : List SymHeap) (missing pre : SymHeap) → candidate_of task missing ≡ Some pre → has_plain_sources pre ≡ true →
+    length pres < MOST_CANDIDATES → R pres → R (pres ++ pre ∷ [])) where
   abbrev Keeps : Search → Type 0
   Keeps search = R search.pres
 
-  candidate-keeps : (line : ℕ) (missing pre : SymHeap) → candidate_of task missing ≡ Some pre → (search : Search) → Keeps search → Keeps (candidate_comes line pre search)
+  candidate-keeps : (line : ℕ) (missing pre : SymHeap) → candidate_of task missing ≡ Some pre → (search : Search) → Keeps search →
+      Keeps (candidate_comes line pre search)
   candidate-keeps line missing pre is search has =
       on_test Keeps (list_any (same_heap pre) search.pres) search _ (λ old. has)
       (λ new. on_test Keeps (has_plain_sources pre) (with_candidate pre search) (drops fault.Alias line search)
-      (λ plain. on_test Keeps (leb MOST_CANDIDATES (length search.pres)) search _ (λ full. has) (λ room. adds search.pres missing pre is plain (leb-false MOST_CANDIDATES
+      (λ plain. on_test Keeps (leb MOST_CANDIDATES (length search.pres)) search _ (λ full. has)
+      (λ room. adds search.pres missing pre is plain (leb-false MOST_CANDIDATES
       (length search.pres) room) has)) (λ alias. has))
 
   pair-keeps : (line node : ℕ) (pair : Pair) (search : Search) → Keeps search → Keeps (pair_comes line node pair search)
   pair-keeps line node pair search has =
       on_test Keeps (has_many_parts pair) (drops fault.Parts line search) _ (λ many. has)
       (λ few. on_test Keeps (list_any (same_pair pair) (listed_at node search)) search _ (λ old. has)
-      (λ new. on_test Keeps (leb 16 (length (listed_at node search))) (drops fault.States line search) (with_pair node pair search) (λ full. has) (λ room. has)))
+      (λ new. on_test Keeps (leb 16 (length (listed_at node search))) (drops fault.States line search) (with_pair node pair search)
+      (λ full. has) (λ room. has)))
 
-  coming-keeps : (line node : ℕ) (made : Option Pair) (search : Search) → Keeps search → Keeps (unless_none (pair_comes line node) made search)
+  coming-keeps : (line node : ℕ) (made : Option Pair) (search : Search) → Keeps search →
+      Keeps (unless_none (pair_comes line node) made search)
   coming-keeps line node None search has = has
   coming-keeps line node (Some pair) search has = pair-keeps line node pair search has
 
-  leaving-keeps : (line : ℕ) (missing : SymHeap) (made : Option SymHeap) → candidate_of task missing ≡ made → (search : Search) → Keeps search →
+  leaving-keeps : (line : ℕ) (missing : SymHeap) (made : Option SymHeap) → candidate_of task missing ≡ made → (search : Search) →
+      Keeps search →
       Keeps (unless_none (candidate_comes line) made search)
   leaving-keeps line missing None is search has = has
   leaving-keeps line missing (Some pre) is search has = candidate-keeps line missing pre is search has
@@ -69,7 +79,8 @@ module _ (task : Task) (R : List SymHeap → Type 0)
   ended-keeps search [] has = has
   ended-keeps search ((node, pair) ∷ queue) has = has
 
-  turn-keeps : (again : Search → Search) → ((search : Search) → Keeps search → Keeps (again search)) → (search : Search) (queue : List (ℕ × Pair)) → Keeps search →
+  turn-keeps : (again : Search → Search) → ((search : Search) → Keeps search → Keeps (again search)) →
+      (search : Search) (queue : List (ℕ × Pair)) → Keeps search →
       Keeps (with_turn again task search queue)
   turn-keeps again later search [] has = has
   turn-keeps again later search ((node, pair) ∷ queue) has =
@@ -90,13 +101,17 @@ module _ (task : Task) (R : List SymHeap → Type 0)
 -- ---- samples
 
 -- a candidate is normal
-normal-by : (recursive : Bool) (params : ℕ) (missing pre : SymHeap) → params ≤ 65536 → candidate_by recursive params missing ≡ Some pre → is_normal (without_locals pre) ≡ true
+normal-by : (recursive : Bool) (params : ℕ) (missing pre : SymHeap) → params ≤ 65536 → candidate_by recursive params missing ≡ Some pre →
+    is_normal (without_locals pre) ≡ true
 normal-by true params missing pre few is = abstract_pre_is_normal missing pre params few is
 normal-by false params missing pre few is = by_pair (pair_in_forms params (beside_nothing missing)) refl is
   where
-    by_pair : (o : Option Pair) → pair_in_forms params (beside_nothing missing) ≡ o → option_map (λ pair. pair.missing) o ≡ Some pre → is_normal (without_locals pre) ≡ true
+    by_pair : (o : Option Pair) → pair_in_forms params (beside_nothing missing) ≡ o → option_map (λ pair. pair.missing) o ≡ Some pre →
+        is_normal (without_locals pre) ≡ true
     by_pair None same made = cc
-    by_pair (Some pair) same made = let alike : pair.missing ≡ pre = cc in subst (λ heap. is_normal (without_locals heap) ≡ true) alike (missing-normal params (beside_nothing missing) pair few same)
+    by_pair (Some pair) same made = let alike : pair.missing
+        ≡ pre =
+        cc in subst (λ heap. is_normal (without_locals heap) ≡ true) alike (missing-normal params (beside_nothing missing) pair few same)
 
 abbrev HasSample : SymHeap → Type 0
 HasSample pre = has_sample pre ≡ true
@@ -111,10 +126,13 @@ pub candidates_have_samples : CandidatesHaveSamples
 unfolding candidates
 candidates_have_samples task few = pres-keep task (All HasSample) adds MOST_TURNS (All-nil HasSample)
   where
-    adds : (pres : List SymHeap) (missing pre : SymHeap) → candidate_of task missing ≡ Some pre → has_plain_sources pre ≡ true → length pres < MOST_CANDIDATES →
+    adds : (pres : List SymHeap) (missing pre : SymHeap) → candidate_of task missing ≡ Some pre → has_plain_sources pre ≡ true →
+        length pres < MOST_CANDIDATES →
         All HasSample pres → All HasSample (pres ++ pre ∷ [])
     adds pres missing pre is plain room has =
-        All-append HasSample pres (pre ∷ []) has (All-cons HasSample pre [] (sampled pre (normal-by task.recursive (length task.flow.params) missing pre few is) plain) (All-nil HasSample))
+        All-append HasSample pres (pre ∷ []) has
+        (All-cons HasSample pre [] (sampled pre (normal-by task.recursive (length task.flow.params) missing pre few is) plain)
+        (All-nil HasSample))
 
 -- ---- how many
 
@@ -125,5 +143,7 @@ pub candidates_are_few : CandidatesAreFew
 unfolding candidates
 candidates_are_few task = pres-keep task IsFew adds MOST_TURNS (lit≤ tt)
   where
-    adds : (pres : List SymHeap) (missing pre : SymHeap) → candidate_of task missing ≡ Some pre → has_plain_sources pre ≡ true → length pres < MOST_CANDIDATES → IsFew pres → IsFew (pres ++ pre ∷ [])
-    adds pres missing pre is plain room has = let longer : length (pres ++ pre ∷ []) ≡ length pres + 1 = length-append pres (pre ∷ []) in omega (arith, room, longer)
+    adds : (pres : List SymHeap) (missing pre : SymHeap) → candidate_of task missing ≡ Some pre → has_plain_sources pre ≡ true →
+        length pres < MOST_CANDIDATES → IsFew pres → IsFew (pres ++ pre ∷ [])
+    adds pres missing pre is plain room has =
+        let longer : length (pres ++ pre ∷ []) ≡ length pres + 1 = length-append pres (pre ∷ []) in omega (arith, room, longer)

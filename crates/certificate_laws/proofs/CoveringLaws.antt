@@ -22,7 +22,8 @@ module _ {A : Type 0} (test : A → Bool) (P : A → Type 0) (each : (thing : A)
   join thing things (inl has) = (thing, Contains-first thing things, has)
   join thing things (inr later) = (later.0, Contains-later thing things later.0 later.1, later.2)
 
-  part : (first : A) (things : List A) (thing : A) (place : ℕ) → place < length (first ∷ things) → slice_index_or (first ∷ things) place thing ≡ thing → P thing → P first ⊎ OneHas P things
+  part : (first : A) (things : List A) (thing : A) (place : ℕ) → place < length (first ∷ things)
+      → slice_index_or (first ∷ things) place thing ≡ thing → P thing → P first ⊎ OneHas P things
   part first things thing zero within is has = inl (subst P (sym is) has)
   part first things thing (suc place) within is has =
       let inside : place < length things = omega arith in
@@ -34,20 +35,26 @@ module _ {A : Type 0} (test : A → Bool) (P : A → Type 0) (each : (thing : A)
   pub one-Decides : (things : List A) → Decides (list_any test things) (OneHas P things)
   one-Decides [] = (λ t. cc, λ one. absurd (none one))
   one-Decides (thing ∷ things) =
-      Decides-like (test thing || list_any test things) (join thing things) (λ one. part thing things one.0 one.1.0 one.1.1 one.1.2 one.2) (Decides-or (test thing) (list_any test things) (each thing) (one-Decides things))
+      Decides-like (test thing || list_any test things) (join thing things) (λ one. part thing things one.0 one.1.0 one.1.1 one.1.2 one.2)
+      (Decides-or (test thing) (list_any test things) (each thing) (one-Decides things))
 
 pub covers_state-Decides : (b a : SymState) → Decides (covers_state b a) (StateCovers b a)
-covers_state-Decides b a = Decides-or (same_state (canon_state a 0) (canon_state b 0)) (matches_state a b) (same_state-Decides (canon_state a 0) (canon_state b 0)) (λ t. t, λ t. t)
+covers_state-Decides b a =
+    Decides-or (same_state (canon_state a 0) (canon_state b 0)) (matches_state a b) (same_state-Decides (canon_state a 0) (canon_state b 0))
+    (λ t. t, λ t. t)
 
 pub covers_post-Decides : (b a : Post) → Decides (covers_post b a) (PostCovers b a)
 covers_post-Decides b a =
-    Decides-or (same_post (canon_post a 0) (canon_post b 0)) (matches_state (as_state a) (as_state b)) (same_post-Decides (canon_post a 0) (canon_post b 0)) (λ t. t, λ t. t)
+    Decides-or (same_post (canon_post a 0) (canon_post b 0)) (matches_state (as_state a) (as_state b))
+    (same_post-Decides (canon_post a 0) (canon_post b 0)) (λ t. t, λ t. t)
 
 pub is_covered-Decides : (states : List SymState) (state : SymState) → Decides (is_covered states state) (IsCovered states state)
-is_covered-Decides states state = one-Decides (λ cover. covers_state cover state) (λ cover. StateCovers cover state) (λ cover. covers_state-Decides cover state) states
+is_covered-Decides states state =
+    one-Decides (λ cover. covers_state cover state) (λ cover. StateCovers cover state) (λ cover. covers_state-Decides cover state) states
 
 pub is_post_covered-Decides : (posts : List Post) (post : Post) → Decides (is_post_covered posts post) (IsPostCovered posts post)
-is_post_covered-Decides posts post = one-Decides (λ cover. covers_post cover post) (λ cover. PostCovers cover post) (λ cover. covers_post-Decides cover post) posts
+is_post_covered-Decides posts post =
+    one-Decides (λ cover. covers_post cover post) (λ cover. PostCovers cover post) (λ cover. covers_post-Decides cover post) posts
 
 pub state_test_is_exact : StateTestIsExact
 state_test_is_exact b a = covers_state-Decides b a

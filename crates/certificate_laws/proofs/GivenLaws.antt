@@ -29,7 +29,8 @@ use Rattle.certificate_laws.specs.Inductive.{execution}
 use Rattle.certificate_laws.specs.Limits.{IsWider, analysable}
 use Rattle.certificate_laws.proofs.LimitLaws as limits
 use Rattle.certificate_laws.proofs.ResultLaws.{normal_post_is_well_formed, normal_state_is_well_formed, start_form_is_well_formed}
-use Rattle.certificate_laws.specs.Conditions.{AreNexts, GoesOnWithin, IsGivenState, IsGivenStep, IsTask, IsTaskCert, IsTaskPost, IsTaskSpec, IsTaskState}
+use Rattle.certificate_laws.specs.Conditions.{AreNexts, GoesOnWithin, IsGivenState, IsGivenStep, IsTask, IsTaskCert, IsTaskPost, IsTaskSpec}
+use Rattle.certificate_laws.specs.Conditions.{IsTaskState}
 
 -- what is within the limits of the analysis is well formed; and so is what has twice as many parts
 known : IsWider analysable widest
@@ -57,20 +58,25 @@ module _ (task : Task) (good : IsTask task) where
   state-room state is = well_formed_is_within_room task.structs params slots state good.structs good.flow.slots is
 
   as_one : (post : Post) → IsTaskPost task post → IsState widest task.structs params 1 (as_state post)
-  as_one post is = record { one_each = refl; locals = All-cons (IsExp widest params) post.ret [] is.ret (All-nil (IsExp widest params)); heap = is.heap }
+  as_one post is =
+      record { one_each = refl; locals = All-cons (IsExp widest params) post.ret [] is.ret (All-nil (IsExp widest params)); heap = is.heap }
 
   pub post-room : (post : Post) → IsTaskPost task post → IsWithinRoom (as_state post)
   post-room post is = well_formed_is_within_room task.structs params 1 (as_state post) good.structs (omega arith) (as_one post is)
 
-  pub head-given : (state : SymState) (mark : HeadMark) → IsTaskState task state → (made : Option SymState) → made ≡ abstract_head state task.flow mark task.structs → IfSome made (IsTaskState task)
+  pub head-given : (state : SymState) (mark : HeadMark) → IsTaskState task state → (made : Option SymState)
+      → made ≡ abstract_head state task.flow mark task.structs → IfSome made (IsTaskState task)
   head-given state mark is None same = tt
-  head-given state mark is (Some form) same = abstract_head_is_well_formed task.structs task.structs slots state form task.flow mark good.structs good.flow.slots is (sym same)
+  head-given state mark is (Some form) same =
+      abstract_head_is_well_formed task.structs task.structs slots state form task.flow mark good.structs good.flow.slots is (sym same)
 
   pub exit-given : (exit : Post) → IsTaskPost task exit → (made : Option Post) → made ≡ at_exit task exit → IfSome made (IsTaskPost task)
   exit-given exit is None same = tt
-  exit-given exit is (Some form) same = abstract_exit_is_well_formed task.structs task.structs exit form task.flow task.recursive good.structs is (sym same)
+  exit-given exit is (Some form) same =
+      abstract_exit_is_well_formed task.structs task.structs exit form task.flow task.recursive good.structs is (sym same)
 
-  pub start-given : (pre : SymHeap) (start : SymState) → IsSymHeap widest task.structs params pre → Some start ≡ start_form task.flow pre → IsTaskState task start
+  pub start-given : (pre : SymHeap) (start : SymState) → IsSymHeap widest task.structs params pre → Some start ≡ start_form task.flow pre
+      → IsTaskState task start
   start-given pre start is same = start_form_is_well_formed task pre start good.structs good.flow is (sym same)
 
   -- ---- certificates and specs
@@ -95,7 +101,9 @@ module _ (task : Task) (good : IsTask task) where
   -- ---- execution
 
   pub table-wide : IsTable task.structs task.table
-  table-wide = All-weaker (IsCallee analysable task.structs) (IsCallee widest task.structs) (limits.callee analysable widest known task.structs) (callees_of task.table) good.table
+  table-wide =
+      All-weaker (IsCallee analysable task.structs) (IsCallee widest task.structs) (limits.callee analysable widest known task.structs)
+      (callees_of task.table) good.table
 
   pub normal-given : (state form : SymState) → IsGivenState task state → Some form ≡ normal_state state → IsGivenState task form
   normal-given state form is same = normal_state_is_well_formed analysable task params slots state form is (sym same)
@@ -106,30 +114,47 @@ module _ (task : Task) (good : IsTask task) where
     where
       by_node : (o : Option Node) → slice_get task.flow.nodes at ≡ o → AreNexts task nexts × All (IsTaskPost task) exits
       by_node (Some node) is_node =
-          let fits = All-at (λ (one : Node). FitsCall (λ (it : Callee). it.name) (λ (it : Callee). it.params) (callees_of task.table) one.cmd) task.flow.nodes at node good.fits is_node in
-          let made = all_answers_are_well_formed task.flow task.structs at node form task.table nexts exits 96 96 good.structs good.flow is_node good.table fits (omega arith) (omega arith) (omega arith) is (sym same) in (
-            All-weaker (λ (next : ℕ × SymState). (next.0 < length task.flow.nodes) × IsState (with_parts (96 + 96)) task.structs params slots next.1) (λ (next : ℕ × SymState). IsTaskState task next.1)
+          let fits =
+          All-at (λ (one : Node). FitsCall (λ (it : Callee). it.name) (λ (it : Callee). it.params)
+          (callees_of task.table) one.cmd) task.flow.nodes at node good.fits is_node in
+          let made =
+          all_answers_are_well_formed task.flow task.structs at node form task.table nexts exits 96 96 good.structs good.flow is_node
+          good.table fits (omega arith) (omega arith) (omega arith) is (sym same) in (
+            All-weaker (λ (next : ℕ × SymState). (next.0 < length task.flow.nodes)
+                × IsState (with_parts (96 + 96)) task.structs params slots next.1) (λ (next : ℕ × SymState). IsTaskState task next.1)
                 (λ next both. limits.state (with_parts (96 + 96)) widest twice params task.structs slots next.1 both.1) nexts made.0,
-            All-weaker (IsPost (with_parts (96 + 96)) task.structs params) (IsTaskPost task) (λ exit given. limits.post (with_parts (96 + 96)) widest twice params task.structs exit given) exits made.1,
+            All-weaker (IsPost (with_parts (96 + 96)) task.structs params) (IsTaskPost task)
+                (λ exit given. limits.post (with_parts (96 + 96)) widest twice params task.structs exit given) exits made.1,
           )
       by_node None none =
           let nothing : step.Next [] [] ≡ step.Next nexts exits = rw none at (sym same) in
           let no_nexts : nexts ≡ [] = cc in
-          let no_exits : exits ≡ [] = cc in
-          (All-same (λ (next : ℕ × SymState). IsTaskState task next.1) nexts [] no_nexts (All-nil (λ (next : ℕ × SymState). IsTaskState task next.1)), All-same (IsTaskPost task) exits [] no_exits (All-nil (IsTaskPost task)))
+          let no_exits : exits ≡ [] = cc in (
+            All-same (λ (next : ℕ × SymState). IsTaskState task next.1) nexts [] no_nexts
+                (All-nil (λ (next : ℕ × SymState). IsTaskState task next.1)),
+            All-same (IsTaskPost task) exits [] no_exits
+                (All-nil (IsTaskPost task)),
+          )
 
   -- it goes on at nodes of the procedure
-  pub step-within : (at : ℕ) (form : SymState) → IsGivenState task form → (one : Step) → one ≡ execution task at form → GoesOnWithin task one
+  pub step-within : (at : ℕ) (form : SymState) → IsGivenState task form → (one : Step) → one ≡ execution task at form
+      → GoesOnWithin task one
   step-within at form is (step.Fail cause line) same = tt
   step-within at form is (step.Next nexts exits) same = by_node (slice_get task.flow.nodes at) refl
     where
       by_node : (o : Option Node) → slice_get task.flow.nodes at ≡ o → All (λ (next : ℕ × SymState). next.0 < length task.flow.nodes) nexts
       by_node (Some node) is_node =
-          let fits = All-at (λ (one : Node). FitsCall (λ (it : Callee). it.name) (λ (it : Callee). it.params) (callees_of task.table) one.cmd) task.flow.nodes at node good.fits is_node in
-          let made = all_answers_are_well_formed task.flow task.structs at node form task.table nexts exits 96 96 good.structs good.flow is_node good.table fits (omega arith) (omega arith) (omega arith) is (sym same) in
-          All-weaker (λ (next : ℕ × SymState). (next.0 < length task.flow.nodes) × IsState (with_parts (96 + 96)) task.structs params slots next.1) (λ (next : ℕ × SymState). next.0 < length task.flow.nodes)
+          let fits =
+          All-at (λ (one : Node). FitsCall (λ (it : Callee). it.name) (λ (it : Callee). it.params)
+          (callees_of task.table) one.cmd) task.flow.nodes at node good.fits is_node in
+          let made =
+          all_answers_are_well_formed task.flow task.structs at node form task.table nexts exits 96 96 good.structs good.flow is_node
+          good.table fits (omega arith) (omega arith) (omega arith) is (sym same) in
+          All-weaker (λ (next : ℕ × SymState). (next.0 < length task.flow.nodes)
+          × IsState (with_parts (96 + 96)) task.structs params slots next.1) (λ (next : ℕ × SymState). next.0 < length task.flow.nodes)
           (λ next both. both.0) nexts made.0
       by_node None none =
           let nothing : step.Next [] [] ≡ step.Next nexts exits = rw none at (sym same) in
           let no_nexts : nexts ≡ [] = cc in
-          All-same (λ (next : ℕ × SymState). next.0 < length task.flow.nodes) nexts [] no_nexts (All-nil (λ (next : ℕ × SymState). next.0 < length task.flow.nodes))
+          All-same (λ (next : ℕ × SymState). next.0 < length task.flow.nodes) nexts [] no_nexts
+          (All-nil (λ (next : ℕ × SymState). next.0 < length task.flow.nodes))

@@ -18,7 +18,8 @@ use Rattle.shape_data.specs.declared.symbolic.Post.{Post}
 use Rattle.shape_data.specs.declared.symbolic.Spec.{Spec}
 use Rattle.shape_data.specs.declared.symbolic.SymHeap.{SymHeap}
 use Rattle.shape_data.specs.declared.symbolic.SymState.{SymState}
-use Rattle.shape_data.specs.WellFormed.{AreCallees, AreStates, IsAtom, IsCallee, IsCert, IsExp, IsFact, IsPost, IsSpec, IsState, IsSummary, IsSymHeap, Limits}
+use Rattle.shape_data.specs.WellFormed.{AreCallees, AreStates, IsAtom, IsCallee, IsCert, IsExp, IsFact, IsPost, IsSpec, IsState, IsSummary}
+use Rattle.shape_data.specs.WellFormed.{IsSymHeap, Limits}
 use Rattle.certificate_laws.specs.Limits.{AnswerWidens, IsWider, KeyWidens, StorableIsAnalysable}
 
 module _ (limits wider : Limits) (is_wider : IsWider limits wider) where
@@ -47,19 +48,33 @@ module _ (limits wider : Limits) (is_wider : IsWider limits wider) where
           }
 
       pub state : (slots : ℕ) (one : SymState) → IsState limits structs params slots one → IsState wider structs params slots one
-      state slots one is = record { one_each = is.one_each; locals = All-weaker (IsExp limits params) (IsExp wider params) exp one.locals is.locals; heap = heap one.heap is.heap }
+      state slots one is =
+          record {
+            one_each = is.one_each;
+            locals = All-weaker (IsExp limits params) (IsExp wider params) exp one.locals is.locals;
+            heap = heap one.heap is.heap;
+          }
 
       pub post : (one : Post) → IsPost limits structs params one → IsPost wider structs params one
       post one is = record { ret = exp one.ret is.ret; heap = heap one.heap is.heap }
 
       pub spec : (one : Spec) → IsSpec limits structs params one → IsSpec wider structs params one
-      spec one is = record { pre = heap one.pre is.pre; countable = is.countable; posts = All-weaker (IsPost limits structs params) (IsPost wider structs params) post one.posts is.posts }
+      spec one is =
+          record {
+            pre = heap one.pre is.pre;
+            countable = is.countable;
+            posts = All-weaker (IsPost limits structs params) (IsPost wider structs params) post one.posts is.posts;
+          }
 
-      pub states : (slots : ℕ) (ones : List SymState) → AreStates limits structs params slots ones → AreStates wider structs params slots ones
+      pub states : (slots : ℕ) (ones : List SymState) → AreStates limits structs params slots ones
+          → AreStates wider structs params slots ones
       states slots ones is =
           let few : length ones ≤ limits.states = is.few in
           let more : limits.states ≤ wider.states = is_wider.states in
-          record { few = omega arith; each = All-weaker (IsState limits structs params slots) (IsState wider structs params slots) (state slots) ones is.each }
+          record {
+            few = omega arith;
+            each = All-weaker (IsState limits structs params slots) (IsState wider structs params slots) (state slots) ones is.each;
+          }
 
   module _ (structs : List StructDef) where
     pub cert : (flow : Flow) (one : Cert) → IsCert limits structs flow one → IsCert wider structs flow one
@@ -67,19 +82,36 @@ module _ (limits wider : Limits) (is_wider : IsWider limits wider) where
         let few : length one.exits ≤ limits.states = is.few in
         let more : limits.states ≤ wider.states = is_wider.states in record {
           one_each = is.one_each;
-          nodes = All-weaker (AreStates limits structs (length flow.params) (length flow.slots)) (AreStates wider structs (length flow.params) (length flow.slots)) (states (length flow.params) structs (length flow.slots)) one.nodes is.nodes;
+          nodes =
+              All-weaker (AreStates limits structs (length flow.params) (length flow.slots))
+              (AreStates wider structs (length flow.params) (length flow.slots))
+              (states (length flow.params) structs (length flow.slots)) one.nodes is.nodes;
           few = omega arith;
-          exits = All-weaker (IsPost limits structs (length flow.params)) (IsPost wider structs (length flow.params)) (post (length flow.params) structs) one.exits is.exits;
+          exits =
+              All-weaker (IsPost limits structs (length flow.params)) (IsPost wider structs (length flow.params))
+              (post (length flow.params) structs) one.exits is.exits;
         }
 
     pub callee : (one : Callee) → IsCallee limits structs one → IsCallee wider structs one
     callee one is =
         let few : length one.specs ≤ limits.specs = is.few in
         let more : limits.specs ≤ wider.specs = is_wider.specs in
-        record { name = is.name; params = is.params; few = omega arith; specs = All-weaker (IsSpec limits structs (length one.params)) (IsSpec wider structs (length one.params)) (spec (length one.params) structs) one.specs is.specs }
+        record {
+          name = is.name;
+          params = is.params;
+          few = omega arith;
+          specs =
+              All-weaker (IsSpec limits structs (length one.params)) (IsSpec wider structs (length one.params))
+              (spec (length one.params) structs) one.specs is.specs;
+        }
 
     pub callees : (ones : List Callee) → AreCallees limits structs ones → AreCallees wider structs ones
-    callees ones is = record { countable = is.countable; each = All-weaker (IsCallee limits structs) (IsCallee wider structs) callee ones is.each; different = is.different }
+    callees ones is =
+        record {
+          countable = is.countable;
+          each = All-weaker (IsCallee limits structs) (IsCallee wider structs) callee ones is.each;
+          different = is.different;
+        }
 
     pub summary : (flow : Flow) (one : ProcSummary) → IsSummary limits structs flow one → IsSummary wider structs flow one
     summary flow one is =
@@ -87,13 +119,22 @@ module _ (limits wider : Limits) (is_wider : IsWider limits wider) where
         let more : limits.specs ≤ wider.specs = is_wider.specs in record {
           name = is.name;
           few = omega arith;
-          specs = All-weaker (IsSpec limits structs (length flow.params)) (IsSpec wider structs (length flow.params)) (spec (length flow.params) structs) one.specs is.specs;
+          specs =
+              All-weaker (IsSpec limits structs (length flow.params)) (IsSpec wider structs (length flow.params))
+              (spec (length flow.params) structs) one.specs is.specs;
           one_each = is.one_each;
           certs = All-weaker (IsCert limits structs flow) (IsCert wider structs flow) (cert flow) one.certs is.certs;
         }
 
 pub key_widens : KeyWidens
-key_widens limits wider key is_wider is = record { structs = is.structs; procs = is.procs; callees = callees limits wider is_wider key.structs key.callees is.callees; apart = is.apart; calls = is.calls }
+key_widens limits wider key is_wider is =
+    record {
+      structs = is.structs;
+      procs = is.procs;
+      callees = callees limits wider is_wider key.structs key.callees is.callees;
+      apart = is.apart;
+      calls = is.calls;
+    }
 
 pub answer_widens : AnswerWidens
 answer_widens limits wider key answer is_wider is = record {

@@ -25,27 +25,34 @@ use Rattle.abstraction_laws.proofs.RoomLaws.{few-fields}
 use Rattle.abstraction_laws.proofs.WellFormedResults.{abstract_exit_is_well_formed, abstract_head_is_well_formed}
 use Rattle.sound_laws.specs.Certificates.{start_state, variables_from}
 use Rattle.certificate_laws.specs.Coming.{Task, at_mark, at_node, mark_at, start_form}
-use Rattle.certificate_laws.specs.Results.{AtExitIsWellFormed, AtNodeIsWellFormed, NormalPostIsWellFormed, NormalStateIsWellFormed, StartAtNodeIsWellFormed, StartIsWellFormed}
+use Rattle.certificate_laws.specs.Results.{AtExitIsWellFormed, AtNodeIsWellFormed, NormalPostIsWellFormed, NormalStateIsWellFormed}
+use Rattle.certificate_laws.specs.Results.{StartAtNodeIsWellFormed, StartIsWellFormed}
 
 -- ---- normal forms
 
 pub normal_state_is_well_formed : NormalStateIsWellFormed
 normal_state_is_well_formed limits task params slots state form is h =
     let made = made-of (λ one. one) state form h in
-    subst (IsState limits task.structs params slots) made.made (form_is_well_formed limits task.structs params slots state made.form made.form_is is)
+    subst (IsState limits task.structs params slots) made.made
+    (form_is_well_formed limits task.structs params slots state made.form made.form_is is)
 
-as_one : (limits : Limits) (structs : List StructDef) (params : ℕ) (post : Post) → IsPost limits structs params post → IsState limits structs params 1 (as_state post)
-as_one limits structs params post is = record { one_each = refl; locals = All-cons (IsExp limits params) post.ret [] is.ret (All-nil (IsExp limits params)); heap = is.heap }
+as_one : (limits : Limits) (structs : List StructDef) (params : ℕ) (post : Post) → IsPost limits structs params post →
+    IsState limits structs params 1 (as_state post)
+as_one limits structs params post is =
+    record { one_each = refl; locals = All-cons (IsExp limits params) post.ret [] is.ret (All-nil (IsExp limits params)); heap = is.heap }
 
-result-fits : (limits : Limits) (params : ℕ) (other : Exp) (locals : List Exp) → IsExp limits params other → All (IsExp limits params) locals → IsExp limits params (result_of other locals)
+result-fits : (limits : Limits) (params : ℕ) (other : Exp) (locals : List Exp) → IsExp limits params other →
+    All (IsExp limits params) locals → IsExp limits params (result_of other locals)
 result-fits limits params other [] is each = is
 result-fits limits params other (e ∷ es) is each = All-head (IsExp limits params) e es each
 
 pub normal_post_is_well_formed : NormalPostIsWellFormed
 normal_post_is_well_formed limits task params post form is h =
     let made = made-of (post_of post.ret) (as_state post) form h in
-    let fits = form_is_well_formed limits task.structs params 1 (as_state post) made.form made.form_is (as_one limits task.structs params post is) in
-    subst (IsPost limits task.structs params) made.made (record { ret = result-fits limits params post.ret made.form.locals is.ret fits.locals; heap = fits.heap })
+    let fits =
+    form_is_well_formed limits task.structs params 1 (as_state post) made.form made.form_is (as_one limits task.structs params post is) in
+    subst (IsPost limits task.structs params) made.made
+    (record { ret = result-fits limits params post.ret made.form.locals is.ret fits.locals; heap = fits.heap })
 
 -- ---- the start
 
@@ -55,10 +62,12 @@ variables-length k (param ∷ params) =
     let later : length (variables_from (k + 1) params) ≡ length params = variables-length (k + 1) params in
     let goal : length (Var k ∷ variables_from (k + 1) params) ≡ length (param ∷ params) = omega (arith, later) in goal
 
-variables-fit : {A : Type 0} (count k : ℕ) (params : List A) → k + length params ≤ 32768 → All (IsExp widest count) (variables_from k params)
+variables-fit : {A : Type 0} (count k : ℕ) (params : List A) → k + length params ≤ 32768 →
+    All (IsExp widest count) (variables_from k params)
 variables-fit count k [] few = All-nil (IsExp widest count)
 variables-fit count k (param ∷ params) few =
-    All-cons (IsExp widest count) (Var k) (variables_from (k + 1) params) (lt-ltb k 2147483648 (omega (arith, few))) (variables-fit count (k + 1) params (omega (arith, few)))
+    All-cons (IsExp widest count) (Var k) (variables_from (k + 1) params) (lt-ltb k 2147483648 (omega (arith, few)))
+    (variables-fit count (k + 1) params (omega (arith, few)))
 
 pub start_is_well_formed : StartIsWellFormed
 start_is_well_formed task pre are is_flow is_pre =
@@ -79,10 +88,12 @@ start_is_well_formed task pre are is_flow is_pre =
 
 -- ---- canonical forms
 
-canon-fits : (structs : List StructDef) (params slots : ℕ) (state : SymState) → AreStructs structs → slots ≤ 32768 → IsState widest structs params slots state →
+canon-fits : (structs : List StructDef) (params slots : ℕ) (state : SymState) → AreStructs structs → slots ≤ 32768 →
+    IsState widest structs params slots state →
     IsState widest structs params slots (canon_state state params)
 canon-fits structs params slots state are few is =
-    let fields : fields_in state.heap.spatial ≤ length state.heap.spatial * 32768 = few-fields widest structs params are.each state.heap.spatial is.heap.atoms in
+    let fields : fields_in state.heap.spatial ≤ length state.heap.spatial * 32768 =
+    few-fields widest structs params are.each state.heap.spatial is.heap.atoms in
     let parts : length state.heap.pure + length state.heap.spatial ≤ 4000 = is.heap.parts in
     let one_each : length state.locals ≡ slots = is.one_each in
     let most : most_exps state ≤ 131200000 = omega (arith, fields, parts, one_each, few) in
@@ -108,16 +119,19 @@ start_form_is_well_formed task pre form are is_flow is_pre h =
 
 -- ---- at a node, and at an exit
 
-at_mark_is_well_formed : (task : Task) (mark : Option HeadMark) (slots : ℕ) (state form : SymState) → AreStructs task.structs → slots ≤ 32768 →
+at_mark_is_well_formed : (task : Task) (mark : Option HeadMark) (slots : ℕ) (state form : SymState) → AreStructs task.structs →
+    slots ≤ 32768 →
     IsState widest task.structs (length task.flow.params) slots state → at_mark task mark state ≡ Some form →
     IsState widest task.structs (length task.flow.params) slots form
 at_mark_is_well_formed task None slots state form are few is h =
     let same : state ≡ form = cc in
     subst (IsState widest task.structs (length task.flow.params) slots) same is
-at_mark_is_well_formed task (Some mark) slots state form are few is h = abstract_head_is_well_formed task.structs task.structs slots state form task.flow mark are few is h
+at_mark_is_well_formed task (Some mark) slots state form are few is h =
+    abstract_head_is_well_formed task.structs task.structs slots state form task.flow mark are few is h
 
 pub at_node_is_well_formed : AtNodeIsWellFormed
-at_node_is_well_formed task at slots state form are few is h = at_mark_is_well_formed task (mark_at task.flow at) slots state form are few is h
+at_node_is_well_formed task at slots state form are few is h =
+    at_mark_is_well_formed task (mark_at task.flow at) slots state form are few is h
 
 pub start_at_node_is_well_formed : StartAtNodeIsWellFormed
 start_at_node_is_well_formed task pre form are is_flow is_pre h = by_start (start_form task.flow pre) refl h
@@ -126,7 +140,9 @@ start_at_node_is_well_formed task pre form are is_flow is_pre h = by_start (star
         IsState widest task.structs (length task.flow.params) (length task.flow.slots) form
     by_start None e k = cc
     by_start (Some start) e k =
-        at_node_is_well_formed task 0 (length task.flow.slots) start form are is_flow.slots (start_form_is_well_formed task pre start are is_flow is_pre e) k
+        at_node_is_well_formed task 0 (length task.flow.slots) start form are is_flow.slots
+        (start_form_is_well_formed task pre start are is_flow is_pre e) k
 
 pub at_exit_is_well_formed : AtExitIsWellFormed
-at_exit_is_well_formed task post form are is h = abstract_exit_is_well_formed task.structs task.structs post form task.flow task.recursive are is h
+at_exit_is_well_formed task post form are is h =
+    abstract_exit_is_well_formed task.structs task.structs post form task.flow task.recursive are is h

@@ -22,7 +22,8 @@ module _ (task : Task) (good : IsTask task) where
   module _ (cert : Cert) (is_cert : IsTaskCert task cert) where
     pub node-sizes : (at : ℕ) (states : List SymState) → slice_get cert.nodes at ≡ Some states → All IsStateWithinSizes states
     node-sizes at states is =
-        All-weaker (IsGivenState task) IsStateWithinSizes (λ state given. state-sizes state (state-wide task good state given)) states (node-given task good cert is_cert at states is)
+        All-weaker (IsGivenState task) IsStateWithinSizes (λ state given. state-sizes state (state-wide task good state given)) states
+        (node-given task good cert is_cert at states is)
 
     pub exits-sizes : All IsPostWithinSizes cert.exits
     exits-sizes = All-weaker (IsTaskPost task) IsPostWithinSizes post-sizes cert.exits (exits-wide task good cert is_cert)

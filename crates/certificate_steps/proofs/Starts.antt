@@ -26,7 +26,8 @@ pub below-length : (count : ℕ) → length (variables_below count) ≡ count
 below-length zero = refl
 below-length (suc count) =
     let before : length (variables_below count) ≡ count = below-length count in
-    let pushed : length (variables_below count ++ Var count ∷ []) ≡ length (variables_below count) + 1 = length_push (variables_below count) (Var count) in
+    let pushed : length (variables_below count ++ Var count ∷ []) ≡ length (variables_below count) + 1 =
+    length_push (variables_below count) (Var count) in
     omega (arith, before, pushed)
 
 pub ruleset starting = (below-more, below-all, below-length)

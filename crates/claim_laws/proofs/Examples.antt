@@ -16,14 +16,33 @@ use Rattle.claim_laws.specs.Logs.{replay}
 
 -- a procedure of one letter that calls another, or nobody
 abbrev calling : ℕ → List ℕ → Flow
-calling letter callee = record { name = letter ∷ []; params = []; slots = []; ret = Int; nodes = record { line = 0; cmd = cmd.Call None callee [] 1; head = None } ∷ record { line = 0; cmd = cmd.Return (Num (pos 0)); head = None } ∷ [] }
+calling letter callee =
+    record {
+      name = letter ∷ [];
+      params = [];
+      slots = [];
+      ret = Int;
+      nodes = record { line = 0; cmd = cmd.Call None callee [] 1; head = None }
+          ∷ record { line = 0; cmd = cmd.Return (Num (pos 0)); head = None } ∷ [];
+    }
 
 abbrev plain : ℕ → Flow
-plain letter = record { name = letter ∷ []; params = []; slots = []; ret = Int; nodes = record { line = 0; cmd = cmd.Return (Num (pos 0)); head = None } ∷ [] }
+plain letter =
+    record {
+      name = letter ∷ [];
+      params = [];
+      slots = [];
+      ret = Int;
+      nodes = record { line = 0; cmd = cmd.Return (Num (pos 0)); head = None } ∷ [];
+    }
 
 -- f calls g
 abbrev two : Program
-two = record { structs = []; procs = record { flow = calling 102 (103 ∷ []); file = []; line = 0 } ∷ record { flow = plain 103; file = []; line = 0 } ∷ [] }
+two =
+    record {
+      structs = [];
+      procs = record { flow = calling 102 (103 ∷ []); file = []; line = 0 } ∷ record { flow = plain 103; file = []; line = 0 } ∷ [];
+    }
 
 abbrev nothing : Answer
 nothing = record { stored = false; procs = [] }

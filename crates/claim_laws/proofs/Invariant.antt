@@ -1,5 +1,6 @@
 -- What holds of every world that a log leads to.
-use Rattle.std.proofs.Common.{◌≡◌, ℕ, suc, ◌+◌, ◌<◌, ◌≤◌, ◌==◌, nat_lt, Bool, true, false, cond, not, List, [], ◌∷◌, slice_get, get_or, Some, None, Option, refl, ◌∙◌, subst, arith, All, AllPairs, le_refl}
+use Rattle.std.proofs.Common.{◌≡◌, ℕ, suc, ◌+◌, ◌<◌, ◌≤◌, ◌==◌, nat_lt, Bool, true, false, cond, not, List, [], ◌∷◌, slice_get, get_or}
+use Rattle.std.proofs.Common.{Some, None, Option, refl, ◌∙◌, subst, arith, All, AllPairs, le_refl}
 use Rattle.std.proofs.lemmas.Bool.Decides.{Decides-eqb, Decides-ltb}
 use Rattle.std.proofs.lemmas.List.Elements.{All-nil, All-cons, All-head, All-tail, All-push, All-filter, All-weaker}
 use Rattle.std.proofs.lemmas.List.Kept.{AllPairs-cons, AllPairs-filter}
@@ -10,7 +11,8 @@ use Rattle.shape_data.specs.declared.answer.Key.{Key}
 use Rattle.shape_data.specs.declared.program.Program.{Program}
 use Rattle.component_keys.specs.Keys.{names_of}
 use Rattle.component_keys.specs.Tests.{key_test, program_test}
-use Rattle.claim_laws.specs.World.{World, Event, Slot, Out, out_of, put_slot, but, slot_for, may_happen, is_present, slots_with, happened, after}
+use Rattle.claim_laws.specs.World.{World, Event, Slot, Out, out_of, put_slot, but, slot_for, may_happen, is_present, slots_with, happened}
+use Rattle.claim_laws.specs.World.{after}
 use Rattle.claim_laws.specs.Invariant.{IsNoLater, IsComposed, IsOwnSlot, IsDueAt, IsGoodOut, HaveOtherKeys, IsEarlier, IsWorld}
 use Rattle.claim_laws.specs.Logs.{replay_from, replay, first_world}
 use Rattle.component_keys.proofs.Basics.{both_true, none_passes, found}
@@ -38,18 +40,22 @@ All-put P slot (first ∷ others) p all = by_test (nat_lt slot.claim first.claim
 
 rising_put : (slot : Slot) (slots : List Slot) → AllPairs IsNoLater slots → AllPairs IsNoLater (put_slot slot slots)
 rising_put slot [] rising = AllPairs-cons IsNoLater slot [] (All-nil (IsNoLater slot)) rising
-rising_put slot (first ∷ others) rising = by_test (nat_lt slot.claim first.claim) refl (rising_put slot others (all_pairs_rest IsNoLater first others rising))
+rising_put slot (first ∷ others) rising =
+    by_test (nat_lt slot.claim first.claim) refl (rising_put slot others (all_pairs_rest IsNoLater first others rising))
   where
-    by_test : (b : Bool) → nat_lt slot.claim first.claim ≡ b → AllPairs IsNoLater (put_slot slot others) → AllPairs IsNoLater (cond b (slot ∷ first ∷ others) (first ∷ put_slot slot others))
+    by_test : (b : Bool) → nat_lt slot.claim first.claim ≡ b → AllPairs IsNoLater (put_slot slot others) →
+        AllPairs IsNoLater (cond b (slot ∷ first ∷ others) (first ∷ put_slot slot others))
     by_test true e again =
         let less : slot.claim < first.claim = (Decides-ltb slot.claim first.claim).0 e in
         AllPairs-cons IsNoLater slot (first ∷ others)
         (All-cons (IsNoLater slot) first others (omega (arith, less))
-        (All-weaker (IsNoLater first) (IsNoLater slot) (λ x h. omega (arith, less, h)) others (all_pairs_first IsNoLater first others rising)))
+        (All-weaker (IsNoLater first) (IsNoLater slot) (λ x h. omega (arith, less, h)) others
+        (all_pairs_first IsNoLater first others rising)))
         rising
     by_test false e again =
         let least : first.claim ≤ slot.claim = grind (arith, e) in
-        AllPairs-cons IsNoLater first (put_slot slot others) (All-put (IsNoLater first) slot others least (all_pairs_first IsNoLater first others rising)) again
+        AllPairs-cons IsNoLater first (put_slot slot others)
+        (All-put (IsNoLater first) slot others least (all_pairs_first IsNoLater first others rising)) again
 
 pub first_is : IsWorld first_world
 first_is = record {
@@ -63,7 +69,8 @@ first_is = record {
 -- where a claim stays
 good_happened : (world : World) (event : Event) (claim : Out) → may_happen world event ≡ true →
     (happened world event).revision ≡ world.revision → world.made ≤ (happened world event).made →
-    ((key : Key) → IsDueAt world claim.component key → IsDueAt (happened world event) claim.component key) → IsGoodOut world claim → IsGoodOut (happened world event) claim
+    ((key : Key) → IsDueAt world claim.component key → IsDueAt (happened world event) claim.component key) → IsGoodOut world claim →
+    IsGoodOut (happened world event) claim
 good_happened world event claim may same_revision more still good = record {
   number = omega (arith, more, good.number);
   revision = rw same_revision good.revision;
@@ -71,19 +78,28 @@ good_happened world event claim may same_revision more still good = record {
   due = λ e. still claim.key (good.due (e ∙ same_revision));
 }
 
-revised : (world : World) (revision : ℕ) (program : Program) → may_happen world (Event.Revise revision program) ≡ true → IsWorld world → IsWorld (happened world (Event.Revise revision program))
+revised : (world : World) (revision : ℕ) (program : Program) → may_happen world (Event.Revise revision program) ≡ true → IsWorld world →
+    IsWorld (happened world (Event.Revise revision program))
 revised world revision program may inv =
-    let next : revision ≡ world.revision + 1 = (Decides-eqb revision (world.revision + 1)).0 (both_true (not (program_test.0 program world.program)) _ may).1 in
+    let next : revision ≡ world.revision + 1 =
+    (Decides-eqb revision (world.revision + 1)).0 (both_true (not (program_test.0 program world.program)) _ may).1 in
     record {
       slots = All-filter (is_present program) (IsOwnSlot world.made) world.slots inv.slots;
       slots_rising = AllPairs-filter IsNoLater (is_present program) world.slots inv.slots_rising;
       out = All-weaker (IsGoodOut world) (IsGoodOut (happened world (Event.Revise revision program)))
-          (λ claim good. record { number = good.number; revision = omega (arith, next, good.revision); composed = good.composed; due = λ e. absurd (omega (arith, next, e, good.revision)) }) world.out inv.out;
+          (λ claim good.
+          record {
+            number = good.number;
+            revision = omega (arith, next, good.revision);
+            composed = good.composed;
+            due = λ e. absurd (omega (arith, next, e, good.revision));
+          }) world.out inv.out;
       out_rising = inv.out_rising;
       different = inv.different;
     }
 
-claimed : (world : World) (number worker component : ℕ) (key : Key) → may_happen world (Event.Claim number worker component key) ≡ true → IsWorld world →
+claimed : (world : World) (number worker component : ℕ) (key : Key) → may_happen world (Event.Claim number worker component key) ≡ true →
+    IsWorld world →
     IsWorld (happened world (Event.Claim number worker component key))
 claimed world number worker component key may inv =
     let event : Event = Event.Claim number worker component key in
@@ -92,20 +108,28 @@ claimed world number worker component key may inv =
     let more : world.made ≤ number = omega (arith, needs.number_is) in
     let known = (standings_known world component needs.standing needs.at).due key needs.due in
     record {
-      slots = All-weaker (IsOwnSlot world.made) (IsOwnSlot number) (λ slot own. record { members = own.members; composed = own.composed; number = omega (arith, more, own.number) }) world.slots inv.slots;
+      slots =
+          All-weaker (IsOwnSlot world.made) (IsOwnSlot number)
+          (λ slot own.
+          record { members = own.members; composed = own.composed; number = omega (arith, more, own.number) }) world.slots inv.slots;
       slots_rising = inv.slots_rising;
       out = All-push (IsGoodOut (happened world event)) world.out claim
-          (All-weaker (IsGoodOut world) (IsGoodOut (happened world event)) (λ one good. good_happened world event one may refl more (λ k. due_happened world event tt may one.component k) good) world.out inv.out)
+          (All-weaker (IsGoodOut world) (IsGoodOut (happened world event))
+          (λ one good. good_happened world event one may refl more
+          (λ k. due_happened world event tt may one.component k) good) world.out inv.out)
           (record {
             number = le_refl number;
             revision = le_refl world.revision;
             composed = (world.program.structs, needs.standing.part.flows, known.0, known.1);
             due = λ e. record { standing = needs.standing; at = needs.at; due = needs.due };
           });
-      out_rising = all_pairs_push IsEarlier world.out claim inv.out_rising (λ k d lt. let old = (inv.out k d lt).number in omega (arith, old, needs.number_is));
+      out_rising =
+          all_pairs_push IsEarlier world.out claim inv.out_rising
+          (λ k d lt. let old = (inv.out k d lt).number in omega (arith, old, needs.number_is));
       different = all_pairs_push HaveOtherKeys world.out claim inv.different
           (λ k d lt same.
-          let no_such : key_test.0 (get_or world.out k d).key key ≡ false = none_passes (λ one. key_test.0 one.key key) world.out k (get_or world.out k d) needs.new (slice_get-get_or world.out k d lt) in
+          let no_such : key_test.0 (get_or world.out k d).key key ≡ false =
+          none_passes (λ one. key_test.0 one.key key) world.out k (get_or world.out k d) needs.new (slice_get-get_or world.out k d lt) in
           let such : key_test.0 (get_or world.out k d).key key ≡ true = (key_test.1 (get_or world.out k d).key key).1 same in
           cc);
     }
@@ -115,15 +139,19 @@ slots_are_own : (made : ℕ) (slots : List Slot) (kept : Bool) (answer : Answer)
 slots_are_own made slots kept answer None all good = all
 slots_are_own made slots false answer (Some claim) all good = all
 slots_are_own made slots true answer (Some claim) all good =
-    All-put (IsOwnSlot made) (slot_for claim answer) (but slots (names_of claim.key.procs)) (record { members = refl; composed = (good claim refl).0; number = (good claim refl).1 })
+    All-put (IsOwnSlot made) (slot_for claim answer) (but slots (names_of claim.key.procs))
+    (record { members = refl; composed = (good claim refl).0; number = (good claim refl).1 })
     (All-filter _ (IsOwnSlot made) slots all)
 
-slots_rise : (slots : List Slot) (kept : Bool) (answer : Answer) (o : Option Out) → AllPairs IsNoLater slots → AllPairs IsNoLater (slots_with slots kept answer o)
+slots_rise : (slots : List Slot) (kept : Bool) (answer : Answer) (o : Option Out) → AllPairs IsNoLater slots →
+    AllPairs IsNoLater (slots_with slots kept answer o)
 slots_rise slots kept answer None rising = rising
 slots_rise slots false answer (Some claim) rising = rising
-slots_rise slots true answer (Some claim) rising = rising_put (slot_for claim answer) (but slots (names_of claim.key.procs)) (AllPairs-filter IsNoLater _ slots rising)
+slots_rise slots true answer (Some claim) rising =
+    rising_put (slot_for claim answer) (but slots (names_of claim.key.procs)) (AllPairs-filter IsNoLater _ slots rising)
 
-published : (world : World) (number : ℕ) (answer : Answer) (kept : Bool) → may_happen world (Event.Publish number answer kept) ≡ true → IsWorld world →
+published : (world : World) (number : ℕ) (answer : Answer) (kept : Bool) → may_happen world (Event.Publish number answer kept) ≡ true →
+    IsWorld world →
     IsWorld (happened world (Event.Publish number answer kept))
 published world number answer kept may inv =
     let event : Event = Event.Publish number answer kept in
@@ -133,19 +161,24 @@ published world number answer kept may inv =
           let good = all_at (IsGoodOut world) world.out there.1.0 claim inv.out there.1.1 in (good.composed, good.number));
       slots_rising = slots_rise world.slots kept answer (out_of world.out number) inv.slots_rising;
       out = All-filter (λ one. not (one.number == number)) (IsGoodOut (happened world event)) world.out
-          (All-weaker (IsGoodOut world) (IsGoodOut (happened world event)) (λ one good. good_happened world event one may refl (le_refl world.made) (λ k. due_happened world event tt may one.component k) good) world.out inv.out);
+          (All-weaker (IsGoodOut world) (IsGoodOut (happened world event))
+          (λ one good. good_happened world event one may refl (le_refl world.made)
+          (λ k. due_happened world event tt may one.component k) good) world.out inv.out);
       out_rising = AllPairs-filter IsEarlier (λ one. not (one.number == number)) world.out inv.out_rising;
       different = AllPairs-filter HaveOtherKeys (λ one. not (one.number == number)) world.out inv.different;
     }
 
-given_back : (world : World) (number : ℕ) → may_happen world (Event.GiveBack number) ≡ true → IsWorld world → IsWorld (happened world (Event.GiveBack number))
+given_back : (world : World) (number : ℕ) → may_happen world (Event.GiveBack number) ≡ true → IsWorld world →
+    IsWorld (happened world (Event.GiveBack number))
 given_back world number may inv =
     let event : Event = Event.GiveBack number in
     record {
       slots = inv.slots;
       slots_rising = inv.slots_rising;
       out = All-filter (λ one. not (one.number == number)) (IsGoodOut (happened world event)) world.out
-          (All-weaker (IsGoodOut world) (IsGoodOut (happened world event)) (λ one good. good_happened world event one may refl (le_refl world.made) (λ k. due_happened world event tt may one.component k) good) world.out inv.out);
+          (All-weaker (IsGoodOut world) (IsGoodOut (happened world event))
+          (λ one good. good_happened world event one may refl (le_refl world.made)
+          (λ k. due_happened world event tt may one.component k) good) world.out inv.out);
       out_rising = AllPairs-filter IsEarlier (λ one. not (one.number == number)) world.out inv.out_rising;
       different = AllPairs-filter HaveOtherKeys (λ one. not (one.number == number)) world.out inv.different;
     }

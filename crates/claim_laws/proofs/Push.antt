@@ -7,12 +7,15 @@ use Rattle.claim_laws.specs.World.{World, Event, Out, without, same_bool, out_of
 use Rattle.claim_laws.specs.Logs.{replay_from, replay, first_world, IsSolved, AreLegal, IsLegal}
 use Rattle.claim_laws.proofs.Once.{replay_append}
 
-AreLegal-push : (solves : Key → Answer → Type 0) (world : World) (log : List Event) (event : Event) → AreLegal solves world log → may_happen (replay_from world log) event ≡ true →
+AreLegal-push : (solves : Key → Answer → Type 0) (world : World) (log : List Event) (event : Event) → AreLegal solves world log →
+    may_happen (replay_from world log) event ≡ true →
     IsSolved solves (replay_from world log) event → AreLegal solves world (log ++ event ∷ [])
 AreLegal-push solves world [] event legal may solved = (may, solved, tt)
-AreLegal-push solves world (first ∷ others) event legal may solved = (legal.0, legal.1, AreLegal-push solves (after world first) others event legal.2 may solved)
+AreLegal-push solves world (first ∷ others) event legal may solved =
+    (legal.0, legal.1, AreLegal-push solves (after world first) others event legal.2 may solved)
 
-pub IsLegal-push : (solves : Key → Answer → Type 0) (log : List Event) (event : Event) → IsLegal solves log → may_happen (replay log) event ≡ true →
+pub IsLegal-push : (solves : Key → Answer → Type 0) (log : List Event) (event : Event) → IsLegal solves log →
+    may_happen (replay log) event ≡ true →
     IsSolved solves (replay log) event → IsLegal solves (log ++ event ∷ [])
 IsLegal-push solves log event = AreLegal-push solves first_world log event
 
@@ -21,12 +24,16 @@ replay_push log event = replay_append first_world log (event ∷ [])
 
 -- ---- room for the end of each claim
 
-pub without_fewer : (out : List Out) (number : ℕ) (claim : Out) → out_of out number ≡ Some claim → suc (length (without out number)) ≤ length out
+pub without_fewer : (out : List Out) (number : ℕ) (claim : Out) → out_of out number ≡ Some claim →
+    suc (length (without out number)) ≤ length out
 without_fewer [] number claim e = not_none e
-without_fewer (first ∷ others) number claim e = by_test (first.number == number) e (without_fewer others number claim) (filter_less (λ one. not (one.number == number)) others)
+without_fewer (first ∷ others) number claim e =
+    by_test (first.number == number) e (without_fewer others number claim) (filter_less (λ one. not (one.number == number)) others)
   where
-    by_test : (b : Bool) → cond b (Some first) (out_of others number) ≡ Some claim → (out_of others number ≡ Some claim → suc (length (without others number)) ≤ length others) →
-        length (without others number) ≤ length others → suc (length (cond (not b) (first ∷ without others number) (without others number))) ≤ suc (length others)
+    by_test : (b : Bool) → cond b (Some first) (out_of others number) ≡ Some claim →
+        (out_of others number ≡ Some claim → suc (length (without others number)) ≤ length others) →
+        length (without others number) ≤ length others →
+        suc (length (cond (not b) (first ∷ without others number) (without others number))) ≤ suc (length others)
     by_test true f again less = omega (arith, less)
     by_test false f again less = let rest : suc (length (without others number)) ≤ length others = again f in omega (arith, rest)
 

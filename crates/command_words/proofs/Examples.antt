@@ -43,7 +43,8 @@ pub help : words_asked (codes "session" ∷ codes "--help" ∷ []) ≡ None
 unfolding words_asked clap_on_literals
 help = refl
 
-pub a_store_behind : words_asked (codes "session" ∷ codes "--store" ∷ codes "s" ∷ []) ≡ Some (record { workers = 4; store = Some (codes "s") })
+pub a_store_behind : words_asked (codes "session" ∷ codes "--store" ∷ codes "s" ∷ [])
+    ≡ Some (record { workers = 4; store = Some (codes "s") })
 unfolding words_asked clap_on_literals
 a_store_behind = refl
 
@@ -51,7 +52,8 @@ pub a_store_before : words_asked (codes "--store=s" ∷ codes "session" ∷ []) 
 unfolding words_asked clap_on_literals
 a_store_before = refl
 
-pub none_and_a_store : words_asked (codes "session" ∷ codes "--workers" ∷ codes "0" ∷ codes "--store" ∷ codes "s" ∷ []) ≡ Some (record { workers = 0; store = Some (codes "s") })
+pub none_and_a_store : words_asked (codes "session" ∷ codes "--workers" ∷ codes "0" ∷ codes "--store" ∷ codes "s" ∷ [])
+    ≡ Some (record { workers = 0; store = Some (codes "s") })
 unfolding words_asked clap_on_literals
 none_and_a_store = refl
 

@@ -1,5 +1,7 @@
 -- Tests, options and lists.
-use Rattle.std.proofs.Common.{◌≡◌, ℕ, zero, suc, Bool, true, false, cond, ◌&&◌, ◌||◌, not, List, [], ◌∷◌, ◌++◌, map, length, slice_get, Some, None, Option, refl, sym, ap, subst, inl, inr, ⊎_elim, ◌⊎◌, filter, find, option_map, ◌≤◌, le_refl, arith}
+use Rattle.std.proofs.Common.{◌≡◌, ℕ, zero, suc, Bool, true, false, cond, ◌&&◌, ◌||◌, not, List, [], ◌∷◌, ◌++◌, map, length, slice_get}
+use Rattle.std.proofs.Common.{Some, None, Option, refl, sym, ap, subst, inl, inr, ⊎_elim, ◌⊎◌, filter, find, option_map, ◌≤◌, le_refl}
+use Rattle.std.proofs.Common.{arith}
 use Rattle.std.specs.List.{list_any, AllZip}
 
 -- ---- tests
@@ -47,7 +49,8 @@ pub at_end : {X : Type 0} (xs : List X) (x : X) → slice_get (xs ++ x ∷ []) (
 at_end [] x = refl
 at_end (first ∷ xs) x = at_end xs x
 
-pub at_push : {X : Type 0} (xs : List X) (y : X) (i : ℕ) (x : X) → slice_get (xs ++ y ∷ []) i ≡ Some x → (slice_get xs i ≡ Some x) ⊎ ((i ≡ length xs) × (x ≡ y))
+pub at_push : {X : Type 0} (xs : List X) (y : X) (i : ℕ) (x : X) → slice_get (xs ++ y ∷ []) i ≡ Some x →
+    (slice_get xs i ≡ Some x) ⊎ ((i ≡ length xs) × (x ≡ y))
 at_push [] y zero x e = inr (refl, sym (some_same e))
 at_push [] y (suc i) x e = not_none e
 at_push (first ∷ xs) y zero x e = inl e
@@ -70,12 +73,14 @@ found p [] x e = not_none e
 found p (first ∷ xs) x e = by_test (p first) refl e (found p xs x)
   where
     by_test : (b : Bool) → p first ≡ b → cond b (Some first) (find p xs) ≡ Some x →
-        (find p xs ≡ Some x → (p x ≡ true) × ((i : ℕ) × (slice_get xs i ≡ Some x))) → (p x ≡ true) × ((i : ℕ) × (slice_get (first ∷ xs) i ≡ Some x))
+        (find p xs ≡ Some x → (p x ≡ true) × ((i : ℕ) × (slice_get xs i ≡ Some x))) →
+        (p x ≡ true) × ((i : ℕ) × (slice_get (first ∷ xs) i ≡ Some x))
     by_test true passes at again = (subst (λ y. p y ≡ true) (some_same at) passes, (zero, at))
     by_test false fails at again = let old = again at in (old.0, (suc old.1.0, old.1.1))
 
 -- one that passes is at hand, so one is found
-pub is_found : {X : Type 0} (p : X → Bool) (xs : List X) (i : ℕ) (x : X) → slice_get xs i ≡ Some x → p x ≡ true → (y : X) × (find p xs ≡ Some y)
+pub is_found : {X : Type 0} (p : X → Bool) (xs : List X) (i : ℕ) (x : X) → slice_get xs i ≡ Some x → p x ≡ true →
+    (y : X) × (find p xs ≡ Some y)
 is_found p [] i x e passes = not_none e
 is_found p (first ∷ xs) zero x e passes = (first, rw (subst (λ y. p y ≡ true) (sym (some_same e)) passes) refl)
 is_found {X = X} p (first ∷ xs) (suc i) x e passes = by_test (p first) (is_found p xs i x e passes)
@@ -99,7 +104,8 @@ pub not_found : {X : Type 0} (p : X → Bool) (xs : List X) → find p (filter (
 not_found p [] = refl
 not_found p (x ∷ xs) = by_test (p x) refl (not_found p xs)
   where
-    by_test : (b : Bool) → p x ≡ b → find p (filter (λ x. not (p x)) xs) ≡ None → find p (cond (not b) (x ∷ filter (λ x. not (p x)) xs) (filter (λ x. not (p x)) xs)) ≡ None
+    by_test : (b : Bool) → p x ≡ b → find p (filter (λ x. not (p x)) xs) ≡ None →
+        find p (cond (not b) (x ∷ filter (λ x. not (p x)) xs) (filter (λ x. not (p x)) xs)) ≡ None
     by_test true e again = again
     by_test false e again = rw e again
 

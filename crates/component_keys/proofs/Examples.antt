@@ -20,7 +20,14 @@ least = refl
 
 -- a procedure with a slot that points to s
 abbrev pointing : Flow
-pointing = record { name = 102 ∷ []; params = []; slots = Ptr (115 ∷ []) ∷ []; ret = Int; nodes = record { line = 0; cmd = cmd.Return (Num (pos 0)); head = None } ∷ [] }
+pointing =
+    record {
+      name = 102 ∷ [];
+      params = [];
+      slots = Ptr (115 ∷ []) ∷ [];
+      ret = Int;
+      nodes = record { line = 0; cmd = cmd.Return (Num (pos 0)); head = None } ∷ [];
+    }
 
 -- s points to r, r to s and to nothing else, t to s
 abbrev s : StructDef

@@ -1,5 +1,6 @@
 -- Calls by the places of procedures are the calls by name.
-use Rattle.std.proofs.Common.{◌≡◌, ℕ, zero, suc, ◌<◌, nat_eq, nat_lt, Bool, true, false, cond, not, List, [], ◌∷◌, length, map, slice_get, Some, None, Option, refl, sym, ap, ◌∙◌, subst}
+use Rattle.std.proofs.Common.{◌≡◌, ℕ, zero, suc, ◌<◌, nat_eq, nat_lt, Bool, true, false, cond, not, List, [], ◌∷◌, length, map, slice_get}
+use Rattle.std.proofs.Common.{Some, None, Option, refl, sym, ap, ◌∙◌, subst}
 use Rattle.std.specs.Prelude.{position, slice_index_or}
 use Rattle.std.specs.List.{filter_map, cons_option, prefix_len, position_or_len}
 use Rattle.std.specs.Cmp.Lexicographic.{pointwise}
@@ -40,7 +41,8 @@ position_map p f xs = rw (prefix_map (λ y. not (p y)) f xs, length-map xs f) re
 pub position_within : {X : Type 0} (p : X → Bool) (xs : List X) (i : ℕ) → position p xs ≡ Some i → i < length xs
 position_within p xs i e = by_test (nat_lt (position_or_len p xs) (length xs)) refl e
   where
-    by_test : (b : Bool) → nat_lt (position_or_len p xs) (length xs) ≡ b → cond b (Some (position_or_len p xs)) None ≡ Some i → i < length xs
+    by_test : (b : Bool) → nat_lt (position_or_len p xs) (length xs) ≡ b → cond b (Some (position_or_len p xs)) None ≡ Some i →
+        i < length xs
     by_test true lt at = subst (λ k. k < length xs) (some_same at) ((Decides-ltb (position_or_len p xs) (length xs)).0 lt)
     by_test false lt at = not_none at
 
@@ -67,12 +69,17 @@ command_same flows (cmd.Call to callee args next) = number_same flows callee
 command_same flows (cmd.Branch op pointers left right on_true on_false) = refl
 command_same flows (cmd.Return value) = refl
 
-mapped_twice : (flows : List Flow) (nodes : List Node) → filter_map (number_of flows) (filter_map (λ (node : Node). callee_of node.cmd) nodes) ≡ filter_map (λ (node : Node). number_at flows (callee_of node.cmd)) nodes
+mapped_twice : (flows : List Flow) (nodes : List Node) →
+    filter_map (number_of flows) (filter_map (λ (node : Node). callee_of node.cmd) nodes)
+    ≡ filter_map (λ (node : Node). number_at flows (callee_of node.cmd)) nodes
 mapped_twice flows [] = refl
 mapped_twice flows (node ∷ nodes) = by_callee (callee_of node.cmd) (mapped_twice flows nodes)
   where
-    by_callee : (o : Option (List ℕ)) → filter_map (number_of flows) (filter_map (λ (one : Node). callee_of one.cmd) nodes) ≡ filter_map (λ (one : Node). number_at flows (callee_of one.cmd)) nodes →
-        filter_map (number_of flows) (cons_option o (filter_map (λ (one : Node). callee_of one.cmd) nodes)) ≡ cons_option (number_at flows o) (filter_map (λ (one : Node). number_at flows (callee_of one.cmd)) nodes)
+    by_callee : (o : Option (List ℕ)) →
+        filter_map (number_of flows) (filter_map (λ (one : Node). callee_of one.cmd) nodes)
+        ≡ filter_map (λ (one : Node). number_at flows (callee_of one.cmd)) nodes →
+        filter_map (number_of flows) (cons_option o (filter_map (λ (one : Node). callee_of one.cmd) nodes))
+        ≡ cons_option (number_at flows o) (filter_map (λ (one : Node). number_at flows (callee_of one.cmd)) nodes)
     by_callee None e = e
     by_callee (Some name) e = ap (cons_option (number_of flows name)) e
 
@@ -80,27 +87,33 @@ filter_map_agree : {X Y : Type 0} (f g : X → Option Y) (xs : List X) → ((x :
 filter_map_agree f g [] same = refl
 filter_map_agree f g (x ∷ xs) same = rw (same x, filter_map_agree f g xs same) refl
 
-calls_same : (flows : List Flow) (nodes : List Node) → filter_map (number_of flows) (filter_map (λ (node : Node). callee_of node.cmd) nodes) ≡ filter_map (called_in (names_of flows)) nodes
+calls_same : (flows : List Flow) (nodes : List Node) →
+    filter_map (number_of flows) (filter_map (λ (node : Node). callee_of node.cmd) nodes) ≡ filter_map (called_in (names_of flows)) nodes
 calls_same flows nodes =
     mapped_twice flows nodes ∙
-    filter_map_agree (λ (node : Node). number_at flows (callee_of node.cmd)) (called_in (names_of flows)) nodes (λ node. command_same flows node.cmd)
+    filter_map_agree (λ (node : Node). number_at flows (callee_of node.cmd)) (called_in (names_of flows)) nodes
+    (λ node. command_same flows node.cmd)
 
 -- who calls whom
-pub graph_same : (program : Program) → map (λ (proc : Proc). filter_map (called_in (names_of (flows_of program))) proc.flow.nodes) program.procs ≡ calls_in (flows_of program)
+pub graph_same : (program : Program) →
+    map (λ (proc : Proc). filter_map (called_in (names_of (flows_of program))) proc.flow.nodes) program.procs ≡ calls_in (flows_of program)
 graph_same program =
     sym (map_map (λ flow. filter_map (number_of (map flow_of program.procs)) (called_by flow)) flow_of program.procs ∙
-    map_agree (λ (proc : Proc). filter_map (number_of (map flow_of program.procs)) (called_by proc.flow)) (λ (proc : Proc). filter_map (called_in (names_of (map flow_of program.procs))) proc.flow.nodes) program.procs
+    map_agree (λ (proc : Proc). filter_map (number_of (map flow_of program.procs)) (called_by proc.flow))
+    (λ (proc : Proc). filter_map (called_in (names_of (map flow_of program.procs))) proc.flow.nodes) program.procs
     (λ proc. calls_same (map flow_of program.procs) proc.flow.nodes))
 
 pub names_are : (program : Program) → map (λ (proc : Proc). proc.flow.name) program.procs ≡ names_of (flows_of program)
 names_are program = sym (map_map (λ (flow : Flow). flow.name) flow_of program.procs)
 
-named_proc : (program : Program) (i : ℕ) (name : List ℕ) → slice_get (names_of (flows_of program)) i ≡ Some name → (proc : Proc) × (slice_get program.procs i ≡ Some proc) × (name ≡ proc.flow.name)
+named_proc : (program : Program) (i : ℕ) (name : List ℕ) → slice_get (names_of (flows_of program)) i ≡ Some name →
+    (proc : Proc) × (slice_get program.procs i ≡ Some proc) × (name ≡ proc.flow.name)
 named_proc program i name at =
     mapped_some (λ (proc : Proc). proc.flow.name) (slice_get program.procs i) name
     (sym (at_map (λ (proc : Proc). proc.flow.name) program.procs i) ∙ ap (λ names. slice_get names i) (names_are program) ∙ at)
 
-pub names_differ : (program : Program) → IsProgram program → (i j : ℕ) (name : List ℕ) → slice_get (names_of (flows_of program)) i ≡ Some name → slice_get (names_of (flows_of program)) j ≡ Some name → i ≡ j
+pub names_differ : (program : Program) → IsProgram program → (i j : ℕ) (name : List ℕ) →
+    slice_get (names_of (flows_of program)) i ≡ Some name → slice_get (names_of (flows_of program)) j ≡ Some name → i ≡ j
 names_differ program formed i j name at_i at_j =
     let one = named_proc program i name at_i in
     let other = named_proc program j name at_j in
@@ -122,15 +135,23 @@ called_within flows number callee h = by_row (slice_get (calls_in flows) number)
         let place = held_at row callee h in
         not_none (ap (λ l. slice_get l place.0) (sym (nothing_at (calls_in flows) number e)) ∙ place.1)
     by_row (Some own) e =
-        let flow = mapped_some (λ flow. filter_map (number_of flows) (called_by flow)) (slice_get flows number) own (sym (at_map (λ flow. filter_map (number_of flows) (called_by flow)) flows number) ∙ e) in
+        let flow =
+        mapped_some (λ flow. filter_map (number_of flows) (called_by flow)) (slice_get flows number) own
+        (sym (at_map (λ flow. filter_map (number_of flows) (called_by flow)) flows number) ∙ e) in
         let same : row ≡ own = get_or_from_slice_get (calls_in flows) number own [] e in
         let place = held_at row callee h in
-        let from = from_filter_map (number_of flows) (called_by flow.0) place.0 callee (ap (λ r. slice_get r place.0) (sym flow.2) ∙ ap (λ r. slice_get r place.0) (sym same) ∙ place.1) in
+        let from =
+        from_filter_map (number_of flows) (called_by flow.0) place.0 callee
+        (ap (λ r. slice_get r place.0) (sym flow.2) ∙ ap (λ r. slice_get r place.0) (sym same) ∙ place.1) in
         position_within (λ one. pointwise nat_eq one.name from.1) flows callee from.3
 
 pub program_graph : (program : Program) → IsProgram program → IsCallGraph (names_of (flows_of program)) (calls_in (flows_of program))
 program_graph program formed = record {
-  lengths = length-map (flows_of program) (λ flow. flow.name) ∙ sym (length-map (flows_of program) (λ flow. filter_map (number_of (flows_of program)) (called_by flow)));
+  lengths = length-map (flows_of program) (λ flow. flow.name)
+      ∙ sym (length-map (flows_of program) (λ flow. filter_map (number_of (flows_of program)) (called_by flow)));
   differ = names_differ program formed;
-  defined = λ number callee h. subst (λ n. callee < n) (sym (length-map (flows_of program) (λ flow. filter_map (number_of (flows_of program)) (called_by flow)))) (called_within (flows_of program) number callee h);
+  defined =
+      λ number callee h. subst (λ n. callee < n)
+      (sym (length-map (flows_of program) (λ flow. filter_map (number_of (flows_of program)) (called_by flow))))
+      (called_within (flows_of program) number callee h);
 }

@@ -1,5 +1,6 @@
 -- Procedures at places, compared one by one.
-use Rattle.std.proofs.Common.{◌≡◌, ℕ, zero, suc, ◌+◌, ◌<◌, List, [], ◌∷◌, ◌++◌, length, slice_get, get_or, take, Some, None, Option, refl, sym, ap, ◌∙◌, subst, arith, All}
+use Rattle.std.proofs.Common.{◌≡◌, ℕ, zero, suc, ◌+◌, ◌<◌, List, [], ◌∷◌, ◌++◌, length, slice_get, get_or, take, Some, None, Option, refl}
+use Rattle.std.proofs.Common.{sym, ap, ◌∙◌, subst, arith, All}
 use Rattle.std.specs.List.{filter_map, cons_option}
 use Rattle.std.specs.Option.{option_map}
 use Rattle.std.proofs.lemmas.List.{length-map, take_more}
@@ -16,7 +17,8 @@ use Rattle.std.proofs.lemmas.Option.{slice_get-get_or}
 use Rattle.component_keys.proofs.Basics.{not_none, some_same, at_map}
 
 -- as many as places, where there is something at each
-pub length_there : {A : Type 0} (things : List A) (places : List ℕ) → All (λ place. place < length things) places → length (filter_map (slice_get things) places) ≡ length places
+pub length_there : {A : Type 0} (things : List A) (places : List ℕ) → All (λ place. place < length things) places →
+    length (filter_map (slice_get things) places) ≡ length places
 length_there things [] within = refl
 length_there {A = A} things (place ∷ places) within =
     by_thing (slice_get things place) refl (length_there things places (All-tail (λ place. place < length things) place places within))
@@ -24,7 +26,8 @@ length_there {A = A} things (place ∷ places) within =
     lt : place < length things
     lt = All-head (λ place. place < length things) place places within
 
-    by_thing : (o : Option A) → slice_get things place ≡ o → length (filter_map (slice_get things) places) ≡ length places → length (cons_option o (filter_map (slice_get things) places)) ≡ suc (length places)
+    by_thing : (o : Option A) → slice_get things place ≡ o → length (filter_map (slice_get things) places) ≡ length places →
+        length (cons_option o (filter_map (slice_get things) places)) ≡ suc (length places)
     by_thing None e again = absurd (nothing things place lt e)
       where
         nothing : (xs : List A) (i : ℕ) → i < length xs → slice_get xs i ≡ None → ⊥
@@ -34,11 +37,13 @@ length_there {A = A} things (place ∷ places) within =
     by_thing (Some thing) e again = ap (λ n. suc n) again
 
 -- what stands at the places in turn
-pub there_at : {A : Type 0} (things : List A) (places : List ℕ) → All (λ place. place < length things) places → (i place : ℕ) → slice_get places i ≡ Some place →
+pub there_at : {A : Type 0} (things : List A) (places : List ℕ) → All (λ place. place < length things) places → (i place : ℕ) →
+    slice_get places i ≡ Some place →
     slice_get (filter_map (slice_get things) places) i ≡ slice_get things place
 there_at things [] within i place at = not_none at
 there_at {A = A} things (first ∷ places) within i place at =
-    by_thing (slice_get things first) refl i at (λ k. there_at things places (All-tail (λ place. place < length things) first places within) k place)
+    by_thing (slice_get things first) refl i at
+    (λ k. there_at things places (All-tail (λ place. place < length things) first places within) k place)
   where
     less : first < length things
     less = All-head (λ place. place < length things) first places within
@@ -57,10 +62,13 @@ there_at {A = A} things (first ∷ places) within i place at =
 
 -- ---- procedures
 
-pub within_flows : (program : Program) (members : List ℕ) → All (λ number. number < length program.procs) members → All (λ number. number < length (flows_of program)) members
-within_flows program members within = subst (λ n. All (λ number. number < n) members) (sym (length-map program.procs (λ (proc : Proc). proc.flow))) within
+pub within_flows : (program : Program) (members : List ℕ) → All (λ number. number < length program.procs) members →
+    All (λ number. number < length (flows_of program)) members
+within_flows program members within =
+    subst (λ n. All (λ number. number < n) members) (sym (length-map program.procs (λ (proc : Proc). proc.flow))) within
 
-module _ (program : Program) (members : List ℕ) (flows : List Flow) (within : All (λ number. number < length program.procs) members) (procs : List Proc) (procs_are : procs ≡ program.procs) where
+module _ (program : Program) (members : List ℕ) (flows : List Flow) (within : All (λ number. number < length program.procs) members)
+    (procs : List Proc) (procs_are : procs ≡ program.procs) where
   -- there are as many
   pub flows_length : flows ≡ filter_map (slice_get (flows_of program)) members → length flows ≡ length members
   flows_length e = ap length e ∙ length_there (flows_of program) members (within_flows program members within)
@@ -76,19 +84,23 @@ module _ (program : Program) (members : List ℕ) (flows : List Flow) (within : 
       ap (λ (all : List Proc). Some (get_or all (get_or members i 0) default).flow) (sym procs_are)
 
   -- one more is the same
-  pub flows_more : (i : ℕ) (one : Flow) (default : Proc) → i < length members → i < length flows → take i flows ≡ filter_map (slice_get (flows_of program)) (take i members) → one ≡ get_or flows i one →
+  pub flows_more : (i : ℕ) (one : Flow) (default : Proc) → i < length members → i < length flows →
+      take i flows ≡ filter_map (slice_get (flows_of program)) (take i members) → one ≡ get_or flows i one →
       one ≡ flow_in i default → take (i + 1) flows ≡ filter_map (slice_get (flows_of program)) (take (i + 1) members)
   flows_more i one default lt less before one_is same =
-      take_more flows i one less ∙ ap (λ l. l ++ get_or flows i one ∷ []) before ∙ ap (λ f. filter_map (slice_get (flows_of program)) (take i members) ++ f ∷ []) (sym one_is ∙ same) ∙
+      take_more flows i one less ∙ ap (λ l. l ++ get_or flows i one ∷ []) before
+      ∙ ap (λ f. filter_map (slice_get (flows_of program)) (take i members) ++ f ∷ []) (sym one_is ∙ same) ∙
       sym (more_at (flows_of program) members i (flow_in i default) lt (flow_at i default lt))
 
   -- what stands at one place in both
-  pub flows_same : (i : ℕ) (one : Flow) (default : Proc) → i < length members → i < length flows → one ≡ get_or flows i one → flows ≡ filter_map (slice_get (flows_of program)) members →
+  pub flows_same : (i : ℕ) (one : Flow) (default : Proc) → i < length members → i < length flows → one ≡ get_or flows i one →
+      flows ≡ filter_map (slice_get (flows_of program)) members →
       one ≡ flow_in i default
   flows_same i one default lt less one_is e =
       some_same
       (ap (λ f. Some f) one_is ∙ sym (slice_get-get_or flows i one less) ∙ ap (λ l. slice_get l i) e ∙
-      there_at (flows_of program) members (within_flows program members within) i (get_or members i 0) (slice_get-get_or members i 0 lt) ∙ flow_at i default lt)
+      there_at (flows_of program) members (within_flows program members within) i (get_or members i 0) (slice_get-get_or members i 0 lt)
+      ∙ flow_at i default lt)
 
 -- what the three tests tell of a key
 module _ (key : Key) (structs : List StructDef) (flows : List Flow) (procs : key.procs ≡ flows) where
@@ -98,7 +110,8 @@ module _ (key : Key) (structs : List StructDef) (flows : List Flow) (procs : key
   pub structs_of : key ≡ key_over structs flows key.callees → key.structs ≡ structs_used structs key.procs key.callees
   structs_of e = ap (λ (k : Key). k.structs) e ∙ ap (λ f. structs_used structs f key.callees) (sym procs)
 
-  pub composed_of : key.recursive ≡ is_recursive key.procs → key.structs ≡ structs_used structs key.procs key.callees → key ≡ key_over structs flows key.callees
+  pub composed_of : key.recursive ≡ is_recursive key.procs → key.structs ≡ structs_used structs key.procs key.callees →
+      key ≡ key_over structs flows key.callees
   composed_of recursive used =
       let one : key.recursive ≡ is_recursive flows = recursive ∙ ap is_recursive procs in
       let two : key.structs ≡ structs_used structs flows key.callees = used ∙ ap (λ f. structs_used structs f key.callees) procs in

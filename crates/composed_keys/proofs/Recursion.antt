@@ -41,16 +41,24 @@ command_same flows (cmd.Call to callee args next) = name_same flows callee
 command_same flows (cmd.Branch op pointers left right on_true on_false) = refl
 command_same flows (cmd.Return value) = refl
 
-nodes_same : (flows : List Flow) (nodes : List Node) → list_any (λ (node : Node). calls_any flows node.cmd) nodes ≡ list_any (has_name flows) (filter_map (λ (node : Node). callee_of node.cmd) nodes)
+nodes_same : (flows : List Flow) (nodes : List Node) →
+    list_any (λ (node : Node). calls_any flows node.cmd) nodes
+    ≡ list_any (has_name flows) (filter_map (λ (node : Node). callee_of node.cmd) nodes)
 nodes_same flows [] = refl
 nodes_same flows (node ∷ nodes) =
-    ap (λ b. b || list_any (λ (one : Node). calls_any flows one.cmd) nodes) (command_same flows node.cmd) ∙ by_callee (callee_of node.cmd) (nodes_same flows nodes)
+    ap (λ b. b || list_any (λ (one : Node). calls_any flows one.cmd) nodes) (command_same flows node.cmd)
+    ∙ by_callee (callee_of node.cmd) (nodes_same flows nodes)
   where
-    by_callee : (o : Option (List ℕ)) → list_any (λ (one : Node). calls_any flows one.cmd) nodes ≡ list_any (has_name flows) (filter_map (λ (one : Node). callee_of one.cmd) nodes) →
-        (called_one flows o || list_any (λ (one : Node). calls_any flows one.cmd) nodes) ≡ list_any (has_name flows) (cons_option o (filter_map (λ (one : Node). callee_of one.cmd) nodes))
+    by_callee : (o : Option (List ℕ)) →
+        list_any (λ (one : Node). calls_any flows one.cmd) nodes
+        ≡ list_any (has_name flows) (filter_map (λ (one : Node). callee_of one.cmd) nodes) →
+        (called_one flows o || list_any (λ (one : Node). calls_any flows one.cmd) nodes)
+        ≡ list_any (has_name flows) (cons_option o (filter_map (λ (one : Node). callee_of one.cmd) nodes))
     by_callee None e = e
     by_callee (Some name) e = ap (λ b. has_name flows name || b) e
 
-pub recursive_same : (flows : List Flow) → list_any (λ (flow : Flow). list_any (λ (node : Node). calls_any flows node.cmd) flow.nodes) flows ≡ is_recursive flows
+pub recursive_same : (flows : List Flow) →
+    list_any (λ (flow : Flow). list_any (λ (node : Node). calls_any flows node.cmd) flow.nodes) flows ≡ is_recursive flows
 recursive_same flows =
-    any_same (λ (flow : Flow). list_any (λ (node : Node). calls_any flows node.cmd) flow.nodes) (λ (flow : Flow). list_any (has_name flows) (called_by flow)) flows (λ flow. nodes_same flows flow.nodes)
+    any_same (λ (flow : Flow). list_any (λ (node : Node). calls_any flows node.cmd) flow.nodes)
+    (λ (flow : Flow). list_any (has_name flows) (called_by flow)) flows (λ flow. nodes_same flows flow.nodes)

@@ -9,5 +9,6 @@ there [] place x inside is = absurd (omega arith)
 there (first ∷ xs) zero x inside is = ap Some (sym is)
 there (first ∷ xs) (suc place) x inside is = there xs place x (omega arith) is
 
-pub stands_there : {A : Type 0} (xs seen : List A) (place : ℕ) (x y : A) → seen ≡ xs → place < length xs → x ≡ get_or seen place x → x ≡ y → slice_get xs place ≡ Some y
+pub stands_there : {A : Type 0} (xs seen : List A) (place : ℕ) (x y : A) → seen ≡ xs → place < length xs → x ≡ get_or seen place x → x ≡ y
+    → slice_get xs place ≡ Some y
 stands_there xs seen place x y same inside is named = there xs place x inside (is ∙ ap (λ list. get_or list place x) same) ∙ ap Some named

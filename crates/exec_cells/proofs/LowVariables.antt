@@ -29,7 +29,8 @@ low-variable names (Const n) h low = h
 
 low-exps : (es : List Exp) (names : List ℕ) → All IsUnder names → All IsLow es → All IsUnder (with_exps names es)
 low-exps [] names h each = h
-low-exps (e ∷ es) names h each = low-exps es (with_variable names e) (low-variable names e h (All-head IsLow e es each)) (All-tail IsLow e es each)
+low-exps (e ∷ es) names h each =
+    low-exps es (with_variable names e) (low-variable names e h (All-head IsLow e es each)) (All-tail IsLow e es each)
 
 low-sides : (fact : Fact) → IsLowFact fact → All IsLow (sides fact)
 low-sides (Eq left right) each = All-cons IsLow left (right ∷ []) each.0 (All-cons IsLow right [] each.1 (All-nil IsLow))
@@ -43,12 +44,16 @@ low-atom Junk each = All-nil IsLow
 low-facts : (facts : List Fact) (names : List ℕ) → All IsUnder names → All (EachInFact IsLow) facts → All IsUnder (with_facts names facts)
 low-facts [] names h each = h
 low-facts (fact ∷ facts) names h each =
-    low-facts facts (with_exps names (sides fact)) (low-exps (sides fact) names h (low-sides fact (All-head (EachInFact IsLow) fact facts each))) (All-tail (EachInFact IsLow) fact facts each)
+    low-facts facts (with_exps names (sides fact))
+    (low-exps (sides fact) names h (low-sides fact (All-head (EachInFact IsLow) fact facts each)))
+    (All-tail (EachInFact IsLow) fact facts each)
 
 low-atoms : (atoms : List Atom) (names : List ℕ) → All IsUnder names → All (EachInAtom IsLow) atoms → All IsUnder (with_atoms names atoms)
 low-atoms [] names h each = h
 low-atoms (atom ∷ atoms) names h each =
-    low-atoms atoms (with_exps names (exps_of atom)) (low-exps (exps_of atom) names h (low-atom atom (All-head (EachInAtom IsLow) atom atoms each))) (All-tail (EachInAtom IsLow) atom atoms each)
+    low-atoms atoms (with_exps names (exps_of atom))
+    (low-exps (exps_of atom) names h (low-atom atom (All-head (EachInAtom IsLow) atom atoms each)))
+    (All-tail (EachInAtom IsLow) atom atoms each)
 
 low-heap : (heap : SymHeap) (names : List ℕ) → All IsUnder names → EachInHeap IsLow heap → All IsUnder (with_heap names heap)
 low-heap heap names h each = low-atoms heap.spatial (with_facts names heap.pure) (low-facts heap.pure names h each.facts) each.atoms
@@ -57,7 +62,8 @@ low-heap heap names h each = low-atoms heap.spatial (with_facts names heap.pure)
 pub low_variables : (pair : Pair) → IsLowPair pair → All (λ x. x < 2147483648) (pair_variables pair)
 low_variables pair low =
     low-heap pair.missing (with_heap (with_exps [] pair.state.locals) pair.state.heap)
-    (low-heap pair.state.heap (with_exps [] pair.state.locals) (low-exps pair.state.locals [] (All-nil IsUnder) low.state.locals) low.state.heap)
+    (low-heap pair.state.heap (with_exps [] pair.state.locals)
+    (low-exps pair.state.locals [] (All-nil IsUnder) low.state.locals) low.state.heap)
     low.missing
 
 -- there is room for new ones

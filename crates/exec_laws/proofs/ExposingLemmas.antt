@@ -1,5 +1,6 @@
 -- Expose, in strict execution: whatever meets the state meets one of its cases, or there may be no cell.
-use Rattle.std.specs.Prelude.{◌≡◌, ◌⊎◌, ℕ, zero, suc, ℤ, Bool, true, false, if◌then◌else◌, List, [], ◌∷◌, ◌++◌, length, map, position, slice_get}
+use Rattle.std.specs.Prelude.{◌≡◌, ◌⊎◌, ℕ, zero, suc, ℤ, Bool, true, false, if◌then◌else◌, List, [], ◌∷◌, ◌++◌, length, map, position}
+use Rattle.std.specs.Prelude.{slice_get}
 use Rattle.std.specs.List.{list_any, remove}
 use Rattle.std.specs.declared.option.Option.{Option}
 use Rattle.std.specs.declared.option.Option.TheVariants.{None, Some}
@@ -28,7 +29,8 @@ use Rattle.exec_laws.specs.declared.parts.Exposed.{Exposed}
 use Rattle.exec_laws.specs.declared.parts.Exposed.TheVariants.{Shown}
 use Rattle.exec_laws.specs.declared.parts.Mode.TheVariants.{Strict}
 use Rattle.exec_laws.specs.declared.parts.Table.{Table}
-use Rattle.exec_laws.specs.Exposing.{at_segment, cases_of_segment, empty_case, expose, expose_within, unfolded_case, unfolded_to, with_unfolded, without_segment}
+use Rattle.exec_laws.specs.Exposing.{at_segment, cases_of_segment, empty_case, expose, expose_within, unfolded_case, unfolded_to}
+use Rattle.exec_laws.specs.Exposing.{with_unfolded, without_segment}
 use Rattle.exec_laws.specs.Meanings.{IsExposed, SomeOf}
 use Rattle.exec_laws.specs.Pairs.{Setting, atoms_of, formed, in_slot, new_existentials, pair_variables, unless_left_out, with_state_fact}
 use Rattle.exec_laws.proofs.Forms.{IsMet, fact-met, form-goes}
@@ -51,18 +53,22 @@ module _ (structs larger : List StructDef) (contains : ContainsStructures larger
 
     -- ---- a segment of the state
 
-    module _ (pair : Pair) (meets : Met pair) (place : ℕ) (kind : List ℕ) (link : ℕ) (from to : Exp) (is : slice_get (atoms_of pair) place ≡ Some (Seg kind link from to)) where
+    module _ (pair : Pair) (meets : Met pair) (place : ℕ) (kind : List ℕ) (link : ℕ) (from to : Exp)
+        (is : slice_get (atoms_of pair) place ≡ Some (Seg kind link from to)) where
       abbrev others : List Atom
       others = remove (atoms_of pair) place
 
       -- it is empty
-      empty-met : value meets.0 from ≡ value meets.0 to → HoldsAtoms larger meets.0 others heap → Met (with_state_fact (Eq from to) (without_segment place pair))
+      empty-met : value meets.0 from ≡ value meets.0 to → HoldsAtoms larger meets.0 others heap →
+          Met (with_state_fact (Eq from to) (without_segment place pair))
       empty-met same holds =
-          fact-met larger s locals heap (Eq from to) (without_segment place pair) (meets.0, meets.1, meets.2, record { facts = meets.3.facts; atoms = holds }) same
+          fact-met larger s locals heap (Eq from to) (without_segment place pair)
+          (meets.0, meets.1, meets.2, record { facts = meets.3.facts; atoms = holds }) same
 
       -- or not, with new variables
       full-met : (count : ℕ) (next : ℕ) (u : ℕ → ℤ) → AgreeButFor (new_existentials count pair) meets.0 u →
-          HoldsAtoms larger u (Points from kind (map Var (new_existentials count pair)) ∷ Seg kind link (Var next) to ∷ others) heap → Met (with_unfolded place kind link from to (new_existentials count pair) next pair)
+          HoldsAtoms larger u (Points from kind (map Var (new_existentials count pair)) ∷ Seg kind link (Var next) to ∷ others) heap →
+          Met (with_unfolded place kind link from to (new_existentials count pair) next pair)
       full-met count next u agree holds = (
         u,
         still_logical pair count meets.0 u agree s meets.1,
@@ -78,40 +84,56 @@ module _ (structs larger : List StructDef) (contains : ContainsStructures larger
         abbrev Both : Option StructDef → Type 0
         Both def = Exposes (empty_case again strict pair place from to ++ unfolded_case strict pair place kind link from to def)
 
-        when_empty : (rest : List Exposed) → value meets.0 from ≡ value meets.0 to → HoldsAtoms larger meets.0 others heap → Exposes (empty_case again strict pair place from to ++ rest)
+        when_empty : (rest : List Exposed) → value meets.0 from ≡ value meets.0 to → HoldsAtoms larger meets.0 others heap →
+            Exposes (empty_case again strict pair place from to ++ rest)
         when_empty rest same holds = by_test (differs pair.state.heap from to) refl
           where
             by_test : (b : Bool) → differs pair.state.heap from to ≡ b →
-                Exposes ((if b then [] else unless_left_out again (formed Strict params (with_state_fact (Eq from to) (without_segment place pair)))) ++ rest)
+                Exposes ((if b then []
+                else unless_left_out again (formed Strict params (with_state_fact (Eq from to) (without_segment place pair)))) ++ rest)
             by_test true known = absurd (differs_is_sound larger meets.0 heap pair.state.heap from to meets.3 known same)
             by_test false known =
-                some-left (IsExposed larger s locals heap) (unless_left_out again (formed Strict params (with_state_fact (Eq from to) (without_segment place pair)))) _
-                (form-goes larger s locals heap Exposes again params (with_state_fact (Eq from to) (without_segment place pair)) (empty-met same holds) later)
+                some-left (IsExposed larger s locals heap)
+                (unless_left_out again (formed Strict params (with_state_fact (Eq from to) (without_segment place pair)))) _
+                (form-goes larger s locals heap Exposes again params (with_state_fact (Eq from to) (without_segment place pair))
+                (empty-met same holds) later)
 
         module _ (def : StructDef) (is_def : struct_named structs kind ≡ Some def) where
-          fit : (next : ℕ) → slice_get (new_existentials (length def.fields) pair) link ≡ Some next → AreFieldNames larger kind link (Seg kind link from to ∷ others) (new_existentials (length def.fields) pair) next
+          fit : (next : ℕ) → slice_get (new_existentials (length def.fields) pair) link ≡ Some next →
+              AreFieldNames larger kind link (Seg kind link from to ∷ others) (new_existentials (length def.fields) pair) next
           fit next is_next = record {
             def = def;
             listed = contains kind def is_def;
             one_each = length-fresh_variables (length def.fields) (pair_variables pair);
             next_is = is_next;
             different = fresh_different (length def.fields) (pair_variables pair);
-            new = λ x h. none_moved (occurs_in_atom x) (atoms_of pair) place (Seg kind link from to) is (new_in_atoms pair (length def.fields) x h);
+            new =
+                λ x h. none_moved (occurs_in_atom x) (atoms_of pair) place (Seg kind link from to) is
+                (new_in_atoms pair (length def.fields) x h);
           }
 
           by_link : (next : Option ℕ) → slice_get (new_existentials (length def.fields) pair) link ≡ next →
-              Exposes (empty_case again strict pair place from to ++ unfolded_to strict pair place kind link from to (new_existentials (length def.fields) pair) next)
+              Exposes (empty_case again strict pair place from to
+              ++ unfolded_to strict pair place kind link from to (new_existentials (length def.fields) pair) next)
           by_link None is_next = some-right (IsExposed larger s locals heap) (empty_case again strict pair place from to) _ (inl tt)
           by_link (Some next) is_next =
-              by_case (segment_unfolds larger meets.0 kind link from to others (new_existentials (length def.fields) pair) next heap (fit next is_next) (HoldsAtoms-remove larger meets.0 (atoms_of pair) place (Seg kind link from to) is meets.3.atoms))
+              by_case (segment_unfolds larger meets.0 kind link from to others (new_existentials (length def.fields) pair) next heap
+              (fit next is_next) (HoldsAtoms-remove larger meets.0 (atoms_of pair) place (Seg kind link from to) is meets.3.atoms))
             where
               by_case : ((value meets.0 from ≡ value meets.0 to) × HoldsAtoms larger meets.0 others heap)
-                  ⊎ ((u : ℕ → ℤ) × AgreeButFor (new_existentials (length def.fields) pair) meets.0 u × HoldsAtoms larger u (Points from kind (map Var (new_existentials (length def.fields) pair)) ∷ Seg kind link (Var next) to ∷ others) heap) →
-                  Exposes (empty_case again strict pair place from to ++ unfolded_to strict pair place kind link from to (new_existentials (length def.fields) pair) (Some next))
-              by_case (inl empty) = when_empty (unfolded_to strict pair place kind link from to (new_existentials (length def.fields) pair) (Some next)) empty.0 empty.1
+                  ⊎ ((u : ℕ → ℤ) × AgreeButFor (new_existentials (length def.fields) pair) meets.0 u
+                  × HoldsAtoms larger u
+                  (Points from kind (map Var (new_existentials (length def.fields) pair)) ∷ Seg kind link (Var next) to ∷ others) heap) →
+                  Exposes (empty_case again strict pair place from to
+                  ++ unfolded_to strict pair place kind link from to (new_existentials (length def.fields) pair) (Some next))
+              by_case (inl empty) =
+                  when_empty (unfolded_to strict pair place kind link from to (new_existentials (length def.fields) pair)
+                  (Some next)) empty.0 empty.1
               by_case (inr unfolds) =
                   some-right (IsExposed larger s locals heap) (empty_case again strict pair place from to) _
-                  (form-goes larger s locals heap Exposes (λ one. Shown one ∷ []) params (with_unfolded place kind link from to (new_existentials (length def.fields) pair) next pair) (full-met (length def.fields) next unfolds.0 unfolds.1 unfolds.2) (λ form met. inl met))
+                  (form-goes larger s locals heap Exposes (λ one. Shown one ∷ []) params
+                  (with_unfolded place kind link from to (new_existentials (length def.fields) pair) next pair)
+                  (full-met (length def.fields) next unfolds.0 unfolds.1 unfolds.2) (λ form met. inl met))
 
         by_def : (def : Option StructDef) → struct_named structs kind ≡ def → Both def
         by_def None is_def = some-right (IsExposed larger s locals heap) (empty_case again strict pair place from to) _ (inl tt)
@@ -123,12 +145,14 @@ module _ (structs larger : List StructDef) (contains : ContainsStructures larger
     exposes zero kind slot pair meets = inl tt
     exposes (suc turns) kind slot pair meets = by_test (exposes turns kind slot) (list_any (is_cell_at (in_slot pair slot)) (atoms_of pair))
       where
-        by_atom : ((form : Pair) → Met form → Exposes (expose_within turns strict kind slot form)) → (place : ℕ) (atom : Option Atom) → slice_get (atoms_of pair) place ≡ atom →
+        by_atom : ((form : Pair) → Met form → Exposes (expose_within turns strict kind slot form)) → (place : ℕ) (atom : Option Atom) →
+            slice_get (atoms_of pair) place ≡ atom →
             Exposes (cases_of_segment (λ later. expose_within turns strict kind slot later) strict (in_slot pair slot) pair place atom)
         by_atom later place None is = inl tt
         by_atom later place (Some (Points at kind' fields)) is = inl tt
         by_atom later place (Some (Seg kind' link from to)) is =
-            by_def pair meets place kind' link from to is (λ form. expose_within turns strict kind slot form) later (struct_named structs kind') refl
+            by_def pair meets place kind' link from to is (λ form. expose_within turns strict kind slot form) later
+            (struct_named structs kind') refl
         by_atom later place (Some Junk) is = inl tt
 
         by_place : ((form : Pair) → Met form → Exposes (expose_within turns strict kind slot form)) → (place : Option ℕ) →
@@ -137,10 +161,13 @@ module _ (structs larger : List StructDef) (contains : ContainsStructures larger
         by_place later (Some place) = by_atom later place (slice_get (atoms_of pair) place) refl
 
         by_test : ((form : Pair) → Met form → Exposes (expose_within turns strict kind slot form)) → (b : Bool) →
-            Exposes (if b then Shown pair ∷ [] else at_segment (λ later. expose_within turns strict kind slot later) strict kind (in_slot pair slot) pair (position (is_segment_from (in_slot pair slot)) (atoms_of pair)))
+            Exposes (if b then Shown pair ∷ []
+            else at_segment (λ later. expose_within turns strict kind slot later) strict kind (in_slot pair slot) pair
+            (position (is_segment_from (in_slot pair slot)) (atoms_of pair)))
         by_test later true = inl meets
         by_test later false = by_place later (position (is_segment_from (in_slot pair slot)) (atoms_of pair))
 
     -- whatever meets the state meets a case of expose
-    pub exposed-met : (kind : List ℕ) (slot : ℕ) (pair : Pair) → IsMet larger s locals heap pair → SomeOf (IsExposed larger s locals heap) (expose strict kind slot pair)
+    pub exposed-met : (kind : List ℕ) (slot : ℕ) (pair : Pair) → IsMet larger s locals heap pair →
+        SomeOf (IsExposed larger s locals heap) (expose strict kind slot pair)
     exposed-met kind slot pair = exposes (length (atoms_of pair)) kind slot pair

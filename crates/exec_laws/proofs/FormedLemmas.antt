@@ -20,7 +20,8 @@ use Rattle.exec_laws.specs.declared.parts.Case.TheVariants.{On, Leaves, Drops}
 use Rattle.exec_laws.specs.declared.parts.Mode.TheVariants.{Strict}
 use Rattle.exec_laws.specs.declared.parts.Step.TheVariants as step
 use Rattle.exec_laws.specs.declared.parts.Table.{Table}
-use Rattle.exec_laws.specs.Execution.{answer, cases_at, cases_of, exit_of, first_drop, formed_case, line_of, next_of, nothing_missing, post_of, setting_of}
+use Rattle.exec_laws.specs.Execution.{answer, cases_at, cases_of, exit_of, first_drop, formed_case, line_of, next_of, nothing_missing}
+use Rattle.exec_laws.specs.Execution.{post_of, setting_of}
 use Rattle.exec_laws.specs.Laws.{AnswersAreForms, IsForm, IsFormOfPost}
 use Rattle.sym_forms.specs.Forms.{of_form}
 use Rattle.exec_laws.specs.Pairs.{Setting, canonical}
@@ -38,12 +39,17 @@ module _ (params : ℕ) (structs : List StructDef) (table : Table) where
   formed-cons : (case : Case) (cases : List Case) → All IsFormed cases → All IsFormed (cons_option (formed_case strict case) cases)
   formed-cons (On node pair) cases others = by_form (normal pair.state) refl
     where
-      by_form : (form : Normal) → normal pair.state ≡ form → All IsFormed (cons_option (option_map (On node) (option_map (canonical Strict params) (of_form (λ one. record pair { state = one }) form))) cases)
+      by_form : (form : Normal) → normal pair.state ≡ form →
+          All IsFormed
+          (cons_option
+          (option_map (On node) (option_map (canonical Strict params) (of_form (λ one. record pair { state = one }) form))) cases)
       by_form (Is form) is = All-cons IsFormed _ cases (form, form_is_normal pair.state form is, refl) others
       by_form Contradiction is = others
   formed-cons (Leaves pair) cases others = by_form (normal pair.state) refl
     where
-      by_form : (form : Normal) → normal pair.state ≡ form → All IsFormed (cons_option (option_map Leaves (option_map (canonical Strict params) (of_form (λ one. record pair { state = one }) form))) cases)
+      by_form : (form : Normal) → normal pair.state ≡ form →
+          All IsFormed
+          (cons_option (option_map Leaves (option_map (canonical Strict params) (of_form (λ one. record pair { state = one }) form))) cases)
       by_form (Is form) is = All-cons IsFormed _ cases (form, form_is_normal pair.state form is, refl) others
       by_form Contradiction is = others
   formed-cons (Drops cause) cases others = All-cons IsFormed (Drops cause) cases tt others
@@ -59,7 +65,8 @@ module _ (params : ℕ) (structs : List StructDef) (table : Table) where
   nexts-formed : (cases : List Case) → All IsFormed cases → All (λ (next : ℕ × SymState). IsForm params next.1) (filter_map next_of cases)
   nexts-formed [] each = All-nil (λ (next : ℕ × SymState). IsForm params next.1)
   nexts-formed (On node pair ∷ cases) each =
-      All-cons (λ (next : ℕ × SymState). IsForm params next.1) (node, pair.state) (filter_map next_of cases) (All-head IsFormed (On node pair) cases each) (nexts-formed cases (All-tail IsFormed (On node pair) cases each))
+      All-cons (λ (next : ℕ × SymState). IsForm params next.1) (node, pair.state) (filter_map next_of cases)
+      (All-head IsFormed (On node pair) cases each) (nexts-formed cases (All-tail IsFormed (On node pair) cases each))
   nexts-formed (Leaves pair ∷ cases) each = nexts-formed cases (All-tail IsFormed (Leaves pair) cases each)
   nexts-formed (Drops cause ∷ cases) each = nexts-formed cases (All-tail IsFormed (Drops cause) cases each)
 
@@ -68,19 +75,25 @@ module _ (params : ℕ) (structs : List StructDef) (table : Table) where
   exits-formed (On node pair ∷ cases) each = exits-formed cases (All-tail IsFormed (On node pair) cases each)
   exits-formed (Leaves pair ∷ cases) each =
       let form = All-head IsFormed (Leaves pair) cases each in
-      All-cons (IsFormOfPost params) (post_of pair.state) (filter_map exit_of cases) (form.0, form.1, ap post_of form.2) (exits-formed cases (All-tail IsFormed (Leaves pair) cases each))
+      All-cons (IsFormOfPost params) (post_of pair.state) (filter_map exit_of cases) (form.0, form.1, ap post_of form.2)
+      (exits-formed cases (All-tail IsFormed (Leaves pair) cases each))
   exits-formed (Drops cause ∷ cases) each = exits-formed cases (All-tail IsFormed (Drops cause) cases each)
 
-  answer-formed : (line : ℕ) (cases : List Case) (drop : Option Fault) → All IsFormed cases → (nexts : List (ℕ × SymState)) (exits : List Post) → answer line cases drop ≡ step.Next nexts exits →
+  answer-formed : (line : ℕ) (cases : List Case) (drop : Option Fault) → All IsFormed cases →
+      (nexts : List (ℕ × SymState)) (exits : List Post) → answer line cases drop ≡ step.Next nexts exits →
       All (λ (next : ℕ × SymState). IsForm params next.1) nexts × All (IsFormOfPost params) exits
   answer-formed line cases None each nexts exits is =
       let same_nexts : filter_map next_of cases ≡ nexts = cc in
-      let same_exits : filter_map exit_of cases ≡ exits = cc in
-      (subst (λ some. All (λ (next : ℕ × SymState). IsForm params next.1) some) same_nexts (nexts-formed cases each), subst (λ some. All (IsFormOfPost params) some) same_exits (exits-formed cases each))
+      let same_exits : filter_map exit_of cases ≡ exits = cc in (
+        subst (λ some. All (λ (next : ℕ × SymState). IsForm params next.1) some) same_nexts (nexts-formed cases each),
+        subst
+            (λ some. All (IsFormOfPost params) some) same_exits (exits-formed cases each),
+      )
   answer-formed line cases (Some cause) each nexts exits is = cc
 
 pub answers_are_forms : AnswersAreForms
 answers_are_forms flow structs at state table nexts exits is =
-    answer-formed (length flow.params) structs table (line_of (slice_get flow.nodes at)) (cases_at (setting_of Strict flow structs table) (nothing_missing state) (slice_get flow.nodes at))
+    answer-formed (length flow.params) structs table (line_of (slice_get flow.nodes at))
+    (cases_at (setting_of Strict flow structs table) (nothing_missing state) (slice_get flow.nodes at))
     (first_drop (cases_at (setting_of Strict flow structs table) (nothing_missing state) (slice_get flow.nodes at)))
     (formed-at (length flow.params) structs table (nothing_missing state) (slice_get flow.nodes at)) nexts exits is

@@ -41,15 +41,22 @@ module _ (structs : List StructDef) (are : AreStructs structs) (params slots nod
   pub fields-few : (m : ℕ) (atoms : List Atom) → All (IsAtom (with_parts m) structs params) atoms → fields_in atoms ≤ 32769 * length atoms
   fields-few m [] each = omega arith
   fields-few m (Points at kind fields ∷ atoms) each =
-      let few : length (at ∷ fields) ≤ 32769 = atom-few structs are params slots m (Points at kind fields) (All-head (IsAtom (with_parts m) structs params) (Points at kind fields) atoms each) in
-      let later : fields_in atoms ≤ 32769 * length atoms = fields-few m atoms (All-tail (IsAtom (with_parts m) structs params) (Points at kind fields) atoms each) in
+      let few : length (at ∷ fields)
+      ≤ 32769 =
+      atom-few structs are params slots m (Points at kind fields)
+      (All-head (IsAtom (with_parts m) structs params) (Points at kind fields) atoms each) in
+      let later : fields_in atoms ≤ 32769 * length atoms =
+      fields-few m atoms (All-tail (IsAtom (with_parts m) structs params) (Points at kind fields) atoms each) in
       omega arith
   fields-few m (Seg kind link from to ∷ atoms) each =
-      let later : fields_in atoms ≤ 32769 * length atoms = fields-few m atoms (All-tail (IsAtom (with_parts m) structs params) (Seg kind link from to) atoms each) in
+      let later : fields_in atoms ≤ 32769 * length atoms =
+      fields-few m atoms (All-tail (IsAtom (with_parts m) structs params) (Seg kind link from to) atoms each) in
       omega arith
-  fields-few m (Junk ∷ atoms) each = let later : fields_in atoms ≤ 32769 * length atoms = fields-few m atoms (All-tail (IsAtom (with_parts m) structs params) Junk atoms each) in omega arith
+  fields-few m (Junk ∷ atoms) each = let later : fields_in atoms
+      ≤ 32769 * length atoms = fields-few m atoms (All-tail (IsAtom (with_parts m) structs params) Junk atoms each) in omega arith
 
-  canon-good : (m count : ℕ) (state : SymState) → m ≤ 8192 → count ≤ 32768 → IsState (with_parts m) structs params count state → IsState (with_parts m) structs params count (canon_state state params)
+  canon-good : (m count : ℕ) (state : SymState) → m ≤ 8192 → count ≤ 32768 → IsState (with_parts m) structs params count state →
+      IsState (with_parts m) structs params count (canon_state state params)
   canon-good m count state few small is =
       let fields : fields_in state.heap.spatial ≤ 32769 * length state.heap.spatial = fields-few m state.heap.spatial is.heap.atoms in
       let parts : length state.heap.pure + length state.heap.spatial ≤ m = is.heap.parts in
@@ -70,26 +77,39 @@ module _ (structs : List StructDef) (are : AreStructs structs) (params slots nod
   IsGood m (Leaves pair) = IsState (with_parts m) structs params 1 pair.state
   IsGood m (Drops cause) = Unit {0}
 
-  good-cons : (m i : ℕ) → m ≤ 8192 → (case : Case) (cases : List Case) → IsCaseWithin structs params slots nodes m i case → All (IsGood m) cases → All (IsGood m) (cons_option (formed_case strict case) cases)
+  good-cons : (m i : ℕ) → m ≤ 8192 → (case : Case) (cases : List Case) → IsCaseWithin structs params slots nodes m i case →
+      All (IsGood m) cases → All (IsGood m) (cons_option (formed_case strict case) cases)
   good-cons m i few (On node pair) cases room others = by_form (normal pair.state) refl
     where
-      by_form : (form : Normal) → normal pair.state ≡ form → All (IsGood m) (cons_option (option_map (On node) (option_map (canonical Strict params) (of_form (λ one. record pair { state = one }) form))) cases)
+      by_form : (form : Normal) → normal pair.state ≡ form →
+          All (IsGood m)
+          (cons_option
+          (option_map (On node) (option_map (canonical Strict params) (of_form (λ one. record pair { state = one }) form))) cases)
       by_form (Is form) is =
-          All-cons (IsGood m) (On node (canonical Strict params (record pair { state = form }))) cases
-          (room.0, canon-good m slots form few narrow (form_is_well_formed (with_parts m) structs params slots pair.state form is room.1.state)) others
+          All-cons (IsGood m) (On node (canonical Strict params (record pair { state = form }))) cases (
+            room.0,
+            canon-good m slots form few narrow
+                (form_is_well_formed (with_parts m) structs params slots pair.state form is room.1.state),
+          ) others
       by_form Contradiction is = others
   good-cons m i few (Leaves pair) cases room others = by_form (normal pair.state) refl
     where
-      by_form : (form : Normal) → normal pair.state ≡ form → All (IsGood m) (cons_option (option_map Leaves (option_map (canonical Strict params) (of_form (λ one. record pair { state = one }) form))) cases)
+      by_form : (form : Normal) → normal pair.state ≡ form →
+          All (IsGood m)
+          (cons_option (option_map Leaves (option_map (canonical Strict params) (of_form (λ one. record pair { state = one }) form))) cases)
       by_form (Is form) is =
-          All-cons (IsGood m) (Leaves (canonical Strict params (record pair { state = form }))) cases (canon-good m 1 form few (omega arith) (form_is_well_formed (with_parts m) structs params 1 pair.state form is room.state)) others
+          All-cons (IsGood m) (Leaves (canonical Strict params (record pair { state = form }))) cases
+          (canon-good m 1 form few (omega arith)
+          (form_is_well_formed (with_parts m) structs params 1 pair.state form is room.state)) others
       by_form Contradiction is = others
   good-cons m i few (Drops cause) cases room others = All-cons (IsGood m) (Drops cause) cases tt others
 
-  good-all : (m i : ℕ) → m ≤ 8192 → (cases : List Case) → All (IsCaseWithin structs params slots nodes m i) cases → All (IsGood m) (filter_map (formed_case strict) cases)
+  good-all : (m i : ℕ) → m ≤ 8192 → (cases : List Case) → All (IsCaseWithin structs params slots nodes m i) cases →
+      All (IsGood m) (filter_map (formed_case strict) cases)
   good-all m i few [] each = All-nil (IsGood m)
   good-all m i few (case ∷ cases) each =
-      good-cons m i few case (filter_map (formed_case strict) cases) (All-head (IsCaseWithin structs params slots nodes m i) case cases each)
+      good-cons m i few case (filter_map (formed_case strict) cases)
+      (All-head (IsCaseWithin structs params slots nodes m i) case cases each)
       (good-all m i few cases (All-tail (IsCaseWithin structs params slots nodes m i) case cases each))
 
   -- ---- the answer
@@ -100,7 +120,9 @@ module _ (structs : List StructDef) (are : AreStructs structs) (params slots nod
 
   nexts-good : (m : ℕ) (cases : List Case) → All (IsGood m) cases → All (IsGoodNext m) (filter_map next_of cases)
   nexts-good m [] each = All-nil (IsGoodNext m)
-  nexts-good m (On node pair ∷ cases) each = All-cons (IsGoodNext m) (node, pair.state) (filter_map next_of cases) (All-head (IsGood m) (On node pair) cases each) (nexts-good m cases (All-tail (IsGood m) (On node pair) cases each))
+  nexts-good m (On node pair ∷ cases) each =
+      All-cons (IsGoodNext m) (node, pair.state) (filter_map next_of cases) (All-head (IsGood m) (On node pair) cases each)
+      (nexts-good m cases (All-tail (IsGood m) (On node pair) cases each))
   nexts-good m (Leaves pair ∷ cases) each = nexts-good m cases (All-tail (IsGood m) (Leaves pair) cases each)
   nexts-good m (Drops cause ∷ cases) each = nexts-good m cases (All-tail (IsGood m) (Drops cause) cases each)
 
@@ -110,15 +132,20 @@ module _ (structs : List StructDef) (are : AreStructs structs) (params slots nod
   exits-good m (Leaves pair ∷ cases) each =
       let good : IsState (with_parts m) structs params 1 pair.state = All-head (IsGood m) (Leaves pair) cases each in
       All-cons (IsPost (with_parts m) structs params) (post_of pair.state) (filter_map exit_of cases)
-      (record { ret = All-or (IsExp (with_parts m) params) pair.state.locals 0 _ tt good.locals; heap = good.heap }) (exits-good m cases (All-tail (IsGood m) (Leaves pair) cases each))
+      (record { ret = All-or (IsExp (with_parts m) params) pair.state.locals 0 _ tt good.locals; heap = good.heap })
+      (exits-good m cases (All-tail (IsGood m) (Leaves pair) cases each))
   exits-good m (Drops cause ∷ cases) each = exits-good m cases (All-tail (IsGood m) (Drops cause) cases each)
 
-  pub answer-good : (m i : ℕ) → m ≤ 8192 → (line : ℕ) (cases : List Case) (drop : Option Fault) → All (IsCaseWithin structs params slots nodes m i) cases → (nexts : List (ℕ × SymState)) (exits : List Post) →
-      answer line (filter_map (formed_case strict) cases) drop ≡ step.Next nexts exits → All (IsGoodNext m) nexts × All (IsPost (with_parts m) structs params) exits
+  pub answer-good : (m i : ℕ) → m ≤ 8192 → (line : ℕ) (cases : List Case) (drop : Option Fault) →
+      All (IsCaseWithin structs params slots nodes m i) cases → (nexts : List (ℕ × SymState)) (exits : List Post) →
+      answer line (filter_map (formed_case strict) cases) drop ≡ step.Next nexts exits →
+      All (IsGoodNext m) nexts × All (IsPost (with_parts m) structs params) exits
   answer-good m i few line cases None each nexts exits is =
       let same_nexts : filter_map next_of (filter_map (formed_case strict) cases) ≡ nexts = cc in
       let same_exits : filter_map exit_of (filter_map (formed_case strict) cases) ≡ exits = cc in (
-        subst (λ some. All (IsGoodNext m) some) same_nexts (nexts-good m (filter_map (formed_case strict) cases) (good-all m i few cases each)),
-        subst (λ some. All (IsPost (with_parts m) structs params) some) same_exits (exits-good m (filter_map (formed_case strict) cases) (good-all m i few cases each)),
+        subst (λ some. All (IsGoodNext m) some) same_nexts
+            (nexts-good m (filter_map (formed_case strict) cases) (good-all m i few cases each)),
+        subst (λ some. All (IsPost (with_parts m) structs params) some) same_exits
+            (exits-good m (filter_map (formed_case strict) cases) (good-all m i few cases each)),
       )
   answer-good m i few line cases (Some cause) each nexts exits is = cc

@@ -26,22 +26,35 @@ module _ (structs : List StructDef) (s : ℕ → ℤ) (locals : List ℤ) (heap 
 
   -- with one more fact that is true
   pub fact-met : (fact : Fact) (pair : Pair) (meets : IsMet pair) → IsTrueFact meets.0 fact → IsMet (with_state_fact fact pair)
-  fact-met fact pair meets is = (meets.0, meets.1, meets.2, record { facts = AreTrueFacts-append meets.0 pair.state.heap.pure _ meets.3.facts (is, tt); atoms = meets.3.atoms })
+  fact-met fact pair meets is = (
+    meets.0,
+    meets.1,
+    meets.2,
+    record { facts = AreTrueFacts-append meets.0 pair.state.heap.pure _ meets.3.facts (is, tt); atoms = meets.3.atoms },
+  )
 
   -- what is shown of the form is shown
-  pub form-goes : {A : Type 0} (X : List A → Type 0) (go_on : Pair → List A) (params : ℕ) (pair : Pair) → IsMet pair → ((form : Pair) → IsMet form → X (go_on form)) →
+  pub form-goes : {A : Type 0} (X : List A → Type 0) (go_on : Pair → List A) (params : ℕ) (pair : Pair) → IsMet pair →
+      ((form : Pair) → IsMet form → X (go_on form)) →
       X (unless_left_out go_on (formed Strict params pair))
   form-goes X go_on params pair meets each = by_form (normal pair.state) (normal_keeps_meaning pair.state)
     where
-      by_form : (form : Normal) → MeansTheSame pair.state form → X (unless_left_out go_on (of_form (λ one. record pair { state = one }) form))
+      by_form : (form : Normal) → MeansTheSame pair.state form →
+          X (unless_left_out go_on (of_form (λ one. record pair { state = one }) form))
       by_form (Is form) means = each (record pair { state = form }) ((means structs s locals heap).0 meets)
       by_form Contradiction means = absurd (means structs s locals heap meets)
 
   -- both forms, as a pair that is there
-  pub forms-met : (params : ℕ) (pair : Pair) → IsMet pair → (form : Pair) × (option_map (canonical Strict params) (formed Strict params pair) ≡ Some form) × IsMet form
+  pub forms-met : (params : ℕ) (pair : Pair) → IsMet pair →
+      (form : Pair) × (option_map (canonical Strict params) (formed Strict params pair) ≡ Some form) × IsMet form
   forms-met params pair meets = by_form (normal pair.state) (normal_keeps_meaning pair.state)
     where
-      by_form : (form : Normal) → MeansTheSame pair.state form → (last : Pair) × (option_map (canonical Strict params) (of_form (λ one. record pair { state = one }) form) ≡ Some last) × IsMet last
-      by_form (Is form) means =
-          (record { missing = pair.missing; state = canon_state form params }, refl, (canon_state_keeps_meaning form params structs s locals heap).0 ((means structs s locals heap).0 meets))
+      by_form : (form : Normal) → MeansTheSame pair.state form →
+          (last : Pair) × (option_map (canonical Strict params) (of_form (λ one. record pair { state = one }) form) ≡ Some last)
+          × IsMet last
+      by_form (Is form) means = (
+        record { missing = pair.missing; state = canon_state form params },
+        refl,
+        (canon_state_keeps_meaning form params structs s locals heap).0 ((means structs s locals heap).0 meets),
+      )
       by_form Contradiction means = absurd (means structs s locals heap meets)

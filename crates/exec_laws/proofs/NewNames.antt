@@ -37,31 +37,40 @@ module _ (pair : Pair) (count : ℕ) where
   away x is = let new = fresh_new count (pair_variables pair) x is in not_kept (pair_variables pair) x new.0 new.1
 
   heap_kept : EachInHeap (IsKept (pair_variables pair)) pair.state.heap
-  heap_kept = heap-kept pair.state.heap (with_exps [] pair.state.locals) (pair_variables pair) (heap-within pair.missing (with_state [] pair.state))
+  heap_kept =
+      heap-kept pair.state.heap (with_exps [] pair.state.locals) (pair_variables pair) (heap-within pair.missing (with_state [] pair.state))
 
   new_in_locals : (x : ℕ) → is_one_of (new_existentials count pair) x ≡ true → list_any (is_variable x) pair.state.locals ≡ false
   new_in_locals x is =
       unless_true (list_any (is_variable x) pair.state.locals) (is_kept (pair_variables pair) x)
-      (exps_occur (pair_variables pair) x pair.state.locals (locals-kept pair.state [] (pair_variables pair) (heap-within pair.missing (with_state [] pair.state)))) (away x is)
+      (exps_occur (pair_variables pair) x pair.state.locals
+      (locals-kept pair.state [] (pair_variables pair) (heap-within pair.missing (with_state [] pair.state)))) (away x is)
 
   new_in_facts : (x : ℕ) → is_one_of (new_existentials count pair) x ≡ true → list_any (occurs_in_fact x) pair.state.heap.pure ≡ false
   new_in_facts x is =
       unless_true (list_any (occurs_in_fact x) pair.state.heap.pure) (is_kept (pair_variables pair) x)
-      (λ h. occurs-kept (pair_variables pair) x pair.state.heap heap_kept (or_left (list_any (occurs_in_fact x) pair.state.heap.pure) (list_any (occurs_in_atom x) pair.state.heap.spatial) h)) (away x is)
+      (λ h. occurs-kept (pair_variables pair) x pair.state.heap heap_kept
+      (or_left (list_any (occurs_in_fact x) pair.state.heap.pure) (list_any (occurs_in_atom x) pair.state.heap.spatial) h)) (away x is)
 
   pub new_in_atoms : AreNewIn pair.state.heap.spatial (new_existentials count pair)
   new_in_atoms x is =
       unless_true (list_any (occurs_in_atom x) pair.state.heap.spatial) (is_kept (pair_variables pair) x)
-      (λ h. occurs-kept (pair_variables pair) x pair.state.heap heap_kept (or_right (list_any (occurs_in_fact x) pair.state.heap.pure) (list_any (occurs_in_atom x) pair.state.heap.spatial) h)) (away x is)
+      (λ h. occurs-kept (pair_variables pair) x pair.state.heap heap_kept
+      (or_right (list_any (occurs_in_fact x) pair.state.heap.pure) (list_any (occurs_in_atom x) pair.state.heap.spatial) h)) (away x is)
 
   module _ (t u : ℕ → ℤ) (agree : AgreeButFor (new_existentials count pair) t u) where
     pub old_values : map (value t) pair.state.locals ≡ map (value u) pair.state.locals
-    old_values = values-agree t u pair.state.locals (new-agrees (new_existentials count pair) t u agree (λ x. list_any (is_variable x) pair.state.locals) new_in_locals)
+    old_values =
+        values-agree t u pair.state.locals
+        (new-agrees (new_existentials count pair) t u agree (λ x. list_any (is_variable x) pair.state.locals) new_in_locals)
 
     pub old_facts : AreTrueFacts t pair.state.heap.pure → AreTrueFacts u pair.state.heap.pure
-    old_facts = AreTrueFacts-agree t u pair.state.heap.pure (new-agrees (new_existentials count pair) t u agree (λ x. list_any (occurs_in_fact x) pair.state.heap.pure) new_in_facts)
+    old_facts =
+        AreTrueFacts-agree t u pair.state.heap.pure
+        (new-agrees (new_existentials count pair) t u agree (λ x. list_any (occurs_in_fact x) pair.state.heap.pure) new_in_facts)
 
-    pub old_atoms : (structs : List StructDef) (heap : List Cell) → HoldsAtoms structs t pair.state.heap.spatial heap → HoldsAtoms structs u pair.state.heap.spatial heap
+    pub old_atoms : (structs : List StructDef) (heap : List Cell) → HoldsAtoms structs t pair.state.heap.spatial heap
+        → HoldsAtoms structs u pair.state.heap.spatial heap
     old_atoms structs heap = HoldsAtoms-new (new_existentials count pair) t u agree structs pair.state.heap.spatial heap new_in_atoms
 
     pub still_logical : (s : ℕ → ℤ) → AgreesOnLogical s t → AgreesOnLogical s u

@@ -21,7 +21,8 @@ some-weaker P Q go (x ∷ xs) (inl h) = inl (go x h)
 some-weaker P Q go (x ∷ xs) (inr h) = inr (some-weaker P Q go xs h)
 
 -- of what a member becomes
-pub some-kept : {A B : Type 0} (P : A → Type 0) (Q : B → Type 0) (f : A → Option B) → ((x : A) → P x → (y : B) × (f x ≡ Some y) × Q y) → (xs : List A) → SomeOf P xs → SomeOf Q (filter_map f xs)
+pub some-kept : {A B : Type 0} (P : A → Type 0) (Q : B → Type 0) (f : A → Option B) → ((x : A) → P x → (y : B) × (f x ≡ Some y) × Q y)
+    → (xs : List A) → SomeOf P xs → SomeOf Q (filter_map f xs)
 some-kept P Q f go [] h = absurd h
 some-kept P Q f go (x ∷ xs) (inl h) = let one = go x h in rw one.1 (inl one.2)
 some-kept {B = B} P Q f go (x ∷ xs) (inr h) = by_option (f x) (some-kept P Q f go xs h)

@@ -1,5 +1,6 @@
 -- The rows of the commands that touch no cell: the cases cover the command.
-use Rattle.std.specs.Prelude.{◌≡◌, ◌≢◌, ◌⊎◌, ℕ, ℤ, pos, Bool, true, false, if◌then◌else◌, int_lt, int_le, List, [], ◌∷◌, map, slice_index_or, slice_set}
+use Rattle.std.specs.Prelude.{◌≡◌, ◌≢◌, ◌⊎◌, ℕ, ℤ, pos, Bool, true, false, if◌then◌else◌, int_lt, int_le, List, [], ◌∷◌, map}
+use Rattle.std.specs.Prelude.{slice_index_or, slice_set}
 use Rattle.std.specs.Ordering.{int_eq}
 use Rattle.std.proofs.Common.{refl, sym, ap, ap₂, ◌∙◌, inl, inr, arith}
 use Rattle.std.proofs.Math.ListN.{get_or-map}
@@ -75,10 +76,12 @@ test-itself test.Ge n = above_itself n
     above_itself : (m : ℤ) → int_le m m ≡ true
     above_itself m = grind (arith, ints)
 
-module _ (structs : List StructDef) (s : ℕ → ℤ) (locals : List ℤ) (heap : List Cell) (pair : Pair) (meets : IsMet structs s locals heap pair) where
+module _ (structs : List StructDef) (s : ℕ → ℤ) (locals : List ℤ) (heap : List Cell) (pair : Pair)
+    (meets : IsMet structs s locals heap pair) where
   -- an operand has the value of its expression
   pub operand-met : (from : Operand) → operand_value locals from ≡ value meets.0 (operand pair from)
-  operand-met (Slot slot) = ap (λ (values : List ℤ). slice_index_or values slot (pos 0)) meets.2 ∙ get_or-map (value meets.0) pair.state.locals slot (Const (pos 0))
+  operand-met (Slot slot) = ap (λ (values : List ℤ). slice_index_or values slot (pos 0)) meets.2
+      ∙ get_or-map (value meets.0) pair.state.locals slot (Const (pos 0))
   operand-met (Num n) = refl
 
   -- a value in a slot is met by an expression that has it
@@ -96,31 +99,46 @@ module _ (structs : List StructDef) (s : ℕ → ℤ) (locals : List ℤ) (heap 
       let x : ℕ = fresh (pair_variables pair) in
       let u : ℕ → ℤ = assign (x ∷ []) (n ∷ []) meets.0 in
       let agree : AgreeButFor (fresh_variables 1 (pair_variables pair)) meets.0 u = assign-agrees (x ∷ []) (n ∷ []) meets.0 in
-      let named : map (value u) (map Var (x ∷ [])) ≡ n ∷ [] = assign-names (x ∷ []) (n ∷ []) meets.0 (fresh_different 1 (pair_variables pair)) refl in
+      let named : map (value u) (map Var (x ∷ [])) ≡ n ∷ [] =
+      assign-names (x ∷ []) (n ∷ []) meets.0 (fresh_different 1 (pair_variables pair)) refl in
       let is : u x ≡ n = cc in (
         u,
         still_logical pair 1 meets.0 u agree s meets.1,
-        ap₂ (λ (values : List ℤ) v. slice_set values to v) (meets.2 ∙ old_values pair 1 meets.0 u agree) (sym is) ∙ sym (map-set (value u) pair.state.locals to (Var x)),
+        ap₂ (λ (values : List ℤ) v. slice_set values to v) (meets.2 ∙ old_values pair 1 meets.0 u agree) (sym is)
+            ∙ sym (map-set (value u) pair.state.locals to (Var x)),
         record {
           facts = old_facts pair 1 meets.0 u agree meets.3.facts;
           atoms = old_atoms pair 1 meets.0 u agree structs heap meets.3.atoms;
         },
       )
 
-module _ (program : Program) (callees : List Callee) (s : ℕ → ℤ) (locals : List ℤ) (heap : List Cell) (pair : Pair) (meets : IsMet program.structs s locals heap pair) where
+module _ (program : Program) (callees : List Callee) (s : ℕ → ℤ) (locals : List ℤ) (heap : List Cell) (pair : Pair)
+    (meets : IsMet program.structs s locals heap pair) where
   pub copy-row : (to : ℕ) (from : Operand) (next : ℕ) → Cover program callees s locals heap (cmd.Copy to from next) (copy to from next pair)
   copy-row to from next =
-      inr (λ number node line choice.
-      (next, slice_set locals to (operand_value locals from), refl, inl (refl, slot-met program.structs s locals heap pair meets to (operand pair from) (operand_value locals from) (operand-met program.structs s locals heap pair meets from))))
+      inr (λ number node line choice. (
+        next,
+        slice_set locals to (operand_value locals from),
+        refl,
+        inl (
+          refl,
+          slot-met program.structs s locals heap pair meets to (operand pair from) (operand_value locals from)
+              (operand-met program.structs s locals heap pair meets from),
+        ),
+      ))
 
   -- arithmetic on two constants is known
-  result-met : (to : ℕ) (op : ArithOp) (e f : Exp) (m n : ℤ) → m ≡ value meets.0 e → n ≡ value meets.0 f → IsMet program.structs s (slice_set locals to (arith_value op m n)) heap (with_result to op e f pair)
-  result-met to op (Const a) (Const b) m n is_m is_n = slot-met program.structs s locals heap pair meets to (Const (arith_value op a b)) (arith_value op m n) (ap₂ (λ x y. arith_value op x y) is_m is_n)
+  result-met : (to : ℕ) (op : ArithOp) (e f : Exp) (m n : ℤ) → m ≡ value meets.0 e → n ≡ value meets.0 f →
+      IsMet program.structs s (slice_set locals to (arith_value op m n)) heap (with_result to op e f pair)
+  result-met to op (Const a) (Const b) m n is_m is_n =
+      slot-met program.structs s locals heap pair meets to (Const (arith_value op a b)) (arith_value op m n)
+      (ap₂ (λ x y. arith_value op x y) is_m is_n)
   result-met to op (Const a) (Var y) m n is_m is_n = any-met program.structs s locals heap pair meets to (arith_value op m n)
   result-met to op (Var x) (Const b) m n is_m is_n = any-met program.structs s locals heap pair meets to (arith_value op m n)
   result-met to op (Var x) (Var y) m n is_m is_n = any-met program.structs s locals heap pair meets to (arith_value op m n)
 
-  pub arith-row : (to : ℕ) (op : ArithOp) (left right : Operand) (next : ℕ) → Cover program callees s locals heap (cmd.Arith to op left right next) (arith_cases to op left right next pair)
+  pub arith-row : (to : ℕ) (op : ArithOp) (left right : Operand) (next : ℕ) →
+      Cover program callees s locals heap (cmd.Arith to op left right next) (arith_cases to op left right next pair)
   arith-row to op left right next =
       inr (λ number node line choice. (
         next,
@@ -128,7 +146,8 @@ module _ (program : Program) (callees : List Callee) (s : ℕ → ℤ) (locals :
         refl,
         inl (
           refl,
-          result-met to op (operand pair left) (operand pair right) (operand_value locals left) (operand_value locals right) (operand-met program.structs s locals heap pair meets left)
+          result-met to op (operand pair left) (operand pair right) (operand_value locals left) (operand_value locals right)
+              (operand-met program.structs s locals heap pair meets left)
               (operand-met program.structs s locals heap pair meets right),
         ),
       ))
@@ -137,13 +156,15 @@ module _ (program : Program) (callees : List Callee) (s : ℕ → ℤ) (locals :
   any-row to ty next = inr (λ number node line choice. by_choice number node line choice)
     where
       by_type : (number node : ℕ) (n : ℤ) (b : Bool) →
-          Lands (λ next' locals' heap'. SomeOf (GoesOn program.structs s next' locals' heap') (any to next pair)) (λ value heap'. SomeOf (HasLeft program.structs s value heap') (any to next pair)) number
+          Lands (λ next' locals' heap'. SomeOf (GoesOn program.structs s next' locals' heap') (any to next pair))
+          (λ value heap'. SomeOf (HasLeft program.structs s value heap') (any to next pair)) number
           (if b then go_with [] (alone number node locals) heap to n next else stepped.BadChoice)
       by_type number node n true = (next, slice_set locals to n, refl, inl (refl, any-met program.structs s locals heap pair meets to n))
       by_type number node n false = tt
 
       by_choice : (number node line : ℕ) (chosen : Choice) →
-          Lands (λ next' locals' heap'. SomeOf (GoesOn program.structs s next' locals' heap') (any to next pair)) (λ value heap'. SomeOf (HasLeft program.structs s value heap') (any to next pair)) number
+          Lands (λ next' locals' heap'. SomeOf (GoesOn program.structs s next' locals' heap') (any to next pair))
+          (λ value heap'. SomeOf (HasLeft program.structs s value heap') (any to next pair)) number
           (any_step [] (alone number node locals) heap to ty next chosen)
       by_choice number node line choice.Go = tt
       by_choice number node line (choice.Value n) = by_type number node n (is_of_type ty n)
@@ -151,4 +172,6 @@ module _ (program : Program) (callees : List Callee) (s : ℕ → ℤ) (locals :
       by_choice number node line (choice.Cell at fields) = tt
 
   pub return-row : (from : Operand) → Cover program callees s locals heap (cmd.Return from) (leave from pair)
-  return-row from = inr (λ number node line choice. inl (meets.0, meets.1, ap (λ v. v ∷ []) (operand-met program.structs s locals heap pair meets from), meets.3))
+  return-row from =
+      inr (λ number node line choice. inl
+      (meets.0, meets.1, ap (λ v. v ∷ []) (operand-met program.structs s locals heap pair meets from), meets.3))

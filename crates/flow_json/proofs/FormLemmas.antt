@@ -24,12 +24,14 @@ pub read_next : {A : Type 0} (read : Data → Option A) (things : List A) (d : D
 unfolding go_on
 read_next {A = A} read things d ds thing is = rw is (by_others (read_each read ds))
   where
-    by_others : (others : Option (List A)) → with_front things (go_on others (λ more. Some (thing ∷ more))) ≡ with_front (things ++ thing ∷ []) others
+    by_others : (others : Option (List A)) →
+        with_front things (go_on others (λ more. Some (thing ∷ more))) ≡ with_front (things ++ thing ∷ []) others
     by_others None = refl
     by_others (Some others) = ap (λ all. Some all) (sym (append_assoc things (thing ∷ []) others))
 
 -- where one is not read, nothing is
-pub read_stops : {A : Type 0} (read : Data → Option A) (things : List A) (d : Data) (ds : List Data) → read d ≡ None → with_front things (read_each read (d ∷ ds)) ≡ None
+pub read_stops : {A : Type 0} (read : Data → Option A) (things : List A) (d : Data) (ds : List Data) → read d ≡ None →
+    with_front things (read_each read (d ∷ ds)) ≡ None
 unfolding go_on
 read_stops read things d ds is = rw is refl
 

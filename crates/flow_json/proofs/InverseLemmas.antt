@@ -1,5 +1,6 @@
 -- Numbers, names, lists and options are read as they were written, and only so.
-use Rattle.std.specs.Prelude.{◌≡◌, ℕ, ◌<◌, ◌≤◌, ℤ, pos, negsuc, Bool, true, false, if◌then◌else◌, ◌&&◌, int_le, int_lt, nat_le, nat_lt, List, [], ◌∷◌, map, length, All, IfSome}
+use Rattle.std.specs.Prelude.{◌≡◌, ℕ, ◌<◌, ◌≤◌, ℤ, pos, negsuc, Bool, true, false, if◌then◌else◌, ◌&&◌, int_le, int_lt, nat_le, nat_lt}
+use Rattle.std.specs.Prelude.{List, [], ◌∷◌, map, length, All, IfSome}
 use Rattle.std.specs.Str.{bytes_eq}
 use Rattle.std.specs.declared.option.Option.{Option}
 use Rattle.std.specs.declared.option.Option.TheVariants.{None, Some}
@@ -10,13 +11,15 @@ use Rattle.std.proofs.lemmas.Slice.Eq.{bytes_eq-Decides}
 use Rattle.serde_json.specs.Data.{unsigned, negative, float, Data, null, boolean, number, string, array, object, Items, no_items, item}
 use Rattle.serde_json.specs.Find.{as_bool, as_null, as_str}
 use Rattle.serde_json.specs.View.{items_of}
-use Rattle.flow_json.specs.Forms.{as_list, count_data, flag_data, name_of, go_on, int_data, list_data, list_of, option_data, read_count, read_each, read_int, read_list, read_name, read_option, tuple}
+use Rattle.flow_json.specs.Forms.{as_list, count_data, flag_data, name_of, go_on, int_data, list_data, list_of, option_data, read_count}
+use Rattle.flow_json.specs.Forms.{read_each, read_int, read_list, read_name, read_option, tuple}
 use Rattle.flow_json.specs.Laws.{IsCount, IsInt, IsInverse, IsName}
 use Rattle.flow_json.proofs.FormLemmas.{list_of_items}
 
 -- ---- what was gone on with
 
-pub go_on_some : {A B : Type 0} (o : Option A) (next : A → Option B) (b : B) → go_on o next ≡ Some b → (a : A) × (o ≡ Some a) × (next a ≡ Some b)
+pub go_on_some : {A B : Type 0} (o : Option A) (next : A → Option B) (b : B) → go_on o next ≡ Some b →
+    (a : A) × (o ≡ Some a) × (next a ≡ Some b)
 unfolding go_on
 go_on_some None next b is = cc
 go_on_some (Some a) next b is = (a, refl, is)
@@ -64,7 +67,8 @@ module _ {A : Type 0} (Fits : A → Type 0) (write : A → Data) (read : Data �
   each_back : (things : List A) → All Fits things → read_each read (map write things) ≡ Some things
   each_back [] fit = refl
   each_back (thing ∷ things) fit =
-      go_on_is _ _ thing _ (inverse.back thing (All-head Fits thing things fit)) (go_on_is _ _ things _ (each_back things (All-tail Fits thing things fit)) refl)
+      go_on_is _ _ thing _ (inverse.back thing (All-head Fits thing things fit))
+      (go_on_is _ _ things _ (each_back things (All-tail Fits thing things fit)) refl)
 
   each_only : (ds : List Data) (things : List A) → read_each read ds ≡ Some things → (map write things ≡ ds) × All Fits things
   each_only [] things is = let none : [] ≡ things = cc in rw (← none) (refl, All-nil Fits)
@@ -93,7 +97,8 @@ module _ {A : Type 0} (Fits : A → Type 0) (write : A → Data) (read : Data �
   option_back None fit = refl
   option_back (Some thing) fit = rw (is_there thing) (go_on_is _ _ thing _ (inverse.back thing fit) refl)
 
-  some_only : (d : Data) (thing : Option A) → go_on (read d) (λ thing. Some (Some thing)) ≡ Some thing → (option_data write thing ≡ d) × IfSome thing Fits
+  some_only : (d : Data) (thing : Option A) → go_on (read d) (λ thing. Some (Some thing)) ≡ Some thing →
+      (option_data write thing ≡ d) × IfSome thing Fits
   some_only d thing is =
       let one = go_on_some (read d) (λ thing. Some (Some thing)) thing is in
       let same : Some one.0 ≡ thing = cc in
@@ -157,7 +162,8 @@ int_inverse = record { back = back; only = only }
     only (number (negative (negsuc m))) z is =
         let tested = test_true (int_le (negsuc 2147483647) (negsuc m) && int_lt (negsuc m) (pos 0)) (Some (negsuc m)) z is in
         let same : negsuc m ≡ z = some_is (negsuc m) z tested.1 in
-        let within : m ≤ 2147483647 = leb-true m 2147483647 (and_parts (int_le (negsuc 2147483647) (negsuc m)) (int_lt (negsuc m) (pos 0)) tested.0).0 in
+        let within : m
+        ≤ 2147483647 = leb-true m 2147483647 (and_parts (int_le (negsuc 2147483647) (negsuc m)) (int_lt (negsuc m) (pos 0)) tested.0).0 in
         subst (λ k. (int_data k ≡ number (negative (negsuc m))) × IsInt k) same (refl, omega arith)
     only (number (float x)) z is = cc
     only (string s) z is = cc

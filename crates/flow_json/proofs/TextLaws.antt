@@ -1,5 +1,6 @@
 -- C names are texts, and so what is well formed can be written.
-use Rattle.std.specs.Prelude.{◌≡◌, ◌⊎◌, ℕ, zero, suc, ◌<◌, ◌≤◌, Bool, true, false, ◌==◌, if◌then◌else◌, List, [], ◌∷◌, slice_index, length, is_some, nat_le, All, IsUtf8}
+use Rattle.std.specs.Prelude.{◌≡◌, ◌⊎◌, ℕ, zero, suc, ◌<◌, ◌≤◌, Bool, true, false, ◌==◌, if◌then◌else◌, List, [], ◌∷◌, slice_index, length}
+use Rattle.std.specs.Prelude.{is_some, nat_le, All, IsUtf8}
 use Rattle.std.specs.Char.{is_ascii_alphabetic, is_ascii_digit}
 use Rattle.std.specs.Int.{is_in_range}
 use Rattle.std.specs.List.{list_all}
@@ -64,13 +65,16 @@ struct_is_text def is = (
 )
 
 -- what is found by a name has it
-kind_is_text : (structs : List StructDef) → All IsStruct structs → (kind : List ℕ) (P : StructDef → Type 0) → IsSomeAnd (struct_named structs kind) P → IsUtf8 kind
+kind_is_text : (structs : List StructDef) → All IsStruct structs → (kind : List ℕ) (P : StructDef → Type 0)
+    → IsSomeAnd (struct_named structs kind) P → IsUtf8 kind
 kind_is_text [] each kind P found = absurd found
 kind_is_text (def ∷ structs) each kind P found =
     by_name (bytes_eq def.name kind) refl found (kind_is_text structs (All-tail IsStruct def structs each) kind P)
   where
-    by_name : (b : Bool) → bytes_eq def.name kind ≡ b → IsSomeAnd (if b then Some def else struct_named structs kind) P → (IsSomeAnd (struct_named structs kind) P → IsUtf8 kind) → IsUtf8 kind
-    by_name true same found further = subst IsUtf8 ((bytes_eq-Decides def.name kind).0 same) (name_is_text def.name (All-head IsStruct def structs each).name)
+    by_name : (b : Bool) → bytes_eq def.name kind ≡ b → IsSomeAnd (if b then Some def else struct_named structs kind) P
+        → (IsSomeAnd (struct_named structs kind) P → IsUtf8 kind) → IsUtf8 kind
+    by_name true same found further =
+        subst IsUtf8 ((bytes_eq-Decides def.name kind).0 same) (name_is_text def.name (All-head IsStruct def structs each).name)
     by_name false other found further = further found
 
 some_and : (found : Option StructDef) → is_some found ≡ true → IsSomeAnd found (λ def. Unit {0})

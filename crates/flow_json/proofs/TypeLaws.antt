@@ -12,8 +12,10 @@ use Rattle.shape_data.specs.declared.program.Ty.{Ty}
 use Rattle.shape_data.specs.declared.program.Ty.TheVariants.{Int, Ptr, Void}
 use Rattle.flow_json.specs.Forms.{as_list, go_on, list_data, read_list, read_name, tuple}
 use Rattle.flow_json.specs.Laws.{FieldFits, IsInverse, StructFits, TyFits}
-use Rattle.flow_json.specs.Types.{field_data, field_parts, pointer_of, pointer_parts, read_field, read_struct, read_ty, struct_data, struct_parts, ty_data, ty_of_word}
-use Rattle.flow_json.proofs.InverseLemmas.{cons_is, last_is, go_on_is, go_on_some, list_inverse, list_only, name_inverse, on_word, some_is, string_only}
+use Rattle.flow_json.specs.Types.{field_data, field_parts, pointer_of, pointer_parts, read_field, read_struct, read_ty, struct_data}
+use Rattle.flow_json.specs.Types.{struct_parts, ty_data, ty_of_word}
+use Rattle.flow_json.proofs.InverseLemmas.{cons_is, last_is, go_on_is, go_on_some, list_inverse, list_only, name_inverse, on_word, some_is}
+use Rattle.flow_json.proofs.InverseLemmas.{string_only}
 
 -- a field, and a structure, of its parts
 abbrev field_of : List ℕ → Ty → Field
@@ -42,7 +44,8 @@ ty_word word thing is =
 pointer_only : (ds : List Data) (ty : Ty) → pointer_parts ds ≡ Some ty → (ty_data ty ≡ tuple ds) × TyFits ty
 pointer_only (tag ∷ name ∷ []) ty is =
     let w = go_on_some (as_str tag) (pointer_of name) ty is in
-    on_word ((ty_data ty ≡ tuple (tag ∷ name ∷ [])) × TyFits ty) w.0 (codes "ptr") (go_on (read_name name) (λ name. Some (Ptr name))) None ty w.2
+    on_word ((ty_data ty ≡ tuple (tag ∷ name ∷ [])) × TyFits ty) w.0 (codes "ptr")
+    (go_on (read_name name) (λ name. Some (Ptr name))) None ty w.2
     (λ same it.
     let n = go_on_some (read_name name) (λ name. Some (Ptr name)) ty it in
     let one = name_inverse.only name n.0 n.1 in
@@ -73,7 +76,8 @@ ty_only (object ms) ty is = cc
 pub ty_inverse : IsInverse TyFits ty_data read_ty
 ty_inverse = record { back = ty_back; only = ty_only }
 
-field_parts_back : (name : List ℕ) (ty : Ty) → FieldFits (field_of name ty) → field_parts (string name ∷ ty_data ty ∷ []) ≡ Some (field_of name ty)
+field_parts_back : (name : List ℕ) (ty : Ty) → FieldFits (field_of name ty) →
+    field_parts (string name ∷ ty_data ty ∷ []) ≡ Some (field_of name ty)
 field_parts_back name ty fits =
     go_on_is _ _ name _ (name_inverse.back name fits.0) (go_on_is _ _ ty _ (ty_inverse.back ty fits.1) refl)
 
@@ -88,24 +92,35 @@ field_parts_only (name ∷ ty ∷ []) thing is =
 field_parts_only _ thing is = cc
 
 pub field_inverse : IsInverse FieldFits field_data read_field
-field_inverse = record { back = λ field fits. go_on_is _ _ _ _ refl (field_parts_back field.name field.ty fits); only = of_parts FieldFits field_data field_parts field_parts_only }
+field_inverse =
+    record {
+      back = λ field fits. go_on_is _ _ _ _ refl (field_parts_back field.name field.ty fits);
+      only = of_parts FieldFits field_data field_parts field_parts_only;
+    }
 
 pub fields_inverse : IsInverse (All FieldFits) (list_data field_data) (read_list read_field)
 fields_inverse = list_inverse FieldFits field_data read_field field_inverse
 
-struct_parts_back : (name : List ℕ) (fields : List Field) → StructFits (def_of name fields) → struct_parts (string name ∷ (list_data field_data) fields ∷ []) ≡ Some (def_of name fields)
+struct_parts_back : (name : List ℕ) (fields : List Field) → StructFits (def_of name fields) →
+    struct_parts (string name ∷ (list_data field_data) fields ∷ []) ≡ Some (def_of name fields)
 struct_parts_back name fields fits =
     go_on_is _ _ name _ (name_inverse.back name fits.0) (go_on_is _ _ fields _ (fields_inverse.back fields fits.1) refl)
 
-struct_parts_only : (ds : List Data) (thing : StructDef) → struct_parts ds ≡ Some thing → (struct_data thing ≡ tuple (ds)) × StructFits thing
+struct_parts_only : (ds : List Data) (thing : StructDef) → struct_parts ds ≡ Some thing →
+    (struct_data thing ≡ tuple (ds)) × StructFits thing
 struct_parts_only (name ∷ fields ∷ []) thing is =
     let r0 = go_on_some (read_name name) (λ name'. go_on (read_list read_field fields) (λ fields'. Some (def_of name' fields'))) thing is in
     let e0 = name_inverse.only name r0.0 r0.1 in
     let r1 = go_on_some (read_list read_field fields) (λ fields'. Some (def_of r0.0 fields')) thing r0.2 in
     let e1 = fields_inverse.only fields r1.0 r1.1 in
     let same : def_of r0.0 r1.0 ≡ thing = some_is _ thing r1.2 in
-    subst (λ one. (struct_data one ≡ tuple (name ∷ fields ∷ [])) × StructFits one) same (ap tuple (cons_is e0.0 (last_is e1.0)), (e0.1, e1.1))
+    subst (λ one. (struct_data one ≡ tuple (name ∷ fields ∷ [])) × StructFits one) same
+    (ap tuple (cons_is e0.0 (last_is e1.0)), (e0.1, e1.1))
 struct_parts_only _ thing is = cc
 
 pub struct_inverse : IsInverse StructFits struct_data read_struct
-struct_inverse = record { back = λ def fits. go_on_is _ _ _ _ refl (struct_parts_back def.name def.fields fits); only = of_parts StructFits struct_data struct_parts struct_parts_only }
+struct_inverse =
+    record {
+      back = λ def fits. go_on_is _ _ _ _ refl (struct_parts_back def.name def.fields fits);
+      only = of_parts StructFits struct_data struct_parts struct_parts_only;
+    }

@@ -75,7 +75,8 @@ apart c [] ys e f = no_truth f
 apart c (x ∷ xs) ys e f = by_test (x == c) refl f (λ g. apart c xs ys (and_right (not (is_in x ys)) _ e) g)
   where
     by_test : (a : Bool) → (x == c) ≡ a → (a || is_in c xs) ≡ true → (is_in c xs ≡ true → is_in c ys ≡ false) → is_in c ys ≡ false
-    by_test true same g others = subst (λ d. is_in d ys ≡ false) (eqb-true x c same) (not_true (is_in x ys) (and_left (not (is_in x ys)) _ e))
+    by_test true same g others =
+        subst (λ d. is_in d ys ≡ false) (eqb-true x c same) (not_true (is_in x ys) (and_left (not (is_in x ys)) _ e))
     by_test false other g others = others g
 
 -- a class of the other list is not in the first

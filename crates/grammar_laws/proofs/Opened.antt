@@ -1,8 +1,10 @@
 -- The readings of a form and of the same form with more levels open.
-use Rattle.std.proofs.Common.{◌≡◌, ℕ, zero, suc, ◌≤◌, ◌<◌, Bool, true, false, cond, List, [], ◌∷◌, ◌++◌, length, refl, sym, ap, ap₂, subst, arith}
+use Rattle.std.proofs.Common.{◌≡◌, ℕ, zero, suc, ◌≤◌, ◌<◌, Bool, true, false, cond, List, [], ◌∷◌, ◌++◌, length, refl, sym, ap, ap₂, subst}
+use Rattle.std.proofs.Common.{arith}
 use Rattle.std.specs.Prelude.{◌==◌, ◌&&◌, ◌||◌}
 use Rattle.grammar_laws.specs.Form.{Form, Word, Closed, Nothing, Both, Either, Many, Nearest, Known, begins_in, may_be_empty, starts}
-use Rattle.grammar_laws.specs.Reading.{Read, Done, Stop, go_on, repeat, reads, Opens, OpensWord, OpensLevel, OpensNothing, OpensBoth, OpensEither, OpensMany, OpensNearest, OpensKnown, LeavesLess, Follows}
+use Rattle.grammar_laws.specs.Reading.{Read, Done, Stop, go_on, repeat, reads, Opens, OpensWord, OpensLevel, OpensNothing, OpensBoth}
+use Rattle.grammar_laws.specs.Reading.{OpensEither, OpensMany, OpensNearest, OpensKnown, LeavesLess, Follows}
 
 pub same_empty : {form other : Form} → Opens form other → may_be_empty form ≡ may_be_empty other
 same_empty OpensWord = refl
@@ -34,7 +36,8 @@ leaves_chosen : (b : Bool) (one other : Read) (count : ℕ) → Leaves one count
 leaves_chosen true one other count l m = l
 leaves_chosen false one other count l m = m
 
-leaves_going : (read : Read) (next : List ℕ → Read) (count : ℕ) → Leaves read count → ((mid : List ℕ) → Leaves (next mid) (length mid)) → Leaves (go_on read next) count
+leaves_going : (read : Read) (next : List ℕ → Read) (count : ℕ) → Leaves read count → ((mid : List ℕ) → Leaves (next mid) (length mid))
+    → Leaves (go_on read next) count
 leaves_going (Done mid) next count l others = by_read (next mid) (others mid)
   where
     by_read : (r : Read) → Leaves r (length mid) → Leaves r count
@@ -46,15 +49,19 @@ leaves_more : (read : Read) (less more : ℕ) → less ≤ more → Leaves read 
 leaves_more (Done rest) less more fits l = omega arith
 leaves_more (Stop deep rest) less more fits l = omega arith
 
-leaves_repeat : (read : List ℕ → Read) (begin : List ℕ) → ((from : List ℕ) → Leaves (read from) (length from)) → (times : ℕ) (from : List ℕ) → Leaves (repeat times read begin from) (length from)
+leaves_repeat : (read : List ℕ → Read) (begin : List ℕ) → ((from : List ℕ) → Leaves (read from) (length from)) → (times : ℕ) (from : List ℕ)
+    → Leaves (repeat times read begin from) (length from)
 leaves_repeat read begin one zero from = omega arith
 leaves_repeat read begin one (suc times) from =
-    leaves_chosen (begins_in begin from) _ (Done from) (length from) (leaves_going (read from) (λ rest. repeat times read begin rest) (length from) (one from) (leaves_repeat read begin one times)) (omega arith)
+    leaves_chosen (begins_in begin from) _ (Done from) (length from)
+    (leaves_going (read from) (λ rest. repeat times read begin rest) (length from) (one from) (leaves_repeat read begin one times))
+    (omega arith)
 
 -- a reading leaves no more than there was
 pub leaves : (form : Form) (from : List ℕ) → Leaves (reads form from) (length from)
 leaves (Word class) [] = omega arith
-leaves (Word class) (word ∷ words) = leaves_chosen (class == word) (Done words) (Stop false (word ∷ words)) (suc (length words)) (omega arith) (omega arith)
+leaves (Word class) (word ∷ words) =
+    leaves_chosen (class == word) (Done words) (Stop false (word ∷ words)) (suc (length words)) (omega arith) (omega arith)
 leaves (Closed class) [] = omega arith
 leaves (Closed class) (word ∷ words) = omega arith
 leaves Nothing from = omega arith
@@ -63,35 +70,41 @@ leaves (Either one second) from = leaves_chosen (begins_in (starts one) from) _ 
 leaves (Many one) from = leaves_repeat (reads one) (starts one) (leaves one) (length from) from
 leaves (Nearest class one) [] = omega arith
 leaves (Nearest class one) (word ∷ words) =
-    leaves_chosen (class == word) (reads one words) (Done (word ∷ words)) (suc (length words)) (leaves_more (reads one words) (length words) (suc (length words)) (omega arith) (leaves one words)) (omega arith)
+    leaves_chosen (class == word) (reads one words) (Done (word ∷ words)) (suc (length words))
+    (leaves_more (reads one words) (length words) (suc (length words)) (omega arith) (leaves one words)) (omega arith)
 leaves (Known facts one) from = leaves one from
 
 less_than : (read : Read) (count more : ℕ) → Leaves read count → count < more → LeavesLess read more
 less_than (Done rest) count more l fits = omega arith
 less_than (Stop deep rest) count more l fits = omega arith
 
-follows_going : (read other : Read) (next others : List ℕ → Read) → Follows read other → ((mid : List ℕ) → Follows (next mid) (others mid)) → ((mid : List ℕ) → Leaves (others mid) (length mid))
+follows_going : (read other : Read) (next others : List ℕ → Read) → Follows read other → ((mid : List ℕ) → Follows (next mid) (others mid))
+    → ((mid : List ℕ) → Leaves (others mid) (length mid))
     → Follows (go_on read next) (go_on other others)
 follows_going (Done mid) other next others f g l = subst (λ r. Follows (next mid) (go_on r others)) (sym f) (g mid)
 follows_going (Stop false at) other next others f g l = ap (λ r. go_on r others) f
 follows_going (Stop true at) (Done mid) next others f g l = less_than (others mid) (length mid) (length at) (l mid) f
 follows_going (Stop true at) (Stop deep mid) next others f g l = f
 
-follows_chosen : (b : Bool) (one more second others : Read) → Follows one more → Follows second others → Follows (cond b one second) (cond b more others)
+follows_chosen : (b : Bool) (one more second others : Read) → Follows one more → Follows second others
+    → Follows (cond b one second) (cond b more others)
 follows_chosen true one more second others f g = f
 follows_chosen false one more second others f g = g
 
-follows_repeat : (read more : List ℕ → Read) (begin : List ℕ) → ((from : List ℕ) → Follows (read from) (more from)) → ((from : List ℕ) → Leaves (more from) (length from))
+follows_repeat : (read more : List ℕ → Read) (begin : List ℕ) → ((from : List ℕ) → Follows (read from) (more from))
+    → ((from : List ℕ) → Leaves (more from) (length from))
     → (times : ℕ) (from : List ℕ) → Follows (repeat times read begin from) (repeat times more begin from)
 follows_repeat read more begin f l zero from = refl
 follows_repeat read more begin f l (suc times) from =
     follows_chosen (begins_in begin from) _ _ _ _
-    (follows_going (read from) (more from) (λ rest. repeat times read begin rest) (λ rest. repeat times more begin rest) (f from) (follows_repeat read more begin f l times) (leaves_repeat more begin l times))
+    (follows_going (read from) (more from) (λ rest. repeat times read begin rest) (λ rest. repeat times more begin rest) (f from)
+    (follows_repeat read more begin f l times) (leaves_repeat more begin l times))
     refl
 
 follows_level : (class word : ℕ) (inner : Form) (words : List ℕ) (same : Bool) → (class == word) ≡ same
     → Follows (Stop same (word ∷ words)) (go_on (cond same (Done words) (Stop false (word ∷ words))) (λ rest. reads inner rest))
-follows_level class word inner words true e = less_than (reads inner words) (length words) (suc (length words)) (leaves inner words) (omega arith)
+follows_level class word inner words true e =
+    less_than (reads inner words) (length words) (suc (length words)) (leaves inner words) (omega arith)
 follows_level class word inner words false e = refl
 
 pub follows : {form other : Form} → Opens form other → (from : List ℕ) → Follows (reads form from) (reads other from)
@@ -105,10 +118,12 @@ follows (OpensLevel {class} {inner}) [] = refl
 follows (OpensLevel {class} {inner}) (word ∷ words) = follows_level class word inner words (class == word) refl
 follows OpensNothing from = refl
 follows (OpensBoth {one} {more} {second} {others} o p) from =
-    follows_going (reads one from) (reads more from) (λ rest. reads second rest) (λ rest. reads others rest) (follows o from) (follows p) (leaves others)
+    follows_going (reads one from) (reads more from) (λ rest. reads second rest) (λ rest. reads others rest) (follows o from) (follows p)
+    (leaves others)
 follows (OpensEither {one} {more} {second} {others} o p) from =
     subst (λ s. Follows (reads (Either one second) from) (cond (begins_in s from) (reads more from) (reads others from))) (same_starts o)
-    (follows_chosen (begins_in (starts one) from) (reads one from) (reads more from) (reads second from) (reads others from) (follows o from) (follows p from))
+    (follows_chosen (begins_in (starts one) from) (reads one from) (reads more from) (reads second from) (reads others from)
+    (follows o from) (follows p from))
 follows (OpensMany {one} {more} o) from =
     subst (λ s. Follows (reads (Many one) from) (repeat (length from) (reads more) s from)) (same_starts o)
     (follows_repeat (reads one) (reads more) (starts one) (follows o) (leaves more) (length from) from)

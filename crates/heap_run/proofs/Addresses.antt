@@ -1,5 +1,7 @@
 -- What stands at a place of a heap that rises, and what an edit at that place does.
-use Rattle.std.proofs.Common.{◌≡◌, ◌∙◌, ℕ, zero, suc, ◌+◌, ◌<◌, ◌≤◌, ℤ, pos, ◌<ℤ◌, Bool, true, false, List, [], ◌∷◌, length, get_or, IfSome, IsSomeAnd, is_some, is_ok, Option, Some, None, Result, Ok, Err, slice_get, slice_set, refl, sym, ap, subst, arith}
+use Rattle.std.proofs.Common.{◌≡◌, ◌∙◌, ℕ, zero, suc, ◌+◌, ◌<◌, ◌≤◌, ℤ, pos, ◌<ℤ◌, Bool, true, false, List, [], ◌∷◌, length, get_or, IfSome}
+use Rattle.std.proofs.Common.{IsSomeAnd, is_some, is_ok, Option, Some, None, Result, Ok, Err, slice_get, slice_set, refl, sym, ap, subst}
+use Rattle.std.proofs.Common.{arith}
 use Rattle.std.specs.Prelude.{int_lt}
 use Rattle.std.specs.List.{insert, remove}
 use Rattle.std.specs.List.Sorted.{IsSearchInRange, IsBinarySearchResult, IsPartitionPoint, IsSortedBy}
@@ -36,7 +38,8 @@ above_is_other x y below = by_test (int_eq y x) refl
 -- ---- a cell at a place
 
 -- each cell is above the bound
-place_above : (low : ℤ) (heap : List Cell) (place : ℕ) (cell : Cell) → AreRising low heap → slice_get heap place ≡ Some cell → low <ℤ cell.at
+place_above : (low : ℤ) (heap : List Cell) (place : ℕ) (cell : Cell) → AreRising low heap → slice_get heap place ≡ Some cell →
+    low <ℤ cell.at
 place_above low [] place cell rising is = cc
 place_above low (first ∷ others) zero cell rising is = let same : first ≡ cell = cc in rw (← same) rising.0
 place_above low (first ∷ others) (suc place) cell rising is =
@@ -45,33 +48,45 @@ place_above low (first ∷ others) (suc place) cell rising is =
     grind (arith, ints)
 
 -- the first of more than one is at another address
-first_is_other : (low : ℤ) (first : Cell) (others : List Cell) (place : ℕ) (cell : Cell) → AreRising low (first ∷ others) → slice_get others place ≡ Some cell → int_eq first.at cell.at ≡ false
+first_is_other : (low : ℤ) (first : Cell) (others : List Cell) (place : ℕ) (cell : Cell) → AreRising low (first ∷ others) →
+    slice_get others place ≡ Some cell → int_eq first.at cell.at ≡ false
 first_is_other low first others place cell rising is = below_is_other first.at cell.at (place_above first.at others place cell rising.1 is)
 
-pub cell_at-place : (low : ℤ) (heap : List Cell) (place : ℕ) (cell : Cell) → AreRising low heap → slice_get heap place ≡ Some cell → cell_at heap cell.at ≡ Some cell
+pub cell_at-place : (low : ℤ) (heap : List Cell) (place : ℕ) (cell : Cell) → AreRising low heap → slice_get heap place ≡ Some cell →
+    cell_at heap cell.at ≡ Some cell
 cell_at-place low [] place cell rising is = cc
 cell_at-place low (first ∷ others) zero cell rising is = let same : first ≡ cell = cc in rw (← same, int_eq_itself first.at) refl
-cell_at-place low (first ∷ others) (suc place) cell rising is = rw (first_is_other low first others place cell rising is) (cell_at-place first.at others place cell rising.1 is)
+cell_at-place low (first ∷ others) (suc place) cell rising is =
+    rw (first_is_other low first others place cell rising is) (cell_at-place first.at others place cell rising.1 is)
 
-pub with_field-place : (low : ℤ) (heap : List Cell) (place : ℕ) (cell : Cell) (field : ℕ) (value : ℤ) → AreRising low heap → slice_get heap place ≡ Some cell →
+pub with_field-place : (low : ℤ) (heap : List Cell) (place : ℕ) (cell : Cell) (field : ℕ) (value : ℤ) → AreRising low heap →
+    slice_get heap place ≡ Some cell →
     with_field heap cell.at field value ≡ slice_set heap place (record cell { fields = slice_set cell.fields field value })
 with_field-place low [] place cell field value rising is = cc
-with_field-place low (first ∷ others) zero cell field value rising is = let same : first ≡ cell = cc in rw (← same, int_eq_itself first.at) refl
+with_field-place low (first ∷ others) zero cell field value rising is =
+    let same : first ≡ cell = cc in rw (← same, int_eq_itself first.at) refl
 with_field-place low (first ∷ others) (suc place) cell field value rising is =
-    rw (first_is_other low first others place cell rising is) (ap (λ rest. first ∷ rest) (with_field-place first.at others place cell field value rising.1 is))
+    rw (first_is_other low first others place cell rising is)
+    (ap (λ rest. first ∷ rest) (with_field-place first.at others place cell field value rising.1 is))
 
-pub without-place : (low : ℤ) (heap : List Cell) (place : ℕ) (cell : Cell) → AreRising low heap → slice_get heap place ≡ Some cell → without cell.at heap ≡ remove heap place
+pub without-place : (low : ℤ) (heap : List Cell) (place : ℕ) (cell : Cell) → AreRising low heap → slice_get heap place ≡ Some cell →
+    without cell.at heap ≡ remove heap place
 without-place low [] place cell rising is = cc
 without-place low (first ∷ others) zero cell rising is = let same : first ≡ cell = cc in rw (← same, int_eq_itself first.at) refl
 without-place low (first ∷ others) (suc place) cell rising is =
-    rw (first_is_other low first others place cell rising is) (ap (λ rest. first ∷ rest) (without-place first.at others place cell rising.1 is))
+    rw (first_is_other low first others place cell rising is)
+    (ap (λ rest. first ∷ rest) (without-place first.at others place cell rising.1 is))
 
 -- the same where the address is known by an equation
-pub cell_at_is : (heap : List Cell) (at : ℤ) (place : ℕ) (cell : Cell) → AreRising (pos 0) heap → slice_get heap place ≡ Some cell → cell.at ≡ at → cell_at heap at ≡ Some cell
-cell_at_is heap at place cell rising is is_at = subst (λ (a : ℤ). cell_at heap a ≡ Some cell) is_at (cell_at-place (pos 0) heap place cell rising is)
+pub cell_at_is : (heap : List Cell) (at : ℤ) (place : ℕ) (cell : Cell) → AreRising (pos 0) heap → slice_get heap place ≡ Some cell →
+    cell.at ≡ at → cell_at heap at ≡ Some cell
+cell_at_is heap at place cell rising is is_at =
+    subst (λ (a : ℤ). cell_at heap a ≡ Some cell) is_at (cell_at-place (pos 0) heap place cell rising is)
 
-pub without_is : (heap : List Cell) (at : ℤ) (place : ℕ) (cell : Cell) → AreRising (pos 0) heap → slice_get heap place ≡ Some cell → cell.at ≡ at → without at heap ≡ remove heap place
-without_is heap at place cell rising is is_at = subst (λ (a : ℤ). without a heap ≡ remove heap place) is_at (without-place (pos 0) heap place cell rising is)
+pub without_is : (heap : List Cell) (at : ℤ) (place : ℕ) (cell : Cell) → AreRising (pos 0) heap → slice_get heap place ≡ Some cell →
+    cell.at ≡ at → without at heap ≡ remove heap place
+without_is heap at place cell rising is is_at =
+    subst (λ (a : ℤ). without a heap ≡ remove heap place) is_at (without-place (pos 0) heap place cell rising is)
 
 -- ---- a gap
 
@@ -129,7 +144,8 @@ put-gap (first ∷ others) cell zero gap =
     rw (lt_is cell.at first.at above) refl
 put-gap (first ∷ others) cell (suc place) gap =
     let below : first.at <ℤ cell.at = gap.lower 0 (omega arith) in
-    rw (below_is_other first.at cell.at below, not_lt_is cell.at first.at below) (ap (λ rest. first ∷ rest) (put-gap others cell place (gap_behind first others cell.at place gap)))
+    rw (below_is_other first.at cell.at below, not_lt_is cell.at first.at below)
+    (ap (λ rest. first ∷ rest) (put-gap others cell place (gap_behind first others cell.at place gap)))
 
 -- ---- a binary search
 
@@ -187,28 +203,35 @@ searched heap at (Err place) rising range found = record {
 -- ---- what a place tells
 
 -- whether there is a cell
-pub is_some-place : (heap : List Cell) (at : ℤ) (result : Result ℕ ℕ) → AreRising (pos 0) heap → IsPlace heap at result → is_ok result ≡ is_some (cell_at heap at)
+pub is_some-place : (heap : List Cell) (at : ℤ) (result : Result ℕ ℕ) → AreRising (pos 0) heap → IsPlace heap at result →
+    is_ok result ≡ is_some (cell_at heap at)
 is_some-place heap at (Ok place) rising placed = by_found (slice_get heap place) refl placed
   where
-    by_found : (found : Option Cell) → slice_get heap place ≡ found → IsSomeAnd found (λ (cell : Cell). cell.at ≡ at) → true ≡ is_some (cell_at heap at)
+    by_found : (found : Option Cell) → slice_get heap place ≡ found → IsSomeAnd found (λ (cell : Cell). cell.at ≡ at) →
+        true ≡ is_some (cell_at heap at)
     by_found None there is_at = absurd is_at
     by_found (Some found) there is_at = rw (cell_at_is heap at place found rising there is_at) refl
 is_some-place heap at (Err place) rising gap = rw (cell_at-gap heap at place gap) refl
 
 -- the heap without the cell
-pub without-found : (heap : List Cell) (at : ℤ) (place : ℕ) → AreRising (pos 0) heap → IsPlace heap at (Ok place) → remove heap place ≡ without at heap
+pub without-found : (heap : List Cell) (at : ℤ) (place : ℕ) → AreRising (pos 0) heap → IsPlace heap at (Ok place) →
+    remove heap place ≡ without at heap
 without-found heap at place rising placed = by_found (slice_get heap place) refl placed
   where
-    by_found : (found : Option Cell) → slice_get heap place ≡ found → IsSomeAnd found (λ (cell : Cell). cell.at ≡ at) → remove heap place ≡ without at heap
+    by_found : (found : Option Cell) → slice_get heap place ≡ found → IsSomeAnd found (λ (cell : Cell). cell.at ≡ at) →
+        remove heap place ≡ without at heap
     by_found None there is_at = absurd is_at
     by_found (Some found) there is_at = sym (without_is heap at place found rising there is_at)
 
 -- the heap with a number in a field of the cell
-pub with_field-found : (heap new : List Cell) (place : ℕ) (cell : Cell) (field : ℕ) (value : ℤ) → AreRising (pos 0) heap → cell ≡ get_or heap place cell →
-    new ≡ slice_set heap place (record cell { fields = slice_set cell.fields field value }) → IfSome (slice_get heap place) (λ (cell : Cell). new ≡ with_field heap cell.at field value)
+pub with_field-found : (heap new : List Cell) (place : ℕ) (cell : Cell) (field : ℕ) (value : ℤ) → AreRising (pos 0) heap →
+    cell ≡ get_or heap place cell →
+    new ≡ slice_set heap place (record cell { fields = slice_set cell.fields field value }) →
+    IfSome (slice_get heap place) (λ (cell : Cell). new ≡ with_field heap cell.at field value)
 with_field-found heap new place cell field value rising is written = by_found (slice_get heap place) refl
   where
-    by_found : (found : Option Cell) → slice_get heap place ≡ found → IfSome found (λ (cell : Cell). new ≡ with_field heap cell.at field value)
+    by_found : (found : Option Cell) → slice_get heap place ≡ found →
+        IfSome found (λ (cell : Cell). new ≡ with_field heap cell.at field value)
     by_found None there = tt
     by_found (Some found) there =
         let same : cell ≡ found = is ∙ get_or_from_slice_get heap place found cell there in

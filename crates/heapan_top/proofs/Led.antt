@@ -14,18 +14,22 @@ use Rattle.heapan_top.proofs.CourseLaws.{cut_answers, nothing_written, reads_non
 use Rattle.heapan_top.proofs.FedLaws.{cut_is_not_whole, still_fed}
 use Rattle.heapan_top.proofs.WorkLaws.{counted_more, none_appended}
 
-still_answered : (setting : Setting) (told held : Option (List ℕ)) (ended : Status) → ended ≡ status.NoMemory → IfSome told (λ stream. Answers (beginning setting) stream held held ended)
+still_answered : (setting : Setting) (told held : Option (List ℕ)) (ended : Status) → ended ≡ status.NoMemory →
+    IfSome told (λ stream. Answers (beginning setting) stream held held ended)
 still_answered setting None held ended is = tt
 still_answered setting (Some stream) held ended is =
     cut_answers (beginning setting) stream held held ended (inr (inr is)) (λ text planned replies. nothing_written held held refl text)
 
-module _ {S K P A : Type 0} (left : S → Option (List ℕ)) (held : K → Option (List ℕ)) (kept : P → List ℕ → Option (Option (List ℕ))) (reads : S → ℕ) (writes : K → ℕ) (stores : P → ℕ) (known : A → Known) where
+module _ {S K P A : Type 0} (left : S → Option (List ℕ)) (held : K → Option (List ℕ)) (kept : P → List ℕ → Option (Option (List ℕ)))
+    (reads : S → ℕ) (writes : K → ℕ) (stores : P → ℕ) (known : A → Known) where
   abbrev LedAt : Setting → Option (List ℕ) → S → S → K → K → P → P → List A → List A → Status → ℕ → Type 0
   LedAt setting path s t k l p q xs ys ended seen =
-      IsLed setting path (left s) (left t) (held k) (held l) (kept p) (kept q) (reads s) (reads t) (writes k) (writes l) (stores p) (stores q) (ys ≡ xs) (map known xs) (map known ys) ended seen
+      IsLed setting path (left s) (left t) (held k) (held l) (kept p) (kept q) (reads s) (reads t) (writes k) (writes l) (stores p)
+      (stores q) (ys ≡ xs) (map known xs) (map known ys) ended seen
 
   -- nothing was done, for want of memory
-  pub still_led : (setting : Setting) (path : Option (List ℕ)) (s : S) (k : K) (p : P) (xs ys : List A) (ended : Status) (seen : ℕ) → ys ≡ xs → ended ≡ status.NoMemory → LedAt setting path s s k k p p xs ys ended seen
+  pub still_led : (setting : Setting) (path : Option (List ℕ)) (s : S) (k : K) (p : P) (xs ys : List A) (ended : Status) (seen : ℕ) →
+      ys ≡ xs → ended ≡ status.NoMemory → LedAt setting path s s k k p p xs ys ended seen
   still_led setting path s k p xs ys ended seen same is = record {
     answers = still_answered setting (left s) (held k) ended is;
     work = none_appended setting (left s) (held k) seen;
@@ -39,7 +43,8 @@ module _ {S K P A : Type 0} (left : S → Option (List ℕ)) (held : K → Optio
     store_fault = λ also. let clash : status.NoMemory ≡ status.StoreFault = sym is ∙ also in absurd cc;
   }
 
-  led_more : (setting : Setting) (path : Option (List ℕ)) (s t : S) (k l : K) (p q : P) (xs ys : List A) (ended : Status) (seen solves : ℕ) → seen ≤ solves → LedAt setting path s t k l p q xs ys ended seen →
+  led_more : (setting : Setting) (path : Option (List ℕ)) (s t : S) (k l : K) (p q : P) (xs ys : List A) (ended : Status)
+      (seen solves : ℕ) → seen ≤ solves → LedAt setting path s t k l p q xs ys ended seen →
       LedAt setting path s t k l p q xs ys ended solves
   led_more setting path s t k l p q xs ys ended seen solves enough led = record {
     answers = led.answers;
@@ -55,10 +60,13 @@ module _ {S K P A : Type 0} (left : S → Option (List ℕ)) (held : K → Optio
   }
 
   -- the same of equal things
-  pub led_there : (setting setting' : Setting) (path path' : Option (List ℕ)) (s s' t t' : S) (k k' l l' : K) (p p' q q' : P) (xs xs' ys ys' : List A) (ended ended' : Status) (seen solves : ℕ) →
-      setting ≡ setting' → path ≡ path' → s ≡ s' → t ≡ t' → k ≡ k' → l ≡ l' → p ≡ p' → q ≡ q' → xs ≡ xs' → ys ≡ ys' → ended ≡ ended' → seen ≤ solves →
+  pub led_there : (setting setting' : Setting) (path path' : Option (List ℕ)) (s s' t t' : S) (k k' l l' : K) (p p' q q' : P)
+      (xs xs' ys ys' : List A) (ended ended' : Status) (seen solves : ℕ) →
+      setting ≡ setting' → path ≡ path' → s ≡ s' → t ≡ t' → k ≡ k' → l ≡ l' → p ≡ p' → q ≡ q' → xs ≡ xs' → ys ≡ ys' → ended ≡ ended' →
+      seen ≤ solves →
       LedAt setting path s t k l p q xs ys ended seen → LedAt setting' path' s' t' k' l' p' q' xs' ys' ended' solves
-  led_there setting setting' path path' s s' t t' k k' l l' p p' q q' xs xs' ys ys' ended ended' seen solves is_setting is_path is_s is_t is_k is_l is_p is_q is_xs is_ys is_ended enough led =
+  led_there setting setting' path path' s s' t t' k k' l l' p p' q q' xs xs' ys ys' ended ended' seen solves is_setting is_path is_s is_t
+      is_k is_l is_p is_q is_xs is_ys is_ended enough led =
       subst (λ a. LedAt a path' s' t' k' l' p' q' xs' ys' ended' solves) is_setting
       (subst (λ a. LedAt setting a s' t' k' l' p' q' xs' ys' ended' solves) is_path
       (subst (λ a. LedAt setting path a t' k' l' p' q' xs' ys' ended' solves) is_s
@@ -69,4 +77,5 @@ module _ {S K P A : Type 0} (left : S → Option (List ℕ)) (held : K → Optio
       (subst (λ a. LedAt setting path s t k l p a xs' ys' ended' solves) is_q
       (subst (λ a. LedAt setting path s t k l p q a ys' ended' solves) is_xs
       (subst (λ a. LedAt setting path s t k l p q xs a ended' solves) is_ys
-      (subst (λ a. LedAt setting path s t k l p q xs ys a solves) is_ended (led_more setting path s t k l p q xs ys ended seen solves enough led)))))))))))
+      (subst (λ a. LedAt setting path s t k l p q xs ys a solves) is_ended
+      (led_more setting path s t k l p q xs ys ended seen solves enough led)))))))))))

@@ -1,5 +1,6 @@
 -- A stream is answered in one way: what stands first is one thing, each command has one answer, and so on behind it.
-use Rattle.std.proofs.Common.{◌≡◌, ◌≢◌, ℕ, zero, suc, ◌+◌, ◌-◌, ◌<◌, ◌≤◌, List, [], ◌∷◌, ◌++◌, ◌⊎◌, inl, inr, length, refl, sym, ap₂, subst, arith}
+use Rattle.std.proofs.Common.{◌≡◌, ◌≢◌, ℕ, zero, suc, ◌+◌, ◌-◌, ◌<◌, ◌≤◌, List, [], ◌∷◌, ◌++◌, ◌⊎◌, inl, inr, length, refl, sym, ap₂, subst}
+use Rattle.std.proofs.Common.{arith}
 use Rattle.std.proofs.lemmas.Bool.{cases_lt}
 use Rattle.session_lines.specs.declared.command.Command.{Command}
 use Rattle.session_lines.specs.declared.command.Command.TheVariants as command
@@ -58,10 +59,13 @@ module _ (one_first : OneFirst) (course : Course) (stream : List ℕ) where
 data Says (course : Course) (stream : List ℕ) : Head → List ℕ → Status → Type 0 where
   end : Says course stream Nothing [] (status_with course.present.missing)
   full : Says course stream TooMany [] status.Full
-  malformed : Says course stream NoCommand (malformed_line (course.taken + 1) course.offset) (status.Refused (course.taken + 1) course.offset)
+  malformed : Says course stream NoCommand (malformed_line (course.taken + 1) course.offset)
+      (status.Refused (course.taken + 1) course.offset)
   quit : (rest : List ℕ) → Says course stream (First command.Quit rest) [] (status_with course.present.missing)
-  more : (rest : List ℕ) (asked : Command) (text others : List ℕ) (after : Present) (ended : Status) → Answers course.present asked text after →
-      Replies (one_behind course (length stream - length rest) after) rest others ended → Says course stream (First asked rest) (text ++ others) ended
+  more : (rest : List ℕ) (asked : Command) (text others : List ℕ) (after : Present) (ended : Status) →
+      Answers course.present asked text after →
+      Replies (one_behind course (length stream - length rest) after) rest others ended →
+      Says course stream (First asked rest) (text ++ others) ended
 
 record IsSaid (course : Course) (stream text : List ℕ) (ended : Status) : Type 0 where
   head : Head
@@ -70,7 +74,8 @@ record IsSaid (course : Course) (stream text : List ℕ) (ended : Status) : Type
 
 said : (course : Course) (stream text : List ℕ) (ended : Status) → Replies course stream text ended → IsSaid course stream text ended
 said _ _ _ _ (Replies.end course) = record { head = Nothing; stands = refl; says = end }
-said _ _ _ _ (Replies.quit course stream rest few first) = record { head = First command.Quit rest; stands = (few, first); says = quit rest }
+said _ _ _ _ (Replies.quit course stream rest few first) =
+    record { head = First command.Quit rest; stands = (few, first); says = quit rest }
 said _ _ _ _ (Replies.full course stream some most) = record { head = TooMany; stands = (some, most); says = full }
 said _ _ _ _ (Replies.malformed course stream some few none) = record { head = NoCommand; stands = (some, few, none); says = malformed }
 said _ _ _ _ (Replies.more course stream rest asked text others after ended few first answers behind) =
@@ -78,63 +83,84 @@ said _ _ _ _ (Replies.more course stream rest asked text others after ended few 
 
 module _ (one_first : OneFirst) (one_answer : OneAnswer) where
   -- by the bytes that are left: each command has one at least
-  says_once : (bytes : ℕ) → ((course : Course) (stream text text' : List ℕ) (one other : Status) → length stream < bytes → Replies course stream text one → Replies course stream text' other → (text ≡ text') × (one ≡ other)) →
-      (course : Course) (stream : List ℕ) (head : Head) → length stream ≤ bytes → Stands course stream head → (text text' : List ℕ) (one other : Status) → Says course stream head text one → Says course stream head text' other → (text ≡ text') × (one ≡ other)
+  says_once : (bytes : ℕ) →
+      ((course : Course) (stream text text' : List ℕ) (one other : Status) → length stream < bytes → Replies course stream text one →
+      Replies course stream text' other → (text ≡ text') × (one ≡ other)) →
+      (course : Course) (stream : List ℕ) (head : Head) → length stream ≤ bytes → Stands course stream head →
+      (text text' : List ℕ) (one other : Status) → Says course stream head text one → Says course stream head text' other →
+      (text ≡ text') × (one ≡ other)
   says_once bytes again course stream _ within stands _ _ _ _ end end = (refl, refl)
   says_once bytes again course stream _ within stands _ _ _ _ full full = (refl, refl)
   says_once bytes again course stream _ within stands _ _ _ _ malformed malformed = (refl, refl)
   says_once bytes again course stream _ within stands _ _ _ _ (quit rest) (quit _) = (refl, refl)
-  says_once bytes again course stream _ within stands _ _ _ _ (more rest asked text others after ended answers behind) (more _ _ text' others' after' ended' answers' behind') =
+  says_once bytes again course stream _ within stands _ _ _ _ (more rest asked text others after ended answers behind)
+      (more _ _ text' others' after' ended' answers' behind') =
       let (texts, afters) = one_answer course.present after after' asked text text' answers answers' in
       let shorter = rest_shorter stream rest asked stands.1 in
-      let behind'' = subst (λ (present : Present). Replies (one_behind course (length stream - length rest) present) rest others' ended') (sym afters) behind' in
-      let (same, ends) = again (one_behind course (length stream - length rest) after) rest others others' ended ended' (omega arith) behind behind'' in
+      let behind'' =
+      subst (λ (present : Present). Replies (one_behind course (length stream - length rest) present) rest others' ended')
+      (sym afters) behind' in
+      let (same, ends) =
+      again (one_behind course (length stream - length rest) after) rest others others' ended ended' (omega arith) behind behind'' in
       (ap₂ (λ xs ys. xs ++ ys) texts same, ends)
-  says_once bytes again course stream _ within stands _ _ _ _ (quit rest) (more _ _ text' others' after' _ answers' behind') = elim answers' [ ]
+  says_once bytes again course stream _ within stands _ _ _ _ (quit rest) (more _ _ text' others' after' _ answers' behind') =
+      elim answers' [ ]
   says_once bytes again course stream _ within stands _ _ _ _ (more rest _ text others after _ answers behind) (quit _) = elim answers [ ]
 
-  once_within : (bytes : ℕ) (course : Course) (stream text text' : List ℕ) (one other : Status) → length stream < bytes → Replies course stream text one → Replies course stream text' other → (text ≡ text') × (one ≡ other)
+  once_within : (bytes : ℕ) (course : Course) (stream text text' : List ℕ) (one other : Status) → length stream < bytes →
+      Replies course stream text one → Replies course stream text' other → (text ≡ text') × (one ≡ other)
   once_within zero course stream text text' one other within replies replies' = absurd (omega arith)
   once_within (suc bytes) course stream text text' one other within replies replies' =
       let mine = said course stream text one replies in
       let its = said course stream text' other replies' in
       let same : its.head ≡ mine.head = one_head one_first course stream its.head mine.head its.stands mine.stands in
-      says_once bytes (once_within bytes) course stream mine.head (omega arith) mine.stands text text' one other mine.says (subst (λ head. Says course stream head text' other) same its.says)
+      says_once bytes (once_within bytes) course stream mine.head (omega arith) mine.stands text text' one other mine.says
+      (subst (λ head. Says course stream head text' other) same its.says)
 
   pub replies_once : OneReply
-  replies_once course stream text text' one other replies replies' = once_within (suc (length stream)) course stream text text' one other (omega arith) replies replies'
+  replies_once course stream text text' one other replies replies' =
+      once_within (suc (length stream)) course stream text text' one other (omega arith) replies replies'
 
 module _ (some_answer : SomeAnswer) where
   abbrev HasReply : Course → List ℕ → Type 0
   HasReply course stream = (text : List ℕ) × (ended : Status) × Replies course stream text ended
 
   -- a command that is answered, and what stands behind it
-  answered_some : (course : Course) (stream rest : List ℕ) (asked : Command) → course.taken < MOST_COMMANDS → IsFirst stream asked rest → IsAnswered asked → ((after : Course) → HasReply after rest) → HasReply course stream
+  answered_some : (course : Course) (stream rest : List ℕ) (asked : Command) → course.taken < MOST_COMMANDS → IsFirst stream asked rest →
+      IsAnswered asked → ((after : Course) → HasReply after rest) → HasReply course stream
   answered_some course stream rest asked few first answered again =
       let (text, after, answers) = some_answer course.present asked answered in
       let (others, ended, behind) = again (one_behind course (length stream - length rest) after) in
       (text ++ others, ended, Replies.more course stream rest asked text others after ended few first answers behind)
 
-  taken_some : (course : Course) (stream rest : List ℕ) (asked : Command) → course.taken < MOST_COMMANDS → IsFirst stream asked rest → ((after : Course) → HasReply after rest) → HasReply course stream
+  taken_some : (course : Course) (stream rest : List ℕ) (asked : Command) → course.taken < MOST_COMMANDS → IsFirst stream asked rest →
+      ((after : Course) → HasReply after rest) → HasReply course stream
   taken_some course stream rest command.Quit few first again = (_, _, Replies.quit course stream rest few first)
   taken_some course stream rest command.Save few first again = answered_some course stream rest command.Save few first tt again
   taken_some course stream rest command.Blank few first again = answered_some course stream rest command.Blank few first tt again
-  taken_some course stream rest (command.Put name bytes) few first again = answered_some course stream rest (command.Put name bytes) few first tt again
-  taken_some course stream rest (command.PutTooLong name size) few first again = answered_some course stream rest (command.PutTooLong name size) few first tt again
-  taken_some course stream rest (command.DropFile name) few first again = answered_some course stream rest (command.DropFile name) few first tt again
+  taken_some course stream rest (command.Put name bytes) few first again =
+      answered_some course stream rest (command.Put name bytes) few first tt again
+  taken_some course stream rest (command.PutTooLong name size) few first again =
+      answered_some course stream rest (command.PutTooLong name size) few first tt again
+  taken_some course stream rest (command.DropFile name) few first again =
+      answered_some course stream rest (command.DropFile name) few first tt again
   taken_some course stream rest command.Start few first again = answered_some course stream rest command.Start few first tt again
-  taken_some course stream rest (command.Show name) few first again = answered_some course stream rest (command.Show name) few first tt again
+  taken_some course stream rest (command.Show name) few first again =
+      answered_some course stream rest (command.Show name) few first tt again
   taken_some course stream rest command.Report few first again = answered_some course stream rest command.Report few first tt again
   taken_some course stream rest (command.Gen n) few first again = answered_some course stream rest (command.Gen n) few first tt again
 
-  step_some : (course : Course) (x : ℕ) (xs : List ℕ) → ((after : Course) (rest : List ℕ) → length rest < length (x ∷ xs) → HasReply after rest) → HasReply course (x ∷ xs)
+  step_some : (course : Course) (x : ℕ) (xs : List ℕ) →
+      ((after : Course) (rest : List ℕ) → length rest < length (x ∷ xs) → HasReply after rest) → HasReply course (x ∷ xs)
   step_some course x xs again = by (cases_lt course.taken MOST_COMMANDS) (first_in (x ∷ xs) some)
     where
       some : (x ∷ xs) ≢ []
       some e = cc
 
-      by : (course.taken < MOST_COMMANDS) ⊎ (MOST_COMMANDS ≤ course.taken) → ((asked : Command) × (rest : List ℕ) × IsFirst (x ∷ xs) asked rest) ⊎ BeginsWithNone (x ∷ xs) → HasReply course (x ∷ xs)
-      by (inl few) (inl (asked, rest, first)) = taken_some course (x ∷ xs) rest asked few first (λ after. again after rest (rest_shorter (x ∷ xs) rest asked first))
+      by : (course.taken < MOST_COMMANDS) ⊎ (MOST_COMMANDS ≤ course.taken) →
+          ((asked : Command) × (rest : List ℕ) × IsFirst (x ∷ xs) asked rest) ⊎ BeginsWithNone (x ∷ xs) → HasReply course (x ∷ xs)
+      by (inl few) (inl (asked, rest, first)) =
+          taken_some course (x ∷ xs) rest asked few first (λ after. again after rest (rest_shorter (x ∷ xs) rest asked first))
       by (inl few) (inr none) = (_, _, Replies.malformed course (x ∷ xs) some few none)
       by (inr most) first = (_, _, Replies.full course (x ∷ xs) some most)
 

@@ -8,7 +8,8 @@ use Rattle.command_words.specs.Words.{Options, options_of, words_asked}
 use Rattle.heapan_top.specs.Headline.{AreRightWords, store_named}
 use Rattle.heapan_top.specs.Parts.{path_bytes}
 
-module _ {E : Type 0} (words : List (List ℕ)) (result : Result (Option Asked) E) (asked : Asked) (is : result ≡ Ok (Some asked)) (known : IfOk result (λ those. option_map options_of those ≡ words_asked words)) where
+module _ {E : Type 0} (words : List (List ℕ)) (result : Result (Option Asked) E) (asked : Asked) (is : result ≡ Ok (Some asked))
+    (known : IfOk result (λ those. option_map options_of those ≡ words_asked words)) where
   asked_as : Some (options_of asked) ≡ words_asked words
   asked_as = subst (λ r. IfOk r (λ those. option_map options_of those ≡ words_asked words)) is known
 

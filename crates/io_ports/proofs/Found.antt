@@ -31,7 +31,8 @@ pub found_there : (files : BTreeMap (String Global) (Vec ℕ)) (seen : List Stor
     → found seen path ≡ option_map (λ bytes. bytes.items) (get_by_text files path)
 found_there files seen is path = ap (λ list. found list path) (sym is) ∙ found_in files.entries path
 
-module _ (old new : BTreeMap (String Global) (Vec ℕ)) (key : String Global) (value : Vec ℕ) (updates : Updates string_cmp old new key (Some value)) where
+module _ (old new : BTreeMap (String Global) (Vec ℕ)) (key : String Global) (value : Vec ℕ)
+    (updates : Updates string_cmp old new key (Some value)) where
   -- the path of the key has the value
   pub found_put : (path : List ℕ) → string_bytes key ≡ path → found (map stored new.entries) path ≡ Some value.items
   found_put path is =

@@ -10,7 +10,8 @@ use Rattle.shape_data.specs.declared.program.Node.{Node}
 use Rattle.shape_data.specs.declared.program.Proc.{Proc}
 use Rattle.shape_data.specs.declared.program.Program.{Program}
 use Rattle.shape_data.specs.declared.program.StructDef.{StructDef}
-use Rattle.shape_data.specs.WellFormed.{AreCallees, AreKeyProcs, FitCalls, FitKeyCalls, FitsCall, IsCallee, IsFlow, IsKey, IsProgram, Limits}
+use Rattle.shape_data.specs.WellFormed.{AreCallees, AreKeyProcs, FitCalls, FitKeyCalls, FitsCall, IsCallee, IsFlow, IsKey, IsProgram}
+use Rattle.shape_data.specs.WellFormed.{Limits}
 use Rattle.component_keys.specs.Keys.{Component, Outer, flows_of, key_over}
 use Rattle.component_keys.specs.Structures.{named_by_callee, named_by_flow, structs_used}
 use Rattle.claim_laws.proofs.Invariant.{all_at}
@@ -18,17 +19,21 @@ use Rattle.key_laws.specs.Composing.{ComposedKeysAreFormed, IsCalleeFor}
 use Rattle.key_laws.proofs.Elements.{all_of, all_where, in_flat_map, pairs_at, pairs_of, zipped_left, zipped_length}
 use Rattle.key_laws.proofs.Rising.{IsBelow, below_differ}
 use Rattle.key_laws.proofs.Keeping.{Keeps, callee_kept, flow_kept, named_used, used_are}
-use Rattle.key_laws.proofs.Members.{IsClass, component_at, flows_length, listed_are, member_from, members_few, members_rise, members_some, outer_apart, outer_few, outer_from, outer_of, outer_rise, proc_at}
+use Rattle.key_laws.proofs.Members.{IsClass, component_at, flows_length, listed_are, member_from, members_few, members_rise, members_some}
+use Rattle.key_laws.proofs.Members.{outer_apart, outer_few, outer_from, outer_of, outer_rise, proc_at}
 
 -- a call that fits all of some fits those that have the name and the parameters of one of them
-fits_kept : {A B : Type 0} (one_name : A → List ℕ) (one_params : A → List (List ℕ)) (other_name : B → List ℕ) (other_params : B → List (List ℕ)) (ones : List A) (others : List B) →
-    ((k : ℕ) (other : B) → slice_get others k ≡ Some other → (i : ℕ) × (one : A) × (slice_get ones i ≡ Some one) × (one_name one ≡ other_name other) × (one_params one ≡ other_params other)) →
+fits_kept : {A B : Type 0} (one_name : A → List ℕ) (one_params : A → List (List ℕ)) (other_name : B → List ℕ)
+    (other_params : B → List (List ℕ)) (ones : List A) (others : List B) →
+    ((k : ℕ) (other : B) → slice_get others k ≡ Some other →
+    (i : ℕ) × (one : A) × (slice_get ones i ≡ Some one) × (one_name one ≡ other_name other) × (one_params one ≡ other_params other)) →
     (command : Cmd) → FitsCall one_name one_params ones command → FitsCall other_name other_params others command
 fits_kept one_name one_params other_name other_params ones others from (cmd.Call to callee args next) fits =
     all_of (λ other. other_name other ≡ callee → length (other_params other) ≡ length args) others
     (λ k other at same.
     let one = from k other at in
-    ap length (sym one.4) ∙ all_at (λ a. one_name a ≡ callee → length (one_params a) ≡ length args) ones one.0 one.1 fits one.2 (one.3 ∙ same))
+    ap length (sym one.4)
+    ∙ all_at (λ a. one_name a ≡ callee → length (one_params a) ≡ length args) ones one.0 one.1 fits one.2 (one.3 ∙ same))
 fits_kept one_name one_params other_name other_params ones others from (cmd.Copy to value next) fits = tt
 fits_kept one_name one_params other_name other_params ones others from (cmd.Arith to op left right next) fits = tt
 fits_kept one_name one_params other_name other_params ones others from (cmd.Any to ty next) fits = tt
@@ -39,7 +44,8 @@ fits_kept one_name one_params other_name other_params ones others from (cmd.Free
 fits_kept one_name one_params other_name other_params ones others from (cmd.Branch op pointers left right on_true on_false) fits = tt
 fits_kept one_name one_params other_name other_params ones others from (cmd.Return value) fits = tt
 
-module _ (limits : Limits) (program : Program) (formed : IsProgram program) (class : List ℕ) (is : IsClass program formed class) (callees : List Callee)
+module _ (limits : Limits) (program : Program) (formed : IsProgram program) (class : List ℕ) (is : IsClass program formed class)
+    (callees : List Callee)
     (are : AllZip IsCalleeFor (outer_of program formed class) callees) (each : All (IsCallee limits program.structs) callees) where
   abbrev flows : List Flow
   flows = flows_of program
@@ -51,9 +57,11 @@ module _ (limits : Limits) (program : Program) (formed : IsProgram program) (cla
   used = structs_used program.structs members callees
 
   few : length (flows_of program) < 4294967296
-  few = let same : length (flows_of program) ≡ length program.procs = flows_length program formed in let small : length program.procs < 4294967296 = formed.countable in omega (arith, same, small)
+  few = let same : length (flows_of program) ≡ length program.procs = flows_length program formed in let small : length program.procs
+      < 4294967296 = formed.countable in omega (arith, same, small)
 
-  keeps : (name : List ℕ) → Contains (flat_map named_by_flow members ++ flat_map named_by_callee callees) name → Keeps program.structs used name
+  keeps : (name : List ℕ) → Contains (flat_map named_by_flow members ++ flat_map named_by_callee callees) name →
+      Keeps program.structs used name
   keeps = named_used program.structs formed.structs members callees
 
   -- ---- the procedures
@@ -62,9 +70,12 @@ module _ (limits : Limits) (program : Program) (formed : IsProgram program) (cla
   member_flow k flow at =
       let from = member_from program formed class k flow at in
       let proc = proc_at program from.0 flow from.2 in
-      let own : IsFlow program.structs proc.0.flow = all_at (λ (one : Proc). IsFlow program.structs one.flow) program.procs from.0 proc.0 formed.flows proc.1 in
+      let own : IsFlow program.structs proc.0.flow =
+      all_at (λ (one : Proc). IsFlow program.structs one.flow) program.procs from.0 proc.0 formed.flows proc.1 in
       flow_kept program.structs used flow
-      (λ name c. keeps name (Contains-append_left (flat_map named_by_flow members) (flat_map named_by_callee callees) name (in_flat_map named_by_flow members k flow name at c)))
+      (λ name c. keeps name
+      (Contains-append_left (flat_map named_by_flow members) (flat_map named_by_callee callees) name
+      (in_flat_map named_by_flow members k flow name at c)))
       (subst (IsFlow program.structs) (sym proc.2) own)
 
   procs_are : AreKeyProcs used members
@@ -77,25 +88,30 @@ module _ (limits : Limits) (program : Program) (formed : IsProgram program) (cla
 
   -- ---- the callees
 
-  outer_at : (k : ℕ) (callee : Callee) → slice_get callees k ≡ Some callee → (outer : Outer) × (slice_get (outer_of program formed class) k ≡ Some outer) × IsCalleeFor outer callee
+  outer_at : (k : ℕ) (callee : Callee) → slice_get callees k ≡ Some callee →
+      (outer : Outer) × (slice_get (outer_of program formed class) k ≡ Some outer) × IsCalleeFor outer callee
   outer_at k callee at = zipped_left IsCalleeFor (outer_of program formed class) callees k callee are at
 
   callees_are : AreCallees limits used callees
   callees_are = record {
     countable =
-        let same : length (outer_of program formed class) ≡ length callees = zipped_length IsCalleeFor (outer_of program formed class) callees are in
+        let same : length (outer_of program formed class) ≡ length callees =
+        zipped_length IsCalleeFor (outer_of program formed class) callees are in
         let less : length (outer_of program formed class) ≤ length (flows_of program) = outer_few program formed class in
         omega (arith, same, less, few);
     each = all_where (IsCallee limits program.structs) (IsCallee limits used) callees
         (λ k callee at one.
         callee_kept program.structs used limits callee
-        (λ name c. keeps name (Contains-append_right (flat_map named_by_flow members) (flat_map named_by_callee callees) name (in_flat_map named_by_callee callees k callee name at c))) one) each;
+        (λ name c. keeps name
+        (Contains-append_right (flat_map named_by_flow members) (flat_map named_by_callee callees) name
+        (in_flat_map named_by_callee callees k callee name at c))) one) each;
     different = pairs_of (λ (one other : Callee). one.name ≢ other.name) callees
         (λ i j one other lt at at' same.
         let first = outer_at i one at in
         let second = outer_at j other at' in
         below_differ first.0.name second.0.name
-        (pairs_at (λ (a b : Outer). IsBelow a.name b.name) (outer_of program formed class) i j first.0 second.0 (outer_rise program formed class) lt first.1 second.1)
+        (pairs_at (λ (a b : Outer). IsBelow a.name b.name) (outer_of program formed class) i j first.0 second.0
+        (outer_rise program formed class) lt first.1 second.1)
         (sym first.2.name ∙ same ∙ second.2.name));
   }
 
@@ -106,31 +122,39 @@ module _ (limits : Limits) (program : Program) (formed : IsProgram program) (cla
       (λ j callee at' same.
       let from = member_from program formed class k flow at in
       let outer = outer_at j callee at' in
-      outer_apart program formed class from.0 flow outer.0 from.1 from.2 (outer_from program formed class j outer.0 outer.1) (same ∙ outer.2.name)))
+      outer_apart program formed class from.0 flow outer.0 from.1 from.2 (outer_from program formed class j outer.0 outer.1)
+      (same ∙ outer.2.name)))
 
   -- ---- calls
 
-  program_fits : (k : ℕ) (flow : Flow) → slice_get members k ≡ Some flow → FitCalls (λ (one : Proc). one.flow.name) (λ (one : Proc). one.flow.params) program.procs flow
+  program_fits : (k : ℕ) (flow : Flow) → slice_get members k ≡ Some flow →
+      FitCalls (λ (one : Proc). one.flow.name) (λ (one : Proc). one.flow.params) program.procs flow
   program_fits k flow at =
       let from = member_from program formed class k flow at in
       let proc = proc_at program from.0 flow from.2 in
       subst (FitCalls (λ (one : Proc). one.flow.name) (λ (one : Proc). one.flow.params) program.procs) (sym proc.2)
-      (all_at (λ (one : Proc). FitCalls (λ (other : Proc). other.flow.name) (λ (other : Proc). other.flow.params) program.procs one.flow) program.procs from.0 proc.0 formed.calls proc.1)
+      (all_at (λ (one : Proc). FitCalls (λ (other : Proc). other.flow.name)
+      (λ (other : Proc). other.flow.params) program.procs one.flow) program.procs from.0 proc.0 formed.calls proc.1)
 
   calls_are : FitKeyCalls members callees
   calls_are = record {
     own = all_of (FitCalls (λ (one : Flow). one.name) (λ (one : Flow). one.params) members) members
-        (λ k flow at. All-weaker (λ (node : Node). FitsCall (λ (one : Proc). one.flow.name) (λ (one : Proc). one.flow.params) program.procs node.cmd)
+        (λ k flow at. All-weaker
+        (λ (node : Node). FitsCall (λ (one : Proc). one.flow.name) (λ (one : Proc). one.flow.params) program.procs node.cmd)
         (λ (node : Node). FitsCall (λ (one : Flow). one.name) (λ (one : Flow). one.params) members node.cmd)
-        (λ node. fits_kept (λ (one : Proc). one.flow.name) (λ (one : Proc). one.flow.params) (λ (one : Flow). one.name) (λ (one : Flow). one.params) program.procs members
+        (λ node. fits_kept (λ (one : Proc). one.flow.name) (λ (one : Proc). one.flow.params) (λ (one : Flow). one.name)
+        (λ (one : Flow). one.params) program.procs members
         (λ j other at'.
         let from = member_from program formed class j other at' in
         let proc = proc_at program from.0 other from.2 in
-        (from.0, proc.0, proc.1, ap (λ (f : Flow). f.name) (sym proc.2), ap (λ (f : Flow). f.params) (sym proc.2))) node.cmd) flow.nodes (program_fits k flow at));
+        (from.0, proc.0, proc.1, ap (λ (f : Flow). f.name) (sym proc.2), ap (λ (f : Flow). f.params) (sym proc.2))) node.cmd) flow.nodes
+        (program_fits k flow at));
     outer = all_of (FitCalls (λ (one : Callee). one.name) (λ (one : Callee). one.params) callees) members
-        (λ k flow at. All-weaker (λ (node : Node). FitsCall (λ (one : Proc). one.flow.name) (λ (one : Proc). one.flow.params) program.procs node.cmd)
+        (λ k flow at. All-weaker
+        (λ (node : Node). FitsCall (λ (one : Proc). one.flow.name) (λ (one : Proc). one.flow.params) program.procs node.cmd)
         (λ (node : Node). FitsCall (λ (one : Callee). one.name) (λ (one : Callee). one.params) callees node.cmd)
-        (λ node. fits_kept (λ (one : Proc). one.flow.name) (λ (one : Proc). one.flow.params) (λ (one : Callee). one.name) (λ (one : Callee). one.params) program.procs callees
+        (λ node. fits_kept (λ (one : Proc). one.flow.name) (λ (one : Proc). one.flow.params) (λ (one : Callee). one.name)
+        (λ (one : Callee). one.params) program.procs callees
         (λ j other at'.
         let outer = outer_at j other at' in
         let out = outer_from program formed class j outer.0 outer.1 in
@@ -144,7 +168,14 @@ module _ (limits : Limits) (program : Program) (formed : IsProgram program) (cla
   }
 
   key_is : IsKey limits (key_over program.structs members callees)
-  key_is = record { structs = used_are program.structs formed.structs members callees; procs = procs_are; callees = callees_are; apart = apart; calls = calls_are }
+  key_is =
+      record {
+        structs = used_are program.structs formed.structs members callees;
+        procs = procs_are;
+        callees = callees_are;
+        apart = apart;
+        calls = calls_are;
+      }
 
 pub composed_are_formed : ComposedKeysAreFormed
 composed_are_formed limits program place component callees formed at are each =

@@ -21,21 +21,25 @@ picked : {A : Type 0} (P : A → Type 0) (all : List A) → All P all → (numbe
 picked P all each [] = All-nil P
 picked {A = A} P all each (number ∷ numbers) = by_one (slice_get all number) refl (picked P all each numbers)
   where
-    by_one : (o : Option A) → slice_get all number ≡ o → All P (filter_map (slice_get all) numbers) → All P (cons_option o (filter_map (slice_get all) numbers))
+    by_one : (o : Option A) → slice_get all number ≡ o → All P (filter_map (slice_get all) numbers) →
+        All P (cons_option o (filter_map (slice_get all) numbers))
     by_one None is later = later
     by_one (Some x) is later = All-cons P x (filter_map (slice_get all) numbers) (All-get P all number x is each) later
 
-structs-narrow : (structs : List StructDef) (flows : List Flow) (callees : List Callee) → All IsNarrow structs → All IsNarrow (structs_used structs flows callees)
+structs-narrow : (structs : List StructDef) (flows : List Flow) (callees : List Callee) → All IsNarrow structs →
+    All IsNarrow (structs_used structs flows callees)
 unfolding structs_used
 structs-narrow structs flows callees each = picked IsNarrow structs each _
 
-component-slots : (flows : List Flow) (calls : List (List ℕ)) (all : List (List ℕ)) → All HasFewSlots flows → (classes : List (List ℕ)) (place : ℕ) (component : Component) →
+component-slots : (flows : List Flow) (calls : List (List ℕ)) (all : List (List ℕ)) → All HasFewSlots flows →
+    (classes : List (List ℕ)) (place : ℕ) (component : Component) →
     slice_get (map (component_of flows calls all) classes) place ≡ Some component → All HasFewSlots component.flows
 component-slots flows calls all each [] place component is = cc
 component-slots flows calls all each (class ∷ classes) zero component is =
     let same : component_of flows calls all class ≡ component = cc in
     subst (λ (one : Component). All HasFewSlots one.flows) same (picked HasFewSlots flows each class)
-component-slots flows calls all each (class ∷ classes) (suc place) component is = component-slots flows calls all each classes place component is
+component-slots flows calls all each (class ∷ classes) (suc place) component is =
+    component-slots flows calls all each classes place component is
 
 pub composed_keys_have_sizes : ComposedKeysHaveSizes
 unfolding program_components

@@ -29,11 +29,14 @@ use Rattle.shape_data.specs.Sizes.{IsNarrow}
 
 -- ---- fields
 
-narrow-of : (structs : List StructDef) (kind : List ℕ) (count : ℕ) → All IsNarrow structs → IsSomeAnd (struct_named structs kind) (λ def. count ≡ length def.fields) → count ≤ 16
+narrow-of : (structs : List StructDef) (kind : List ℕ) (count : ℕ) → All IsNarrow structs →
+    IsSomeAnd (struct_named structs kind) (λ def. count ≡ length def.fields) → count ≤ 16
 narrow-of [] kind count each h = absurd h
-narrow-of (def ∷ structs) kind count each h = by_test (bytes_eq def.name kind) refl (narrow-of structs kind count (All-tail IsNarrow def structs each))
+narrow-of (def ∷ structs) kind count each h =
+    by_test (bytes_eq def.name kind) refl (narrow-of structs kind count (All-tail IsNarrow def structs each))
   where
-    by_test : (b : Bool) → bytes_eq def.name kind ≡ b → (IsSomeAnd (struct_named structs kind) (λ one. count ≡ length one.fields) → count ≤ 16) → count ≤ 16
+    by_test : (b : Bool) → bytes_eq def.name kind ≡ b →
+        (IsSomeAnd (struct_named structs kind) (λ one. count ≡ length one.fields) → count ≤ 16) → count ≤ 16
     by_test true e later =
         let here : count ≡ length def.fields = rw e at h in
         let few : length def.fields ≤ 16 = All-head IsNarrow def structs each in
@@ -90,7 +93,8 @@ module _ (params : ℕ) where
   -- and what is within these, with a low existential variable, is within the limits of a store
   pub low-storable : (count : ℕ) → count ≤ 32768 → (e : Exp) → IsLogicalStorable e → IsLowExistential count e → IsExp storable params e
   low-storable count few (Const n) is low = tt
-  low-storable count few (Var x) is low = and_from (not (nat_lt x 65536) || nat_lt x (params + 32768)) (nat_lt x 98304) is (lt-ltb x 98304 (omega (arith, few, low)))
+  low-storable count few (Var x) is low =
+      and_from (not (nat_lt x 65536) || nat_lt x (params + 32768)) (nat_lt x 98304) is (lt-ltb x 98304 (omega (arith, few, low)))
 
   -- a variable with one of the first numbers is
   pub low-logical-fits : (count : ℕ) → count ≤ 32768 → (e : Exp) → IsLowLogical params count e → IsLogicalStorable e
@@ -115,7 +119,8 @@ module _ (from limits : Limits) (structs : List StructDef) (params : ℕ) where
   pub to-facts : (facts : List Fact) → All (IsFact limits params) facts → All (EachInFact (IsExp limits params)) facts
   to-facts facts is = All-weaker (IsFact limits params) (EachInFact (IsExp limits params)) (to_each limits structs params) facts is
 
-  pub atoms-of : (atoms : List Atom) → All (IsAtom from structs params) atoms → All (EachInAtom (IsExp limits params)) atoms → All (IsAtom limits structs params) atoms
+  pub atoms-of : (atoms : List Atom) → All (IsAtom from structs params) atoms → All (EachInAtom (IsExp limits params)) atoms →
+      All (IsAtom limits structs params) atoms
   atoms-of [] is each = All-nil (IsAtom limits structs params)
   atoms-of (atom ∷ atoms) is each =
       All-cons (IsAtom limits structs params) atom atoms
@@ -123,14 +128,16 @@ module _ (from limits : Limits) (structs : List StructDef) (params : ℕ) where
       (atoms-of atoms (All-tail (IsAtom from structs params) atom atoms is) (All-tail (EachInAtom (IsExp limits params)) atom atoms each))
 
   pub to-atoms : (atoms : List Atom) → All (IsAtom limits structs params) atoms → All (EachInAtom (IsExp limits params)) atoms
-  to-atoms atoms is = All-weaker (IsAtom limits structs params) (EachInAtom (IsExp limits params)) (atom_each limits structs params) atoms is
+  to-atoms atoms is =
+      All-weaker (IsAtom limits structs params) (EachInAtom (IsExp limits params)) (atom_each limits structs params) atoms is
 
 -- ---- what follows from two facts on each expression
 
 module _ (A B C : Exp → Type 0) (both : (e : Exp) → A e → B e → C e) where
   pub exps-both : (es : List Exp) → All A es → All B es → All C es
   exps-both [] a b = All-nil C
-  exps-both (e ∷ es) a b = All-cons C e es (both e (All-head A e es a) (All-head B e es b)) (exps-both es (All-tail A e es a) (All-tail B e es b))
+  exps-both (e ∷ es) a b =
+      All-cons C e es (both e (All-head A e es a) (All-head B e es b)) (exps-both es (All-tail A e es a) (All-tail B e es b))
 
   fact-both : (fact : Fact) → EachInFact A fact → EachInFact B fact → EachInFact C fact
   fact-both (Eq left right) a b = (both left a.0 b.0, both right a.1 b.1)
@@ -167,42 +174,60 @@ module _ (structs : List StructDef) (params : ℕ) (narrow : All IsNarrow struct
       let parts : length heap.pure + length heap.spatial ≤ 96 = is.parts in
       omega (arith, fields, parts, few)
 
-  pub heap-storable : (heap : SymHeap) → IsSymHeap analysable structs params heap → EachInHeap (IsExp storable params) heap → IsSymHeap storable structs params heap
+  pub heap-storable : (heap : SymHeap) → IsSymHeap analysable structs params heap → EachInHeap (IsExp storable params) heap →
+      IsSymHeap storable structs params heap
   heap-storable heap is each = record {
     parts = is.parts;
     facts = facts-of analysable storable structs params heap.pure each.facts;
     atoms = atoms-of analysable storable structs params heap.spatial is.atoms each.atoms;
   }
 
-  pub state-storable : (slots : ℕ) (state : SymState) → slots ≤ 48 → IsState analysable structs params slots state → EachInState (IsLogicalStorable params) state → EachInState (IsLowExistential (most_exps state)) state →
+  pub state-storable : (slots : ℕ) (state : SymState) → slots ≤ 48 → IsState analysable structs params slots state →
+      EachInState (IsLogicalStorable params) state → EachInState (IsLowExistential (most_exps state)) state →
       IsState storable structs params slots state
   state-storable slots state few is logical existential =
       let one_each : length state.locals ≡ slots = is.one_each in
-      let counted : length state.locals + (fields_in state.heap.spatial + 2 * (length state.heap.pure + length state.heap.spatial)) ≤ 32768 =
+      let counted : length state.locals + (fields_in state.heap.spatial + 2 * (length state.heap.pure + length state.heap.spatial))
+      ≤ 32768 =
       heap-count (length state.locals) state.heap is.heap (omega (arith, one_each, few)) in
-      let stored : (e : Exp) → IsLogicalStorable params e → IsLowExistential (most_exps state) e → IsExp storable params e = low-storable params (most_exps state) counted in
+      let stored : (e : Exp) → IsLogicalStorable params e → IsLowExistential (most_exps state) e → IsExp storable params e =
+      low-storable params (most_exps state) counted in
       record {
         one_each = is.one_each;
-        locals = exps-both (IsLogicalStorable params) (IsLowExistential (most_exps state)) (IsExp storable params) stored state.locals logical.locals existential.locals;
-        heap = heap-storable state.heap is.heap (heap-both (IsLogicalStorable params) (IsLowExistential (most_exps state)) (IsExp storable params) stored state.heap logical.heap existential.heap);
+        locals =
+            exps-both (IsLogicalStorable params) (IsLowExistential (most_exps state))
+            (IsExp storable params) stored state.locals logical.locals existential.locals;
+        heap =
+            heap-storable state.heap is.heap
+            (heap-both (IsLogicalStorable params) (IsLowExistential (most_exps state))
+            (IsExp storable params) stored state.heap logical.heap existential.heap);
       }
 
-  pub post-storable : (post : Post) → IsPost analysable structs params post → EachInPost (IsLogicalStorable params) post → EachInState (IsLowExistential (most_exps (as_state post))) (as_state post) →
+  pub post-storable : (post : Post) → IsPost analysable structs params post → EachInPost (IsLogicalStorable params) post →
+      EachInState (IsLowExistential (most_exps (as_state post))) (as_state post) →
       IsPost storable structs params post
   post-storable post is logical existential =
-      let counted : 1 + (fields_in post.heap.spatial + 2 * (length post.heap.pure + length post.heap.spatial)) ≤ 32768 = heap-count 1 post.heap is.heap (omega arith) in
-      let stored : (e : Exp) → IsLogicalStorable params e → IsLowExistential (most_exps (as_state post)) e → IsExp storable params e = low-storable params (most_exps (as_state post)) counted in
+      let counted : 1 + (fields_in post.heap.spatial + 2 * (length post.heap.pure + length post.heap.spatial)) ≤ 32768 =
+      heap-count 1 post.heap is.heap (omega arith) in
+      let stored : (e : Exp) → IsLogicalStorable params e → IsLowExistential (most_exps (as_state post)) e → IsExp storable params e =
+      low-storable params (most_exps (as_state post)) counted in
       record {
         ret = stored post.ret logical.ret (All-head (IsLowExistential (most_exps (as_state post))) post.ret [] existential.locals);
-        heap = heap-storable post.heap is.heap (heap-both (IsLogicalStorable params) (IsLowExistential (most_exps (as_state post))) (IsExp storable params) stored post.heap logical.heap existential.heap);
+        heap =
+            heap-storable post.heap is.heap
+            (heap-both (IsLogicalStorable params) (IsLowExistential (most_exps (as_state post)))
+            (IsExp storable params) stored post.heap logical.heap existential.heap);
       }
 
   -- a heap whose variables have the first numbers, as many as it has expressions
-  pub first-storable : (heap : SymHeap) → IsSymHeap analysable structs params heap → EachInHeap (IsLowLogical params (most_exps (without_locals heap))) heap →
+  pub first-storable : (heap : SymHeap) → IsSymHeap analysable structs params heap →
+      EachInHeap (IsLowLogical params (most_exps (without_locals heap))) heap →
       EachInHeap (IsLowExistential (most_exps (without_locals heap))) heap → IsSymHeap storable structs params heap
   first-storable heap is logical existential =
-      let counted : 0 + (fields_in heap.spatial + 2 * (length heap.pure + length heap.spatial)) ≤ 32768 = heap-count 0 heap is (omega arith) in
+      let counted : 0 + (fields_in heap.spatial + 2 * (length heap.pure + length heap.spatial)) ≤ 32768 =
+      heap-count 0 heap is (omega arith) in
       let count : ℕ = most_exps (without_locals heap) in
       let few : count ≤ 32768 = omega (arith, counted) in
       heap-storable heap is
-      (heap-both (IsLowLogical params count) (IsLowExistential count) (IsExp storable params) (λ e one other. low-storable params count few e (low-logical-fits params count few e one) other) heap logical existential)
+      (heap-both (IsLowLogical params count) (IsLowExistential count) (IsExp storable params)
+      (λ e one other. low-storable params count few e (low-logical-fits params count few e one) other) heap logical existential)

@@ -20,7 +20,8 @@ use Rattle.sym_laws.specs.Fresh.{is_one_of}
 use Rattle.sym_laws.specs.Mapped.{on_atom, on_fact, on_heap, on_state}
 use Rattle.sym_laws.proofs.EachLemmas.{each-on_atoms, each-on_exps, each-on_facts}
 use Rattle.sym_canon.specs.declared.parts.Variables.TheVariants.{Existential, Further}
-use Rattle.sym_canon.specs.Canonical.{arranged, as_state, canon_pair, canon_post, canon_state, sight_pair, sight_state, state_with_facts_sorted, with_atoms_placed, with_facts_sorted, without_locals}
+use Rattle.sym_canon.specs.Canonical.{arranged, as_state, canon_pair, canon_post, canon_state, sight_pair, sight_state}
+use Rattle.sym_canon.specs.Canonical.{state_with_facts_sorted, with_atoms_placed, with_facts_sorted, without_locals}
 use Rattle.sym_canon.specs.FactOrder.{sorted_facts}
 use Rattle.sym_canon.specs.Numbering.{number_at, with_number}
 use Rattle.sym_canon.proofs.SightLaws.{Known, kept-state, state-known, state-stays}
@@ -55,7 +56,11 @@ module _ (P Q : Exp → Type 0) (f : Exp → Exp) (gives : (e : Exp) → P e →
   pub state-on : (state : SymState) → EachInState P state → EachInState Q (on_state f state)
   state-on state is = record {
     locals = each-on_exps P Q f gives state.locals is.locals;
-    heap = record { facts = each-on_facts P Q f gives state.heap.pure is.heap.facts; atoms = each-on_atoms P Q f gives state.heap.spatial is.heap.atoms };
+    heap =
+        record {
+          facts = each-on_facts P Q f gives state.heap.pure is.heap.facts;
+          atoms = each-on_atoms P Q f gives state.heap.spatial is.heap.atoms;
+        };
   }
 
 placed-state : (P : Exp → Type 0) (params : ℕ) (state : SymState) → EachInState P state → EachInState P (with_atoms_placed params state)
@@ -72,15 +77,18 @@ fields-mapped f (Points at kind fields ∷ atoms) =
     let here : length (map f fields) ≡ length fields = length-map fields f in
     let later : fields_in (map (on_atom f) atoms) ≡ fields_in atoms = fields-mapped f atoms in
     omega (arith, here, later)
-fields-mapped f (Seg kind link from to ∷ atoms) = let later : fields_in (map (on_atom f) atoms) ≡ fields_in atoms = fields-mapped f atoms in omega (arith, later)
-fields-mapped f (Junk ∷ atoms) = let later : fields_in (map (on_atom f) atoms) ≡ fields_in atoms = fields-mapped f atoms in omega (arith, later)
+fields-mapped f (Seg kind link from to ∷ atoms) =
+    let later : fields_in (map (on_atom f) atoms) ≡ fields_in atoms = fields-mapped f atoms in omega (arith, later)
+fields-mapped f (Junk ∷ atoms) =
+    let later : fields_in (map (on_atom f) atoms) ≡ fields_in atoms = fields-mapped f atoms in omega (arith, later)
 
 sorted-many : (f : Exp → Exp) (state : SymState) → most_exps (state_with_facts_sorted (on_state f state)) ≡ most_exps state
 sorted-many f state =
     let locals : length (map f state.locals) ≡ length state.locals = length-map state.locals f in
     let fields : fields_in (map (on_atom f) state.heap.spatial) ≡ fields_in state.heap.spatial = fields-mapped f state.heap.spatial in
     let atoms : length (map (on_atom f) state.heap.spatial) ≡ length state.heap.spatial = length-map state.heap.spatial (on_atom f) in
-    let sorted : length (sorted_facts (map (on_fact f) state.heap.pure)) ≡ length (map (on_fact f) state.heap.pure) = sorted-length (map (on_fact f) state.heap.pure) in
+    let sorted : length (sorted_facts (map (on_fact f) state.heap.pure)) ≡ length (map (on_fact f) state.heap.pure) =
+    sorted-length (map (on_fact f) state.heap.pure) in
     let facts : length (map (on_fact f) state.heap.pure) ≡ length state.heap.pure = length-map state.heap.pure (on_fact f) in
     omega (arith, locals, fields, atoms, sorted, facts)
 
@@ -117,7 +125,8 @@ place-low : (x : ℕ) (xs : List ℕ) → is_one_of xs x ≡ true → position_o
 place-low x [] h = cc
 place-low x (y ∷ xs) h = by_test (x == y) refl (place-low x xs) h
   where
-    by_test : (b : Bool) → (x == y) ≡ b → (is_one_of xs x ≡ true → position_or_len (λ z. x == z) xs < length xs) → is_one_of (y ∷ xs) x ≡ true →
+    by_test : (b : Bool) → (x == y) ≡ b → (is_one_of xs x ≡ true → position_or_len (λ z. x == z) xs < length xs) →
+        is_one_of (y ∷ xs) x ≡ true →
         position_or_len (λ z. x == z) (y ∷ xs) < length (y ∷ xs)
     by_test true e go_on k = rw e (omega arith)
     by_test false e go_on k =
@@ -128,10 +137,12 @@ place-low x (y ∷ xs) h = by_test (x == y) refl (place-low x xs) h
 -- what is in the list has a place in it
 placed-in : (x : ℕ) (xs : List ℕ) → nat_lt (position_or_len (λ y. x == y) xs) (length xs) ≡ false → is_one_of xs x ≡ true → ⊥
 placed-in x xs outside there =
-    let inside : nat_lt (position_or_len (λ y. x == y) xs) (length xs) ≡ true = lt-ltb (position_or_len (λ y. x == y) xs) (length xs) (place-low x xs there) in
+    let inside : nat_lt (position_or_len (λ y. x == y) xs) (length xs) ≡ true =
+    lt-ltb (position_or_len (λ y. x == y) xs) (length xs) (place-low x xs there) in
     cc
 
-number-low : (seen : List ℕ) (count : ℕ) → length seen ≤ count → (e : Exp) → Known Existential seen e → IsLowExistential count (with_number 65536 seen e)
+number-low : (seen : List ℕ) (count : ℕ) → length seen ≤ count → (e : Exp) → Known Existential seen e →
+    IsLowExistential count (with_number 65536 seen e)
 number-low seen count few (Const n) known = tt
 number-low seen count few (Var x) known = by_place (nat_lt (position_or_len (λ y. x == y) seen) (length seen)) refl
   where
@@ -139,7 +150,8 @@ number-low seen count few (Var x) known = by_place (nat_lt (position_or_len (λ 
     own true e outside = let there : is_one_of seen x ≡ true = rw e at known in absurd (placed-in x seen outside there)
     own false e outside = let low : x < 65536 = leb-false 65536 x e in omega (arith, low)
 
-    by_place : (c : Bool) → nat_lt (position_or_len (λ y. x == y) seen) (length seen) ≡ c → IsLowExistential count (with_number 65536 seen (Var x))
+    by_place : (c : Bool) → nat_lt (position_or_len (λ y. x == y) seen) (length seen) ≡ c →
+        IsLowExistential count (with_number 65536 seen (Var x))
     by_place true e =
         let low : position_or_len (λ y. x == y) seen < length seen = ltb-true (position_or_len (λ y. x == y) seen) (length seen) e in
         rw e (omega (arith, low, few))
@@ -152,18 +164,21 @@ forms_have_low_existentials state params =
     let same : most_exps (canon_state state params) ≡ most_exps before = sorted-many (with_number 65536 seen) before in
     let most : length seen ≤ most_exps before = few-seen before in
     let few : length seen ≤ most_exps (canon_state state params) = omega (arith, most, same) in
-    state-sorted (Known Existential seen) (IsLowExistential (most_exps (canon_state state params))) (with_number 65536 seen) (number-low seen (most_exps (canon_state state params)) few) before
+    state-sorted (Known Existential seen) (IsLowExistential (most_exps (canon_state state params))) (with_number 65536 seen)
+    (number-low seen (most_exps (canon_state state params)) few) before
     (state-known Existential before [])
 
 -- atoms in order and existential variables numbered, with so many expressions
-arranged-low : (params count : ℕ) (state : SymState) → most_exps (arranged params state) ≤ count → EachInState (IsLowExistential count) (arranged params state)
+arranged-low : (params count : ℕ) (state : SymState) → most_exps (arranged params state) ≤ count →
+    EachInState (IsLowExistential count) (arranged params state)
 arranged-low params count state small =
     let before : SymState = with_atoms_placed params state in
     let seen : List ℕ = sight_state Existential before [] in
     let same : most_exps (arranged params state) ≡ most_exps before = on-many (with_number 65536 seen) before in
     let most : length seen ≤ most_exps before = few-seen before in
     let few : length seen ≤ count = omega (arith, most, same, small) in
-    state-on (Known Existential seen) (IsLowExistential count) (with_number 65536 seen) (number-low seen count few) before (state-known Existential before [])
+    state-on (Known Existential seen) (IsLowExistential count) (with_number 65536 seen) (number-low seen count few) before
+    (state-known Existential before [])
 
 -- ---- pairs: the further logical variables have the first numbers behind the parameters
 
@@ -172,12 +187,14 @@ module _ (params count : ℕ) (seen : List ℕ) (few : length seen ≤ count) wh
   further-logical (Const n) known = tt
   further-logical (Var x) known = by_place (nat_lt (position_or_len (λ y. x == y) seen) (length seen)) refl
     where
-      own : (c d : Bool) → leb params x ≡ c → ltb x 65536 ≡ d → nat_lt (position_or_len (λ y. x == y) seen) (length seen) ≡ false → x < 65536 → x < params + count
+      own : (c d : Bool) → leb params x ≡ c → ltb x 65536 ≡ d → nat_lt (position_or_len (λ y. x == y) seen) (length seen) ≡ false →
+          x < 65536 → x < params + count
       own false d e f outside low = let under : x < params = leb-false params x e in omega (arith, under)
       own true false e f outside low = let high : ltb x 65536 ≡ true = lt-ltb x 65536 low in cc
       own true true e f outside low = let there : is_one_of seen x ≡ true = rw (e, f) at known in absurd (placed-in x seen outside there)
 
-      by_place : (c : Bool) → nat_lt (position_or_len (λ y. x == y) seen) (length seen) ≡ c → IsLowLogical params count (with_number params seen (Var x))
+      by_place : (c : Bool) → nat_lt (position_or_len (λ y. x == y) seen) (length seen) ≡ c →
+          IsLowLogical params count (with_number params seen (Var x))
       by_place true e =
           let there : position_or_len (λ y. x == y) seen < length seen = ltb-true (position_or_len (λ y. x == y) seen) (length seen) e in
           rw e (λ low. omega (arith, there, few))
@@ -187,7 +204,8 @@ module _ (params count : ℕ) (seen : List ℕ) (few : length seen ≤ count) wh
   further-existential low (Const n) is = tt
   further-existential low (Var x) is = by_place (nat_lt (position_or_len (λ y. x == y) seen) (length seen)) refl
     where
-      by_place : (c : Bool) → nat_lt (position_or_len (λ y. x == y) seen) (length seen) ≡ c → IsLowExistential count (with_number params seen (Var x))
+      by_place : (c : Bool) → nat_lt (position_or_len (λ y. x == y) seen) (length seen) ≡ c →
+          IsLowExistential count (with_number params seen (Var x))
       by_place true e =
           let there : position_or_len (λ y. x == y) seen < length seen = ltb-true (position_or_len (λ y. x == y) seen) (length seen) e in
           rw e (omega (arith, there, few, low))
@@ -199,10 +217,16 @@ pub record HasFirstNumbers (params count : ℕ) (heap : SymHeap) : Type 0 where
   pub existential : EachInHeap (IsLowExistential count) heap
 
 pub canon_pair-first : (params : ℕ) (missing : SymHeap) (state : SymState) → params ≤ 65536 →
-    HasFirstNumbers params (most_exps (without_locals (canon_pair missing state params).missing) + most_exps (canon_pair missing state params).state) (canon_pair missing state params).missing
+    HasFirstNumbers params
+    (most_exps (without_locals (canon_pair missing state params).missing) + most_exps (canon_pair missing state params).state)
+    (canon_pair missing state params).missing
 canon_pair-first params missing state low = record {
-  logical = heap-sorted (Known (Further params) seen) (IsLowLogical params count) (with_number params seen) (further-logical params count seen few) first.heap known.heap;
-  existential = heap-sorted (IsLowExistential count) (IsLowExistential count) (with_number params seen) (further-existential params count seen few low) first.heap existentials.heap;
+  logical =
+      heap-sorted (Known (Further params) seen) (IsLowLogical params count) (with_number params seen)
+      (further-logical params count seen few) first.heap known.heap;
+  existential =
+      heap-sorted (IsLowExistential count) (IsLowExistential count) (with_number params seen)
+      (further-existential params count seen few low) first.heap existentials.heap;
 }
   where
     first : SymState
@@ -233,7 +257,8 @@ canon_pair-first params missing state low = record {
         omega (arith, one, two, first-many, second-many)
 
     known : EachInState (Known (Further params) seen) first
-    known = state-stays (Further params) before seen (kept-state (Further params) second before) first (state-known (Further params) first [])
+    known =
+        state-stays (Further params) before seen (kept-state (Further params) second before) first (state-known (Further params) first [])
 
     existentials : EachInState (IsLowExistential count) first
     existentials = arranged-low params count (without_locals missing) (omega (arith, first-many))

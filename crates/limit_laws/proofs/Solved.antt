@@ -23,7 +23,8 @@ use Rattle.solve_laws.specs.Tables.{table_with, task_under}
 use Rattle.solve_laws.proofs.KeepingLaws.{Keeps, summaries-are}
 use Rattle.solve_laws.proofs.SolvedLaws.{solved_has_reasons, specs_fit_keys}
 use Rattle.solve_laws.proofs.TaskLaws.{empty-are-own, none-are-own, task-with}
-use Rattle.solve_laws.proofs.TrialLaws.{standing-certs, standing-few, standing-one_each, standing-specs, standing-weaker, zip-at, zip-length, zip-weaker}
+use Rattle.solve_laws.proofs.TrialLaws.{standing-certs, standing-few, standing-one_each, standing-specs, standing-weaker, zip-at}
+use Rattle.solve_laws.proofs.TrialLaws.{zip-length, zip-weaker}
 use Rattle.limit_laws.specs.Laws.{SolvedIsStorable}
 use Rattle.shape_data.specs.Sizes.{HasFewSlots, HasKeySizes}
 use Rattle.limit_laws.specs.Sizes.{HasTaskSizes}
@@ -46,7 +47,8 @@ module _ (key : Key) (is_key : IsStorableKey key) (sizes : HasKeySizes key) wher
   abbrev Stored : Flow → Spec → Cert → Type 0
   Stored flow spec cert = IsSpec storable key.structs (length flow.params) spec × IsCert storable key.structs flow cert
 
-  task-sizes : (specs : List (List Spec)) (cut : Bool) (flow : Flow) → IsMember flow → HasTaskSizes (task_under key (table_with key specs cut) flow)
+  task-sizes : (specs : List (List Spec)) (cut : Bool) (flow : Flow) → IsMember flow
+      → HasTaskSizes (task_under key (table_with key specs cut) flow)
   task-sizes specs cut flow stands = record { structs = sizes.structs; flow = All-contains HasFewSlots key.procs flow sizes.procs stands }
 
   -- what stands within the limits is well formed
@@ -57,10 +59,13 @@ module _ (key : Key) (is_key : IsStorableKey key) (sizes : HasKeySizes key) wher
   )
 
   tried-formed : (flow : Flow) (one : Attempt) → IsTried Stored flow one → IsTried (IsFormed key.structs) flow one
-  tried-formed flow one is = record { few = is.few; stand = standing-weaker (Stored flow) (IsFormed key.structs flow) (stored-formed flow) one.trials is.stand }
+  tried-formed flow one is =
+      record { few = is.few; stand = standing-weaker (Stored flow) (IsFormed key.structs flow) (stored-formed flow) one.trials is.stand }
 
   specs-fit : (attempts : List Attempt) → AllZip (IsTried Stored) key.procs attempts → Own (specs_of attempts)
-  specs-fit attempts all = (specs_fit_keys key).standing attempts (zip-weaker (IsTried Stored) (IsTried (IsFormed key.structs)) tried-formed key.procs attempts all)
+  specs-fit attempts all =
+      (specs_fit_keys key).standing attempts
+      (zip-weaker (IsTried Stored) (IsTried (IsFormed key.structs)) tried-formed key.procs attempts all)
 
   stored-keeps : Keeps key IsMember Own StoredPre Stored
   stored-keeps = record {
@@ -69,10 +74,12 @@ module _ (key : Key) (is_key : IsStorableKey key) (sizes : HasKeySizes key) wher
     first = empty-are-own key.structs key.procs;
     table = specs-fit;
     found = λ specs cut flow good stands.
-        candidates_are_storable (task_under key (table_with key specs cut) flow) (task-with key known specs cut flow good stands) (task-sizes specs cut flow stands);
+        candidates_are_storable (task_under key (table_with key specs cut) flow) (task-with key known specs cut flow good stands)
+        (task-sizes specs cut flow stands);
     again = λ flow spec cert is. is.0.pre;
     done = λ specs cut flow good stands pre holds posts cert is.
-        done_is_storable (task_under key (table_with key specs cut) flow) pre posts cert (task-with key known specs cut flow good stands) (task-sizes specs cut flow stands) holds is;
+        done_is_storable (task_under key (table_with key specs cut) flow) pre posts cert (task-with key known specs cut flow good stands)
+        (task-sizes specs cut flow stands) holds is;
   }
 
   summed : (flow : Flow) (one : Attempt) → IsTried Stored flow one → IsSummary storable key.structs flow (summary_of flow one)
@@ -82,10 +89,12 @@ module _ (key : Key) (is_key : IsStorableKey key) (sizes : HasKeySizes key) wher
         name = refl;
         few = omega (arith, fewer, few);
         specs = standing-specs (IsSpec storable key.structs (length flow.params)) one.trials
-            (standing-weaker (Stored flow) (λ spec cert. IsSpec storable key.structs (length flow.params) spec) (λ spec cert both. both.0) one.trials is.stand);
+            (standing-weaker (Stored flow) (λ spec cert. IsSpec storable key.structs (length flow.params) spec)
+            (λ spec cert both. both.0) one.trials is.stand);
         one_each = standing-one_each one.trials;
         certs = standing-certs (IsCert storable key.structs flow) one.trials
-            (standing-weaker (Stored flow) (λ spec cert. IsCert storable key.structs flow cert) (λ spec cert both. both.1) one.trials is.stand);
+            (standing-weaker (Stored flow) (λ spec cert. IsCert storable key.structs flow cert)
+            (λ spec cert both. both.1) one.trials is.stand);
       }
 
   blank : (flow : Flow) → IsSummary storable key.structs flow (without_specs flow)
@@ -98,7 +107,9 @@ module _ (key : Key) (is_key : IsStorableKey key) (sizes : HasKeySizes key) wher
   }
 
   all-stored : AllZip (IsSummary storable key.structs) key.procs (summaries_by key.recursive key)
-  all-stored = summaries-are candidates_are_few key IsMember Own StoredPre Stored stored-keeps (IsSummary storable key.structs) summed blank key.recursive
+  all-stored =
+      summaries-are candidates_are_few key IsMember Own StoredPre Stored stored-keeps
+      (IsSummary storable key.structs) summed blank key.recursive
 
   answer-stored : (stored : Bool) → IsAnswer storable key (record { stored = stored; procs = summaries_by key.recursive key })
   answer-stored stored = record {
@@ -108,4 +119,5 @@ module _ (key : Key) (is_key : IsStorableKey key) (sizes : HasKeySizes key) wher
 
 pub solved_is_storable : SolvedIsStorable
 unfolding solve
-solved_is_storable key is_key sizes = record { answers = answer-stored key is_key sizes false; reasons = solved_has_reasons candidates_are_few done_is_small key }
+solved_is_storable key is_key sizes =
+    record { answers = answer-stored key is_key sizes false; reasons = solved_has_reasons candidates_are_few done_is_small key }

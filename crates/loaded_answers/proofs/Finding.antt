@@ -1,5 +1,6 @@
 -- What the map finds is the answer of the first entry with the key.
-use Rattle.std.proofs.Common.{◌≡◌, Bool, true, false, cond, is_some, List, [], ◌∷◌, ◌++◌, Option, Some, None, refl, sym, ap, ◌∙◌, option_map, if◌then◌else◌}
+use Rattle.std.proofs.Common.{◌≡◌, Bool, true, false, cond, is_some, List, [], ◌∷◌, ◌++◌, Option, Some, None, refl, sym, ap, ◌∙◌}
+use Rattle.std.proofs.Common.{option_map, if◌then◌else◌}
 use Rattle.std.specs.Prelude.{◌↔◌, IsTrue}
 use Rattle.std.specs.Bool.{Decides}
 use Rattle.std.specs.Option.{option_or}
@@ -16,30 +17,35 @@ use Rattle.loaded_answers.specs.Lookup.{AreFound, first_answer, first_entry}
 pub same_test : (one other : Bool) (P : Type 0) → (IsTrue one ↔ P) → Decides other P → one ≡ other
 same_test one other P says decides = same_answers one other (λ e. decides.1 (says.0 e)) (λ e. says.1 (decides.0 e))
 
-pub none_found : {A S : Type 0} (value : A → Answer) (found : IndexMap Key A S) → ((key : Key) → get key_test.0 found key ≡ None) → AreFound value [] found
+pub none_found : {A S : Type 0} (value : A → Answer) (found : IndexMap Key A S) → ((key : Key) → get key_test.0 found key ≡ None) →
+    AreFound value [] found
 none_found value found none key = ap (option_map value) (none key)
 
 -- the answer of one entry, if it has the key
 abbrev answer_for : Solution → Key → Option Answer
 answer_for one key = if key_test.0 one.key key then Some one.answer else None
 
-first_more : (loaded : List Solution) (one : Solution) (key : Key) → first_answer (loaded ++ one ∷ []) key ≡ option_or (first_answer loaded key) (answer_for one key)
+first_more : (loaded : List Solution) (one : Solution) (key : Key) →
+    first_answer (loaded ++ one ∷ []) key ≡ option_or (first_answer loaded key) (answer_for one key)
 first_more loaded one key =
     ap (option_map (λ (it : Solution). it.answer)) (find-append (λ (it : Solution). key_test.0 it.key key) loaded (one ∷ [])) ∙
     by_first (first_entry loaded key) (key_test.0 one.key key)
   where
     by_first : (o : Option Solution) (b : Bool) →
-        option_map (λ (it : Solution). it.answer) (option_or o (cond b (Some one) None)) ≡ option_or (option_map (λ (it : Solution). it.answer) o) (cond b (Some one.answer) None)
+        option_map (λ (it : Solution). it.answer) (option_or o (cond b (Some one) None))
+        ≡ option_or (option_map (λ (it : Solution). it.answer) o) (cond b (Some one.answer) None)
     by_first None true = refl
     by_first None false = refl
     by_first (Some found) b = refl
 
-module _ {A S : Type 0} (value : A → Answer) (loaded : List Solution) (old : IndexMap Key A S) (are : AreFound value loaded old) (one : Solution) where
+module _ {A S : Type 0} (value : A → Answer) (loaded : List Solution) (old : IndexMap Key A S) (are : AreFound value loaded old)
+    (one : Solution) where
   at_own : (key : Key) → key_test.0 one.key key ≡ true → get key_test.0 old key ≡ get key_test.0 old one.key
   at_own key same = ap (get key_test.0 old) (sym ((key_test.1 one.key key).0 same))
 
   -- an entry whose key no earlier one has
-  pub found_more : (new : IndexMap Key A S) (added : A) → value added ≡ one.answer → is_some (get key_test.0 old one.key) ≡ false → Updates key_test.0 old new one.key (Some added) →
+  pub found_more : (new : IndexMap Key A S) (added : A) → value added ≡ one.answer → is_some (get key_test.0 old one.key) ≡ false →
+      Updates key_test.0 old new one.key (Some added) →
       AreFound value (loaded ++ one ∷ []) new
   found_more new added is none updates key =
       ap (option_map value) (updates.0 key) ∙ by_test (key_test.0 one.key key) refl (get key_test.0 old key) refl ∙

@@ -16,5 +16,7 @@ none_there rules number [] m = refl
 none_there rules number (want ∷ wants) m = refl
 
 -- where no more fields are there, all is done
-pub fields_end : (rules : Rules) (number place : ℕ) (wants haves : List Exp) (m : Matching) → length haves ≤ place → take_fields rules number wants (drop place haves) m ≡ m
-fields_end rules number place wants haves m past = ap (λ list. take_fields rules number wants list m) (drop_past place haves past) ∙ none_there rules number wants m
+pub fields_end : (rules : Rules) (number place : ℕ) (wants haves : List Exp) (m : Matching) → length haves ≤ place
+    → take_fields rules number wants (drop place haves) m ≡ m
+fields_end rules number place wants haves m past =
+    ap (λ list. take_fields rules number wants list m) (drop_past place haves past) ∙ none_there rules number wants m

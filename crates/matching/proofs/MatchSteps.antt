@@ -14,21 +14,28 @@ use Rattle.sym_matching.proofs.RoomLaws.{few_fields}
 use Rattle.sym_matching.specs.Answers.{names_of_all}
 use Rattle.matching_steps.specs.InSetting.{rules_with}
 
-pub start-used : (a : SymHeap) (bound : List (ℕ × Exp)) (used : List ℕ) (next : ℕ) (m : Matching) → m ≡ start_of a bound used next → m.used ≡ used
+pub start-used : (a : SymHeap) (bound : List (ℕ × Exp)) (used : List ℕ) (next : ℕ) (m : Matching) → m ≡ start_of a bound used next →
+    m.used ≡ used
 start-used a bound used next m is = ap (λ (k : Matching). k.used) is
 
-pub start-next : (a : SymHeap) (bound : List (ℕ × Exp)) (used : List ℕ) (next : ℕ) (m : Matching) → m ≡ start_of a bound used next → m.next ≡ next
+pub start-next : (a : SymHeap) (bound : List (ℕ × Exp)) (used : List ℕ) (next : ℕ) (m : Matching) → m ≡ start_of a bound used next →
+    m.next ≡ next
 start-next a bound used next m is = ap (λ (k : Matching). k.next) is
 
 module _ (mode : Mode) (a b : SymHeap) (bound : List (ℕ × Exp)) (flexible avoid : List ℕ) (next : ℕ) where
-  pub answered : (facts : List Fact) (used : List ℕ) (m : Matching) (turned : Turned) (found : Abd) → facts ≡ a.pure → used ≡ argument_variables a b bound flexible ++ avoid → m ≡ start_of a bound used next →
-      turned ≡ want_heap (rules_with mode facts flexible) b m → found ≡ answer_abd (rules_with mode facts flexible) b turned → found ≡ answer_abd (rules_of mode a flexible) b (matching mode a b bound flexible avoid next)
+  pub answered : (facts : List Fact) (used : List ℕ) (m : Matching) (turned : Turned) (found : Abd) → facts ≡ a.pure →
+      used ≡ argument_variables a b bound flexible ++ avoid → m ≡ start_of a bound used next →
+      turned ≡ want_heap (rules_with mode facts flexible) b m → found ≡ answer_abd (rules_with mode facts flexible) b turned →
+      found ≡ answer_abd (rules_of mode a flexible) b (matching mode a b bound flexible avoid next)
   answered facts used m turned found facts_is used_is m_is went told =
-      let first : found ≡ answer_abd (rules_with mode facts flexible) b (want_heap (rules_with mode facts flexible) b m) = told ∙ ap (answer_abd (rules_with mode facts flexible) b) went in
-      let started : m ≡ start_of a bound (argument_variables a b bound flexible ++ avoid) next = m_is ∙ ap (λ names. start_of a bound names next) used_is in
+      let first : found ≡ answer_abd (rules_with mode facts flexible) b (want_heap (rules_with mode facts flexible) b m) =
+      told ∙ ap (answer_abd (rules_with mode facts flexible) b) went in
+      let started : m ≡ start_of a bound (argument_variables a b bound flexible ++ avoid) next =
+      m_is ∙ ap (λ names. start_of a bound names next) used_is in
       first
       ∙ ap (λ k. answer_abd (rules_with mode facts flexible) b (want_heap (rules_with mode facts flexible) b k)) started
-      ∙ ap (λ list. answer_abd (rules_with mode list flexible) b (want_heap (rules_with mode list flexible) b (start_of a bound (argument_variables a b bound flexible ++ avoid) next))) facts_is
+      ∙ ap (λ list. answer_abd (rules_with mode list flexible) b
+      (want_heap (rules_with mode list flexible) b (start_of a bound (argument_variables a b bound flexible ++ avoid) next))) facts_is
 
 -- ---- room for new logical variables
 
@@ -40,5 +47,6 @@ names_within b other =
     let parts : length b.pure + length b.spatial ≤ 4000 = other.parts in
     omega arith
 
-pub arguments-names : (b : SymHeap) (next start : ℕ) → IsWithinSizes b → start ≡ next → next ≤ 65536 → start + names_of_all b.spatial < 4294967296
+pub arguments-names : (b : SymHeap) (next start : ℕ) → IsWithinSizes b → start ≡ next → next ≤ 65536 →
+    start + names_of_all b.spatial < 4294967296
 arguments-names b next start other is low = let names : names_of_all b.spatial ≤ 131076000 = names_within b other in omega arith

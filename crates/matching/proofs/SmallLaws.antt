@@ -28,7 +28,8 @@ small-variable names (Const n) h small = h
 
 pub small-exps : (es : List Exp) (names : List ℕ) → AreSmall names → All IsSmall es → AreSmall (with_exps names es)
 small-exps [] names h each = h
-small-exps (e ∷ es) names h each = small-exps es (with_variable names e) (small-variable names e h (All-head IsSmall e es each)) (All-tail IsSmall e es each)
+small-exps (e ∷ es) names h each =
+    small-exps es (with_variable names e) (small-variable names e h (All-head IsSmall e es each)) (All-tail IsSmall e es each)
 
 small-sides : (fact : Fact) → EachInFact IsSmall fact → All IsSmall (sides fact)
 small-sides (Eq left right) each = All-cons IsSmall left (right ∷ []) each.0 (All-cons IsSmall right [] each.1 (All-nil IsSmall))
@@ -42,12 +43,16 @@ small-atom Junk each = All-nil IsSmall
 small-facts : (facts : List Fact) (names : List ℕ) → AreSmall names → All (EachInFact IsSmall) facts → AreSmall (with_facts names facts)
 small-facts [] names h each = h
 small-facts (fact ∷ facts) names h each =
-    small-facts facts (with_exps names (sides fact)) (small-exps (sides fact) names h (small-sides fact (All-head (EachInFact IsSmall) fact facts each))) (All-tail (EachInFact IsSmall) fact facts each)
+    small-facts facts (with_exps names (sides fact))
+    (small-exps (sides fact) names h (small-sides fact (All-head (EachInFact IsSmall) fact facts each)))
+    (All-tail (EachInFact IsSmall) fact facts each)
 
 small-atoms : (atoms : List Atom) (names : List ℕ) → AreSmall names → All (EachInAtom IsSmall) atoms → AreSmall (with_atoms names atoms)
 small-atoms [] names h each = h
 small-atoms (atom ∷ atoms) names h each =
-    small-atoms atoms (with_exps names (exps_of atom)) (small-exps (exps_of atom) names h (small-atom atom (All-head (EachInAtom IsSmall) atom atoms each))) (All-tail (EachInAtom IsSmall) atom atoms each)
+    small-atoms atoms (with_exps names (exps_of atom))
+    (small-exps (exps_of atom) names h (small-atom atom (All-head (EachInAtom IsSmall) atom atoms each)))
+    (All-tail (EachInAtom IsSmall) atom atoms each)
 
 pub small-heap : (heap : SymHeap) (names : List ℕ) → AreSmall names → EachInHeap IsSmall heap → AreSmall (with_heap names heap)
 small-heap heap names h each = small-atoms heap.spatial (with_facts names heap.pure) (small-facts heap.pure names h each.facts) each.atoms
@@ -55,23 +60,28 @@ small-heap heap names h each = small-atoms heap.spatial (with_facts names heap.p
 abbrev IsLowBound : ℕ × Exp → Type 0
 IsLowBound bound = (bound.0 < 2147483648) × IsSmall bound.1
 
-small-binding : (binding : List (ℕ × Exp)) (names : List ℕ) → AreSmall names → IsSmallBinding binding → AreSmall (with_binding names binding)
+small-binding : (binding : List (ℕ × Exp)) (names : List ℕ) → AreSmall names → IsSmallBinding binding →
+    AreSmall (with_binding names binding)
 small-binding [] names h each = h
 small-binding (bound ∷ binding) names h each =
     let here : IsLowBound bound = All-head IsLowBound bound binding each in
-    small-binding binding (with_variable (names ++ bound.0 ∷ []) bound.1) (small-variable (names ++ bound.0 ∷ []) bound.1 (All-push IsLow names bound.0 h here.0) here.1) (All-tail IsLowBound bound binding each)
+    small-binding binding (with_variable (names ++ bound.0 ∷ []) bound.1)
+    (small-variable (names ++ bound.0 ∷ []) bound.1 (All-push IsLow names bound.0 h here.0) here.1) (All-tail IsLowBound bound binding each)
 
-small-arguments : (a b : SymHeap) (bound : List (ℕ × Exp)) (flexible avoid : List ℕ) → IsWithinSizes a → IsWithinSizes b → IsSmallBinding bound → AreSmall flexible → AreSmall avoid →
+small-arguments : (a b : SymHeap) (bound : List (ℕ × Exp)) (flexible avoid : List ℕ) → IsWithinSizes a → IsWithinSizes b →
+    IsSmallBinding bound → AreSmall flexible → AreSmall avoid →
     AreSmall (argument_variables a b bound flexible ++ avoid)
 small-arguments a b bound flexible avoid one other binding more further =
     All-append IsLow (argument_variables a b bound flexible) avoid
     (All-append IsLow (with_binding (with_heap (with_heap [] a) b) bound) flexible
-    (small-binding bound (with_heap (with_heap [] a) b) (small-heap b (with_heap [] a) (small-heap a [] (All-nil IsLow) one.variables) other.variables) binding)
+    (small-binding bound (with_heap (with_heap [] a) b)
+    (small-heap b (with_heap [] a) (small-heap a [] (All-nil IsLow) one.variables) other.variables) binding)
     more)
     further
 
 -- there is room for a new variable for each wanted field
-pub arguments-room : (a b : SymHeap) (bound : List (ℕ × Exp)) (flexible avoid used : List ℕ) → IsWithinSizes a → IsWithinSizes b → IsSmallBinding bound → AreSmall flexible → AreSmall avoid →
+pub arguments-room : (a b : SymHeap) (bound : List (ℕ × Exp)) (flexible avoid used : List ℕ) → IsWithinSizes a → IsWithinSizes b →
+    IsSmallBinding bound → AreSmall flexible → AreSmall avoid →
     used ≡ argument_variables a b bound flexible ++ avoid → HasRoom (fields_of_all b.spatial) used
 arguments-room a b bound flexible avoid used one other binding more further is =
     let few : fields_of_all b.spatial ≤ 131072000 = few_fields b other in

@@ -1,5 +1,6 @@
 -- One callee more.
-use Rattle.std.proofs.Common.{◌≡◌, ℕ, ◌+◌, ◌<◌, List, [], ◌∷◌, ◌++◌, length, map, take, get_or, slice_get, Some, Option, ap, ◌∙◌, filter_map, option_map}
+use Rattle.std.proofs.Common.{◌≡◌, ℕ, ◌+◌, ◌<◌, List, [], ◌∷◌, ◌++◌, length, map, take, get_or, slice_get, Some, Option, ap, ◌∙◌}
+use Rattle.std.proofs.Common.{filter_map, option_map}
 use Rattle.std.specs.List.{cons_option}
 use Rattle.std.proofs.lemmas.List.{map_push, take_more}
 use Rattle.std.proofs.lemmas.List.Elements.{filter_map-append}
@@ -15,13 +16,17 @@ use Rattle.plain_answers.specs.Table.{callee_as, callee_over}
 abbrev pub outer_for : ℕ → Flow → Outer
 outer_for component flow = record { name = flow.name; params = flow.params; component = component }
 
-pub callees_more : (program : Program) (answers : ℕ → Option Answer) (outers : List OuterRow) (i : ℕ) (outer : OuterRow) (flow : Flow) → i < length outers → get_or outers i outer ≡ outer →
+pub callees_more : (program : Program) (answers : ℕ → Option Answer) (outers : List OuterRow) (i : ℕ) (outer : OuterRow) (flow : Flow) →
+    i < length outers → get_or outers i outer ≡ outer →
     slice_get (flows_of program) outer.number ≡ Some flow →
     map (callee_over answers) (filter_map (outer_value (flows_of program)) (take (i + 1) outers)) ≡
     map (callee_over answers) (filter_map (outer_value (flows_of program)) (take i outers)) ++ callee_as flow (answers outer.component) ∷ []
 callees_more program answers outers i outer flow lt is at =
-    ap (λ l. map (callee_over answers) (filter_map (outer_value (flows_of program)) l)) (take_more outers i outer lt ∙ ap (λ o. take i outers ++ o ∷ []) is) ∙
-    ap (map (callee_over answers)) (filter_map-append (outer_value (flows_of program)) (take i outers) (outer ∷ []) ∙ ap (λ o. front ++ cons_option (option_map (outer_for outer.component) o) []) at) ∙
+    ap (λ l. map (callee_over answers) (filter_map (outer_value (flows_of program)) l))
+    (take_more outers i outer lt ∙ ap (λ o. take i outers ++ o ∷ []) is) ∙
+    ap (map (callee_over answers))
+    (filter_map-append (outer_value (flows_of program)) (take i outers) (outer ∷ [])
+    ∙ ap (λ o. front ++ cons_option (option_map (outer_for outer.component) o) []) at) ∙
     map_push (callee_over answers) front (outer_for outer.component flow)
   where
     front : List Outer

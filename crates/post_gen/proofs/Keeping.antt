@@ -7,7 +7,8 @@ use Rattle.subtraction.specs.Conditions.{IsPostWithinSizes}
 use Rattle.certificate_laws.specs.Coverings.{is_post_covered}
 use Rattle.annotation_laws.specs.Annotation.{keep_unless, kept}
 
-one-within : (post : Post) (later : List Post) → IsPostWithinSizes post → All IsPostWithinSizes later → All IsPostWithinSizes (keep_unless post later)
+one-within : (post : Post) (later : List Post) → IsPostWithinSizes post → All IsPostWithinSizes later
+    → All IsPostWithinSizes (keep_unless post later)
 one-within post later is are = by_test (is_post_covered later post) refl
   where
     by_test : (b : Bool) → is_post_covered later post ≡ b → All IsPostWithinSizes (keep_unless post later)
@@ -19,5 +20,8 @@ kept-sizes [] are = All-nil IsPostWithinSizes
 kept-sizes (post ∷ posts) are =
     one-within post (kept posts) (All-head IsPostWithinSizes post posts are) (kept-sizes posts (All-tail IsPostWithinSizes post posts are))
 
-pub kept-within : (exits posts : List Post) (place : ℕ) → All IsPostWithinSizes exits → posts ≡ kept (drop place exits) → All IsPostWithinSizes posts
-kept-within exits posts place are is = All-same IsPostWithinSizes posts (kept (drop place exits)) is (kept-sizes (drop place exits) (All-drop IsPostWithinSizes place exits are))
+pub kept-within : (exits posts : List Post) (place : ℕ) → All IsPostWithinSizes exits → posts ≡ kept (drop place exits)
+    → All IsPostWithinSizes posts
+kept-within exits posts place are is =
+    All-same IsPostWithinSizes posts (kept (drop place exits)) is
+    (kept-sizes (drop place exits) (All-drop IsPostWithinSizes place exits are))

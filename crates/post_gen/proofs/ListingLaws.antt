@@ -42,10 +42,13 @@ module _ (task : Task) where
         let there : node < length listing.nodes = subst (λ n. node < n) (sym is.one_each) within in
         All-get_or AreGiven listing.nodes node [] there is.nodes
 
-    pub state-listed : (node : ℕ) (state : SymState) → node < length task.flow.nodes → IsGivenState task state → IsListing task (with_state node state listing)
+    pub state-listed : (node : ℕ) (state : SymState) → node < length task.flow.nodes → IsGivenState task state
+        → IsListing task (with_state node state listing)
     state-listed node state within given = record {
       one_each = length-set listing.nodes node (listed_at node listing ++ state ∷ []) ∙ is.one_each;
-      nodes = All-set AreGiven listing.nodes node (listed_at node listing ++ state ∷ []) (All-push (IsGivenState task) (listed_at node listing) state (node-given node within) given) is.nodes;
+      nodes =
+          All-set AreGiven listing.nodes node (listed_at node listing ++ state ∷ [])
+          (All-push (IsGivenState task) (listed_at node listing) state (node-given node within) given) is.nodes;
       exits = is.exits;
       queue = All-push (IsWaiting task) listing.queue (node, state) is.queue (within, given);
     }
@@ -68,7 +71,8 @@ module _ (task : Task) where
       item-given = (All-head (IsWaiting task) item rest waiting).1
 
       pub rest-given : IsListing task (record { nodes = listing.nodes; exits = listing.exits; queue = rest })
-      rest-given = record { one_each = is.one_each; nodes = is.nodes; exits = is.exits; queue = All-tail (IsWaiting task) item rest waiting }
+      rest-given =
+          record { one_each = is.one_each; nodes = is.nodes; exits = is.exits; queue = All-tail (IsWaiting task) item rest waiting }
 
     -- ---- sizes
 
@@ -76,11 +80,13 @@ module _ (task : Task) where
       state-within : (state : SymState) → IsGivenState task state → IsStateWithinSizes state
       state-within state given = state-sizes task good state (state-wide task good state given)
 
-      pub node-within : (node : ℕ) (states : List SymState) → node < length task.flow.nodes → states ≡ slice_index_or listing.nodes node states → All IsStateWithinSizes states
+      pub node-within : (node : ℕ) (states : List SymState) → node < length task.flow.nodes
+          → states ≡ slice_index_or listing.nodes node states → All IsStateWithinSizes states
       node-within node states within same =
           let there : node < length listing.nodes = subst (λ n. node < n) (sym is.one_each) within in
           All-weaker (IsGivenState task) IsStateWithinSizes state-within states
-          (All-same (IsGivenState task) states (listed_at node listing) (same ∙ get_or_default listing.nodes node states [] there) (node-given node within))
+          (All-same (IsGivenState task) states (listed_at node listing) (same ∙ get_or_default listing.nodes node states [] there)
+          (node-given node within))
 
       post-within : (post : Post) → IsGivenPost task post → IsPostWithinSizes post
       post-within post given = post-sizes task good post (post-wide task good post given)

@@ -22,7 +22,8 @@ abbrev pub taken : Listing → List (ℕ × SymState) → Listing
 taken listing rest = record { nodes = listing.nodes; exits = listing.exits; queue = rest }
 
 -- a state waits
-module _ (task : Task) (listing : Listing) (whole : Annotated) (left more node : ℕ) (state : SymState) (rest : List (ℕ × SymState)) (first : listing.queue ≡ (node, state) ∷ rest)
+module _ (task : Task) (listing : Listing) (whole : Annotated) (left more node : ℕ) (state : SymState) (rest : List (ℕ × SymState))
+    (first : listing.queue ≡ (node, state) ∷ rest)
     (is_more : left ≡ suc more) (known : whole ≡ turns left task listing) where
   turned : whole ≡ end_of (turns more task) (turn_of task node state (taken listing rest))
   turned = known ∙ ap (λ n. turns n task listing) is_more ∙ ap (λ queue. with_turn (turns more task) task listing queue) first
@@ -36,10 +37,13 @@ module _ (task : Task) (listing : Listing) (whole : Annotated) (left more node :
   turn-ended annotated ends = sym (turned ∙ ap (λ course. end_of (turns more task) course) (sym ends))
 
 -- the start state has come: there are turns, unless it ended
-pub start-more : {E : Type 0} (outcome : Result (Option Ended) E) (again : Listing → Annotated) (course : Course) (first last : Listing) → Goes first ≡ course →
+pub start-more : {E : Type 0} (outcome : Result (Option Ended) E) (again : Listing → Annotated) (course : Course) (first last : Listing) →
+    Goes first ≡ course →
     IfOk outcome (λ how. annotated_of how last ≡ again first) → IfOk outcome (λ how. annotated_of how last ≡ end_of again course)
 start-more outcome again course first last goes known =
-    IfOk-weaker outcome (λ how. annotated_of how last ≡ again first) (λ how. annotated_of how last ≡ end_of again course) (λ how same. same ∙ ap (λ one. end_of again one) goes) known
+    IfOk-weaker outcome (λ how. annotated_of how last ≡ again first) (λ how. annotated_of how last ≡ end_of again course)
+    (λ how same. same ∙ ap (λ one. end_of again one) goes) known
 
-pub start-ended : (again : Listing → Annotated) (course : Course) (annotated : Annotated) → Ends annotated ≡ course → annotated ≡ end_of again course
+pub start-ended : (again : Listing → Annotated) (course : Course) (annotated : Annotated) → Ends annotated ≡ course →
+    annotated ≡ end_of again course
 start-ended again course annotated ends = ap (λ one. end_of again one) ends

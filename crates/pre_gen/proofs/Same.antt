@@ -9,5 +9,7 @@ use Rattle.candidate_laws.specs.Coming.{same_pair}
 
 pub same_pair-Decides : (a b : Pair) → Decides (same_pair a b) (a ≡ b)
 same_pair-Decides a b =
-    Decides-like (same_pair a b) (λ both. λ i. record { missing = both.0 i; state = both.1 i }) (λ same. (ap (λ (p : Pair). p.missing) same, ap (λ (p : Pair). p.state) same))
-    (Decides-and (same_heap a.missing b.missing) (same_state a.state b.state) (same_heap-Decides a.missing b.missing) (same_state-Decides a.state b.state))
+    Decides-like (same_pair a b) (λ both. λ i. record { missing = both.0 i; state = both.1 i })
+    (λ same. (ap (λ (p : Pair). p.missing) same, ap (λ (p : Pair). p.state) same))
+    (Decides-and (same_heap a.missing b.missing) (same_state a.state b.state) (same_heap-Decides a.missing b.missing)
+    (same_state-Decides a.state b.state))

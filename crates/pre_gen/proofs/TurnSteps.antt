@@ -7,13 +7,15 @@ use Rattle.sym_canon.specs.declared.parts.Pair.{Pair}
 use Rattle.exec_laws.specs.declared.parts.Case.{Case}
 use Rattle.certificate_laws.specs.Coming.{Task}
 use Rattle.certificate_laws.specs.Gaps.{line_at}
-use Rattle.candidate_laws.specs.Candidates.{candidates, case_comes, cases_come, found_by, started, turn_of, turns, with_turn, without_turns, MOST_TURNS}
+use Rattle.candidate_laws.specs.Candidates.{candidates, case_comes, cases_come, found_by, started, turn_of, turns, with_turn, without_turns}
+use Rattle.candidate_laws.specs.Candidates.{MOST_TURNS}
 use Rattle.candidate_laws.specs.Conditions.{IsSearch, IsWaiting}
 use Rattle.candidate_laws.specs.Searching.{Search, drops}
 use Rattle.candidate_laws.proofs.SearchFormed.{popped}
 
 -- one case more
-pub one-more : (task : Task) (line : ℕ) (cases : List Case) (case : Case) (search : Search) → cases_come task line (cases ++ case ∷ []) search ≡ case_comes task line case (cases_come task line cases search)
+pub one-more : (task : Task) (line : ℕ) (cases : List Case) (case : Case) (search : Search)
+    → cases_come task line (cases ++ case ∷ []) search ≡ case_comes task line case (cases_come task line cases search)
 one-more task line [] case search = refl
 one-more task line (first ∷ cases) case search = one-more task line cases case (case_comes task line first search)
 
@@ -27,14 +29,18 @@ module _ (task : Task) (most place : ℕ) (whole before : Search) (known : whole
     one-left = omega (arith, within)
 
     -- a turn
-    pub turn-more : (node : ℕ) (pair : Pair) (queue : List (ℕ × Pair)) (after : Search) → before.queue ≡ (node, pair) ∷ queue → after ≡ turn_of task node pair (popped before queue) → whole ≡ turns (most - (place + 1)) task after
+    pub turn-more : (node : ℕ) (pair : Pair) (queue : List (ℕ × Pair)) (after : Search) → before.queue ≡ (node, pair) ∷ queue
+        → after ≡ turn_of task node pair (popped before queue) → whole ≡ turns (most - (place + 1)) task after
     turn-more node pair queue after is taken =
-        known ∙ ap (λ left. turns left task before) one-left ∙ ap (with_turn (turns (most - (place + 1)) task) task before) is ∙ ap (turns (most - (place + 1)) task) (sym taken)
+        known ∙ ap (λ left. turns left task before) one-left ∙ ap (with_turn (turns (most - (place + 1)) task) task before) is
+        ∙ ap (turns (most - (place + 1)) task) (sym taken)
 
     -- nothing waits
     pub turn-none : (queue : List (ℕ × Pair)) → length before.queue ≡ 0 → before.queue ≡ queue → popped before queue ≡ whole
     turn-none queue none same =
-        ap (popped before) (sym same) ∙ sym (known ∙ ap (λ left. turns left task before) one-left ∙ ap (with_turn (turns (most - (place + 1)) task) task before) (nothing before.queue none))
+        ap (popped before) (sym same)
+        ∙ sym (known ∙ ap (λ left. turns left task before) one-left
+        ∙ ap (with_turn (turns (most - (place + 1)) task) task before) (nothing before.queue none))
 
   -- no turn is left
   pub no-turn : most ≤ place → without_turns task before before.queue ≡ whole
@@ -46,15 +52,22 @@ unfolding candidates
 all-turns task search is = ap found_by is
 
 -- a search without the first of its queue is well formed
-pub popped-fine : (task : Task) (node : ℕ) (pair : Pair) (queue : List (ℕ × Pair)) (search : Search) → search.queue ≡ (node, pair) ∷ queue → IsSearch task search → IsSearch task (popped search queue)
+pub popped-fine : (task : Task) (node : ℕ) (pair : Pair) (queue : List (ℕ × Pair)) (search : Search) → search.queue ≡ (node, pair) ∷ queue
+    → IsSearch task search → IsSearch task (popped search queue)
 popped-fine task node pair queue search is fine =
-    record { one_each = fine.one_each; nodes = fine.nodes; queue = All-tail (IsWaiting task) (node, pair) queue (subst (λ all. All (IsWaiting task) all) is fine.queue); pres = fine.pres }
+    record {
+      one_each = fine.one_each;
+      nodes = fine.nodes;
+      queue = All-tail (IsWaiting task) (node, pair) queue (subst (λ all. All (IsWaiting task) all) is fine.queue);
+      pres = fine.pres;
+    }
 
 -- nothing waits, or the first of the queue does
 pub none-waits : (task : Task) (search : Search) (queue : List (ℕ × Pair)) → length queue ≤ 0 → search ≡ without_turns task search queue
 none-waits task search [] none = refl
 none-waits task search (one ∷ queue) none = absurd (omega (arith, none))
 
-pub first-waits : (task : Task) (search : Search) (queue : List (ℕ × Pair)) (first : ℕ × Pair) → 0 < length queue → first ≡ slice_index_or queue 0 first → drops fault.Turns (line_at task first.0) search ≡ without_turns task search queue
+pub first-waits : (task : Task) (search : Search) (queue : List (ℕ × Pair)) (first : ℕ × Pair) → 0 < length queue
+    → first ≡ slice_index_or queue 0 first → drops fault.Turns (line_at task first.0) search ≡ without_turns task search queue
 first-waits task search [] first some is = absurd (omega (arith, some))
 first-waits task search (one ∷ queue) first some is = ap (λ (entry : ℕ × Pair). drops fault.Turns (line_at task entry.0) search) is

@@ -1,5 +1,6 @@
 -- A text has no more tokens than bytes, a file no more items than tokens, and files no more structures than items.
-use Rattle.std.proofs.Common.{◌≡◌, ℕ, suc, ◌+◌, ◌<◌, ◌≤◌, Bool, true, false, cond, List, [], ◌∷◌, ◌++◌, length, length-append, refl, ap, ◌∙◌, arith}
+use Rattle.std.proofs.Common.{◌≡◌, ℕ, suc, ◌+◌, ◌<◌, ◌≤◌, Bool, true, false, cond, List, [], ◌∷◌, ◌++◌, length, length-append, refl, ap}
+use Rattle.std.proofs.Common.{◌∙◌, arith}
 use Rattle.std.specs.List.{AllZip}
 use Rattle.std.proofs.lemmas.List.{length-map}
 use Rattle.std.proofs.lemmas.List.Sums.{sum_by-cons}
@@ -23,7 +24,8 @@ use Rattle.project_form.specs.Files.{SourceFile, bytes_of, text_length}
 
 -- TOKENS
 
-piece_tokens : (at : Position) (piece behind : List ℕ) (found : List Token) (fresh : Bool) → IsPiece at piece behind found fresh → length found ≤ length piece
+piece_tokens : (at : Position) (piece behind : List ℕ) (found : List Token) (fresh : Bool) → IsPiece at piece behind found fresh
+    → length found ≤ length piece
 piece_tokens at piece behind _ _ (IsPiece.line_feed is) = omega arith
 piece_tokens at piece behind _ _ (IsPiece.gap is) = omega arith
 piece_tokens at piece behind _ _ (IsPiece.line_comment is) = omega arith
@@ -51,7 +53,8 @@ length-words_of (token ∷ tokens) = ap (λ n. suc n) (length-words_of tokens)
 
 -- ITEMS
 
-items_few : (n : ℕ) (items : List Item) (from to : List Word) → deepest item_nesting items ≤ n → each item items from to → length items + length to ≤ length from
+items_few : (n : ℕ) (items : List Item) (from to : List Word) → deepest item_nesting items ≤ n → each item items from to
+    → length items + length to ≤ length from
 items_few n [] from to fits is = let same = ap length is in omega arith
 items_few n (first ∷ others) from to fits (mid, one, more) =
     let shorter = fewer (Forms.item_form n) (item_good n) refl from mid (is_item first n from mid (omega arith) one) in
@@ -92,7 +95,8 @@ items_structures (first ∷ others) =
     let both = length-append (declares first).structures (declared_by others).structures in
     omega arith
 
-left_or_kept : (b : Bool) (first : Structure) (one other : List Structure) (n : ℕ) → length one ≤ n → length other ≤ n → length (cond b one (first ∷ other)) ≤ suc n
+left_or_kept : (b : Bool) (first : Structure) (one other : List Structure) (n : ℕ) → length one ≤ n → length other ≤ n
+    → length (cond b one (first ∷ other)) ≤ suc n
 left_or_kept true first one other n left kept = omega arith
 left_or_kept false first one other n left kept = omega arith
 

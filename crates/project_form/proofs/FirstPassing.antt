@@ -1,5 +1,6 @@
 -- The first member of a list that passes a test: it is changed, it goes, or one is put before it.
-use Rattle.std.proofs.Common.{◌≡◌, ℕ, zero, suc, ◌+◌, ◌-◌, ◌<◌, ◌≤◌, Bool, true, false, ltb, List, [], ◌∷◌, length, get_or, set, Some, None, refl, sym, ap, ◌∙◌, arith}
+use Rattle.std.proofs.Common.{◌≡◌, ℕ, zero, suc, ◌+◌, ◌-◌, ◌<◌, ◌≤◌, Bool, true, false, ltb, List, [], ◌∷◌, length, get_or, set, Some, None}
+use Rattle.std.proofs.Common.{refl, sym, ap, ◌∙◌, arith}
 use Rattle.std.specs.List.{position_or_len, position, list_any, insert, remove, sum_by}
 use Rattle.std.specs.Prelude.{map, unwrap_or, ◌||◌}
 use Rattle.std.proofs.lemmas.Bool.{ltb-true, ltb-false}
@@ -12,7 +13,8 @@ module _ {X : Type 0} (test : X → Bool) where
   pub place-found : (xs : List X) (place : ℕ) → position test xs ≡ Some place → (position_or_len test xs ≡ place) × (place < length xs)
   place-found xs place is = by (ltb (position_or_len test xs) (length xs)) refl is
     where
-      by : (b : Bool) → ltb (position_or_len test xs) (length xs) ≡ b → position test xs ≡ Some place → (position_or_len test xs ≡ place) × (place < length xs)
+      by : (b : Bool) → ltb (position_or_len test xs) (length xs) ≡ b → position test xs ≡ Some place
+          → (position_or_len test xs ≡ place) × (place < length xs)
       by true inside told =
           let there : Some (position_or_len test xs) ≡ Some place = rw inside at told in
           let same : position_or_len test xs ≡ place = cc in
@@ -63,7 +65,8 @@ module _ {X : Type 0} (test : X → Bool) where
   -- IN PLACE OF IT
 
   -- a list with one member more in front: the place is the first, or it is one further on
-  next_place : (x : X) (xs : List X) (place : ℕ) → test x ≡ false → position_or_len test (x ∷ xs) ≡ suc place → position_or_len test xs ≡ place
+  next_place : (x : X) (xs : List X) (place : ℕ) → test x ≡ false → position_or_len test (x ∷ xs) ≡ suc place
+      → position_or_len test xs ≡ place
   next_place x xs place is there = let told : 1 + position_or_len test xs ≡ suc place = rw is at there in omega arith
 
   not_first : (x : X) (xs : List X) (place : ℕ) → test x ≡ true → position_or_len test (x ∷ xs) ≡ suc place → ⊥
@@ -90,7 +93,8 @@ module _ {X : Type 0} (test : X → Bool) where
   without-at (x ∷ xs) place there inside = by (test x) refl place there inside (without-at xs)
     where
       by : (b : Bool) → test x ≡ b → (place : ℕ) → position_or_len test (x ∷ xs) ≡ place → place < suc (length xs)
-          → ((k : ℕ) → position_or_len test xs ≡ k → k < length xs → without_first test xs ≡ remove xs k) → without_first test (x ∷ xs) ≡ remove (x ∷ xs) place
+          → ((k : ℕ) → position_or_len test xs ≡ k → k < length xs → without_first test xs ≡ remove xs k)
+          → without_first test (x ∷ xs) ≡ remove (x ∷ xs) place
       by true is zero there inside rest = rw is refl
       by true is (suc k) there inside rest = absurd (not_first x xs k is there)
       by false is zero there inside rest = absurd (not_later x xs is there)
@@ -100,18 +104,21 @@ module _ {X : Type 0} (test : X → Bool) where
   without-none [] past = refl
   without-none (x ∷ xs) past = by (test x) refl (without-none xs)
     where
-      by : (b : Bool) → test x ≡ b → (length xs ≤ position_or_len test xs → without_first test xs ≡ xs) → without_first test (x ∷ xs) ≡ x ∷ xs
+      by : (b : Bool) → test x ≡ b → (length xs ≤ position_or_len test xs → without_first test xs ≡ xs)
+          → without_first test (x ∷ xs) ≡ x ∷ xs
       by true is rest = let less : suc (length xs) ≤ 0 = rw is at past in absurd (omega arith)
       by false is rest =
           let more : suc (length xs) ≤ 1 + position_or_len test xs = rw is at past in
           rw is (ap (λ ys. x ∷ ys) (rest (omega arith)))
 
-  pub inserted-at : (one : X) (xs : List X) (place : ℕ) → position_or_len test xs ≡ place → inserted_before test one xs ≡ insert xs place one
+  pub inserted-at : (one : X) (xs : List X) (place : ℕ) → position_or_len test xs ≡ place
+      → inserted_before test one xs ≡ insert xs place one
   inserted-at one [] place there = rw (← there) refl
   inserted-at one (x ∷ xs) place there = by (test x) refl place there (inserted-at one xs)
     where
       by : (b : Bool) → test x ≡ b → (place : ℕ) → position_or_len test (x ∷ xs) ≡ place
-          → ((k : ℕ) → position_or_len test xs ≡ k → inserted_before test one xs ≡ insert xs k one) → inserted_before test one (x ∷ xs) ≡ insert (x ∷ xs) place one
+          → ((k : ℕ) → position_or_len test xs ≡ k → inserted_before test one xs ≡ insert xs k one)
+          → inserted_before test one (x ∷ xs) ≡ insert (x ∷ xs) place one
       by true is zero there rest = rw is refl
       by true is (suc k) there rest = absurd (not_first x xs k is there)
       by false is zero there rest = absurd (not_later x xs is there)
@@ -123,7 +130,8 @@ module _ {X : Type 0} (test : X → Bool) where
   length-changed change [] = refl
   length-changed change (x ∷ xs) = by (test x) refl (length-changed change xs)
     where
-      by : (b : Bool) → test x ≡ b → length (changed_first test change xs) ≡ length xs → length (changed_first test change (x ∷ xs)) ≡ suc (length xs)
+      by : (b : Bool) → test x ≡ b → length (changed_first test change xs) ≡ length xs
+          → length (changed_first test change (x ∷ xs)) ≡ suc (length xs)
       by true is rest = rw is refl
       by false is rest = rw is (ap suc rest)
 
@@ -131,7 +139,8 @@ module _ {X : Type 0} (test : X → Bool) where
   length-inserted one [] = refl
   length-inserted one (x ∷ xs) = by (test x) refl (length-inserted one xs)
     where
-      by : (b : Bool) → test x ≡ b → length (inserted_before test one xs) ≡ suc (length xs) → length (inserted_before test one (x ∷ xs)) ≡ suc (suc (length xs))
+      by : (b : Bool) → test x ≡ b → length (inserted_before test one xs) ≡ suc (length xs)
+          → length (inserted_before test one (x ∷ xs)) ≡ suc (suc (length xs))
       by true is rest = rw is refl
       by false is rest = rw is (ap suc rest)
 
@@ -149,7 +158,8 @@ module _ {X : Type 0} (test : X → Bool) where
   sum-without size [] = omega arith
   sum-without size (x ∷ xs) = by (test x) refl (sum-without size xs)
     where
-      by : (b : Bool) → test x ≡ b → sum_by size (without_first test xs) ≤ sum_by size xs → sum_by size (without_first test (x ∷ xs)) ≤ sum_by size (x ∷ xs)
+      by : (b : Bool) → test x ≡ b → sum_by size (without_first test xs) ≤ sum_by size xs
+          → sum_by size (without_first test (x ∷ xs)) ≤ sum_by size (x ∷ xs)
       by true is rest = let whole = sum_by-cons size x xs in rw is (omega (arith, whole))
       by false is rest =
           let whole = sum_by-cons size x xs in

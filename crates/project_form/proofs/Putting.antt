@@ -1,16 +1,20 @@
 -- What putting and dropping a file does to a list of files with marks, place by place, and to the files without their marks.
-use Rattle.std.proofs.Common.{◌≡◌, ℕ, ◌+◌, ◌-◌, ◌<◌, ◌≤◌, Bool, true, false, ltb, leb, List, [], ◌∷◌, length, get_or, set, Option, Some, None, Result, Ok, Err, OnOk, OnErr, refl, sym, ap, ◌∙◌, subst, inl, inr, arith}
+use Rattle.std.proofs.Common.{◌≡◌, ℕ, ◌+◌, ◌-◌, ◌<◌, ◌≤◌, Bool, true, false, ltb, leb, List, [], ◌∷◌, length, get_or, set, Option, Some}
+use Rattle.std.proofs.Common.{None, Result, Ok, Err, OnOk, OnErr, refl, sym, ap, ◌∙◌, subst, inl, inr, arith}
 use Rattle.std.specs.List.{position_or_len, position, insert, remove, sum_by, list_any}
 use Rattle.std.specs.Prelude.{map, not, IfErr, IsErrAnd, ◌&&◌, ◌⊎◌, if◌then◌else◌}
 use Rattle.std.proofs.lemmas.Bool.{lt-ltb, le-ltb, le-leb, lt-leb, ltb-false, leb-false}
 use Rattle.std.proofs.lemmas.List.Sums.{sum_by-cons, sum_by-set, sum_by-insert}
-use Rattle.project_form.specs.Files.{SourceFile, AreFiles, MOST_BYTES, MOST_FILES, MOST_FILE_BYTES, bytes_of, has_file, is_named, put_refusal, source, stands_before, text_length, with_file, with_text, without_file}
-use Rattle.project_form.specs.Kept.{KeptFile, is_kept_named, kept_length, new_file, source_of, sources_of, stands_before_kept, with_bytes, with_kept, without_kept}
+use Rattle.project_form.specs.Files.{SourceFile, AreFiles, MOST_BYTES, MOST_FILES, MOST_FILE_BYTES, bytes_of, has_file, is_named}
+use Rattle.project_form.specs.Files.{put_refusal, source, stands_before, text_length, with_file, with_text, without_file}
+use Rattle.project_form.specs.Kept.{KeptFile, is_kept_named, kept_length, new_file, source_of, sources_of, stands_before_kept, with_bytes}
+use Rattle.project_form.specs.Kept.{with_kept, without_kept}
 use Rattle.project_form.proofs.FirstPassing as firsts
 
 pub bytes-kept : (files : List KeptFile) → bytes_of (sources_of files) ≡ sum_by kept_length files
 bytes-kept [] = refl
-bytes-kept (kept ∷ files) = sum_by-cons text_length kept.file (sources_of files) ∙ ap (λ n. kept_length kept + n) (bytes-kept files) ∙ sym (sum_by-cons kept_length kept files)
+bytes-kept (kept ∷ files) = sum_by-cons text_length kept.file (sources_of files) ∙ ap (λ n. kept_length kept + n) (bytes-kept files)
+    ∙ sym (sum_by-cons kept_length kept files)
 
 -- WHERE A FILE STANDS
 
@@ -31,9 +35,13 @@ module _ (name : List ℕ) (files : List KeptFile) where
   pub with_kept-sources : (bytes : List ℕ) → sources_of (with_kept name bytes files) ≡ with_file name bytes (sources_of files)
   with_kept-sources bytes = by (has_file name (sources_of files)) refl
     where
-      by : (b : Bool) → has_file name (sources_of files) ≡ b → sources_of (with_kept name bytes files) ≡ with_file name bytes (sources_of files)
-      by true is = rw is (firsts.changed-map source_of (is_kept_named name) (is_named name) (λ k. refl) (with_bytes bytes) (with_text bytes) (λ k. refl) files)
-      by false is = rw is (firsts.inserted-map source_of (stands_before_kept name) (stands_before name) (λ k. refl) (new_file name bytes) files)
+      by : (b : Bool) → has_file name (sources_of files) ≡ b
+          → sources_of (with_kept name bytes files) ≡ with_file name bytes (sources_of files)
+      by true is =
+          rw is (firsts.changed-map source_of (is_kept_named name) (is_named name) (λ k. refl) (with_bytes bytes) (with_text bytes)
+          (λ k. refl) files)
+      by false is =
+          rw is (firsts.inserted-map source_of (stands_before_kept name) (stands_before name) (λ k. refl) (new_file name bytes) files)
 
   pub without_kept-sources : sources_of (without_kept name files) ≡ without_file name (sources_of files)
   without_kept-sources = firsts.without-map source_of (is_kept_named name) (is_named name) (λ k. refl) files
@@ -53,7 +61,8 @@ module _ (name : List ℕ) (files : List KeptFile) where
       → with_kept name bytes files ≡ insert files (position_or_len (stands_before_kept name) files) (new_file name bytes)
   inserted-is bytes nowhere =
       let has = none-has nowhere in
-      rw has (firsts.inserted-at (stands_before_kept name) (new_file name bytes) files (position_or_len (stands_before_kept name) files) refl)
+      rw has (firsts.inserted-at (stands_before_kept name) (new_file name bytes) files
+      (position_or_len (stands_before_kept name) files) refl)
 
   -- DROPPING
 
@@ -71,7 +80,8 @@ module _ (name : List ℕ) (files : List KeptFile) where
   with-bytes_of bytes = ap bytes_of (sym (with_kept-sources bytes)) ∙ bytes-kept (with_kept name bytes files)
 
   pub replaced-bytes : (bytes : List ℕ) (place : ℕ) (d : KeptFile) → position (is_kept_named name) files ≡ Some place
-      → bytes_of (with_file name bytes (sources_of files)) + length (get_or files place d).file.bytes ≡ bytes_of (sources_of files) + length bytes
+      → bytes_of (with_file name bytes (sources_of files)) + length (get_or files place d).file.bytes
+      ≡ bytes_of (sources_of files) + length bytes
   replaced-bytes bytes place d there =
       let found = firsts.place-found (is_kept_named name) files place there in
       let all = with-bytes_of bytes ∙ ap (sum_by kept_length) (replaced-is bytes place d there) in
@@ -79,7 +89,8 @@ module _ (name : List ℕ) (files : List KeptFile) where
       let before = bytes-kept files in
       omega (arith, all, changed, before)
 
-  pub inserted-bytes : (bytes : List ℕ) → position (is_kept_named name) files ≡ None → bytes_of (with_file name bytes (sources_of files)) ≡ bytes_of (sources_of files) + length bytes
+  pub inserted-bytes : (bytes : List ℕ) → position (is_kept_named name) files ≡ None
+      → bytes_of (with_file name bytes (sources_of files)) ≡ bytes_of (sources_of files) + length bytes
   inserted-bytes bytes nowhere =
       let all = with-bytes_of bytes ∙ ap (sum_by kept_length) (inserted-is bytes nowhere) in
       let more = sum_by-insert kept_length files (position_or_len (stands_before_kept name) files) (new_file name bytes) in
@@ -106,7 +117,8 @@ module _ (name bytes : List ℕ) (files : List SourceFile) where
   not_long : length bytes ≤ MOST_FILE_BYTES → put_refusal name bytes files ≡ behind_long
   not_long short = if_second (ltb MOST_FILE_BYTES (length bytes)) _ _ (le-ltb MOST_FILE_BYTES (length bytes) short)
 
-  pub refused-many : length bytes ≤ MOST_FILE_BYTES → has_file name files ≡ false → MOST_FILES ≤ length files → put_refusal name bytes files ≡ Some 141
+  pub refused-many : length bytes ≤ MOST_FILE_BYTES → has_file name files ≡ false → MOST_FILES ≤ length files
+      → put_refusal name bytes files ≡ Some 141
   refused-many short fresh many = not_long short ∙ (let full = le-leb MOST_FILES (length files) many in rw (fresh, full) refl)
 
   -- the place suffices: only the bytes of all may be too many
@@ -121,12 +133,14 @@ module _ (name bytes : List ℕ) (files : List SourceFile) where
       and_false true = refl
       and_false false = refl
 
-  pub refused-full : length bytes ≤ MOST_FILE_BYTES → HasPlace → MOST_BYTES < bytes_of (with_file name bytes files) → put_refusal name bytes files ≡ Some 144
+  pub refused-full : length bytes ≤ MOST_FILE_BYTES → HasPlace → MOST_BYTES < bytes_of (with_file name bytes files)
+      → put_refusal name bytes files ≡ Some 144
   refused-full short place much =
       let is = lt-ltb MOST_BYTES (bytes_of (with_file name bytes files)) much in
       not_long short ∙ if_second _ _ _ (placed place) ∙ if_first (ltb MOST_BYTES (bytes_of (with_file name bytes files))) _ _ is
 
-  pub not_refused : length bytes ≤ MOST_FILE_BYTES → HasPlace → bytes_of (with_file name bytes files) ≤ MOST_BYTES → put_refusal name bytes files ≡ None
+  pub not_refused : length bytes ≤ MOST_FILE_BYTES → HasPlace → bytes_of (with_file name bytes files) ≤ MOST_BYTES
+      → put_refusal name bytes files ≡ None
   not_refused short place little =
       let is = le-ltb MOST_BYTES (bytes_of (with_file name bytes files)) little in
       not_long short ∙ if_second _ _ _ (placed place) ∙ if_second (ltb MOST_BYTES (bytes_of (with_file name bytes files))) _ _ is
@@ -134,11 +148,13 @@ module _ (name bytes : List ℕ) (files : List SourceFile) where
 -- LIMITS
 
 module _ (name bytes : List ℕ) (files : List SourceFile) (fine : AreFiles files) where
-  all_bytes : (b : Bool) → ltb MOST_BYTES (bytes_of (with_file name bytes files)) ≡ b → if◌then◌else◌ {A = Option ℕ} b (Some 144) None ≡ None → bytes_of (with_file name bytes files) ≤ MOST_BYTES
+  all_bytes : (b : Bool) → ltb MOST_BYTES (bytes_of (with_file name bytes files)) ≡ b
+      → if◌then◌else◌ {A = Option ℕ} b (Some 144) None ≡ None → bytes_of (with_file name bytes files) ≤ MOST_BYTES
   all_bytes true is told = cc
   all_bytes false is told = ltb-false MOST_BYTES (bytes_of (with_file name bytes files)) is
 
-  all_names : (b : Bool) → has_file name files ≡ b → (not b && leb MOST_FILES (length files)) ≡ false → length (with_file name bytes files) ≤ MOST_FILES
+  all_names : (b : Bool) → has_file name files ≡ b → (not b && leb MOST_FILES (length files)) ≡ false
+      → length (with_file name bytes files) ≤ MOST_FILES
   all_names true is fits =
       let few = fine.few in
       let same = firsts.length-changed (is_named name) (with_text bytes) files in
@@ -149,7 +165,8 @@ module _ (name bytes : List ℕ) (files : List SourceFile) (fine : AreFiles file
       rw is (omega (arith, few, same))
 
   in_place : (b : Bool) → (not (has_file name files) && leb MOST_FILES (length files)) ≡ b
-      → if◌then◌else◌ {A = Option ℕ} b (Some 141) (if◌then◌else◌ {A = Option ℕ} (ltb MOST_BYTES (bytes_of (with_file name bytes files))) (Some 144) None) ≡ None
+      → if◌then◌else◌ {A = Option ℕ} b (Some 141)
+      (if◌then◌else◌ {A = Option ℕ} (ltb MOST_BYTES (bytes_of (with_file name bytes files))) (Some 144) None) ≡ None
       → AreFiles (with_file name bytes files)
   in_place true is told = cc
   in_place false is told = record {
@@ -159,7 +176,8 @@ module _ (name bytes : List ℕ) (files : List SourceFile) (fine : AreFiles file
 
   in_length : (b : Bool) → if◌then◌else◌ {A = Option ℕ} b (Some 143)
       (if◌then◌else◌ {A = Option ℕ} (not (has_file name files) && leb MOST_FILES (length files)) (Some 141)
-      (if◌then◌else◌ {A = Option ℕ} (ltb MOST_BYTES (bytes_of (with_file name bytes files))) (Some 144) None)) ≡ None → AreFiles (with_file name bytes files)
+      (if◌then◌else◌ {A = Option ℕ} (ltb MOST_BYTES (bytes_of (with_file name bytes files))) (Some 144) None)) ≡ None
+      → AreFiles (with_file name bytes files)
   in_length true told = cc
   in_length false told = in_place (not (has_file name files) && leb MOST_FILES (length files)) refl told
 
@@ -176,13 +194,15 @@ dropped-AreFiles name files fine =
 
 -- behind a put, whether it was refused or not
 pub put-limits : {T E : Type 0} (r : Result T E) (name bytes : List ℕ) (olds news : List KeptFile) → AreFiles (sources_of olds)
-    → OnOk r (news ≡ with_kept name bytes olds) → OnOk r (put_refusal name bytes (sources_of olds) ≡ None) → OnErr r (news ≡ olds) → AreFiles (sources_of news)
+    → OnOk r (news ≡ with_kept name bytes olds) → OnOk r (put_refusal name bytes (sources_of olds) ≡ None) → OnErr r (news ≡ olds)
+    → AreFiles (sources_of news)
 put-limits (Ok x) name bytes olds news fine is may same =
     subst (λ (files : List KeptFile). AreFiles (sources_of files)) (sym is)
     (subst AreFiles (sym (with_kept-sources name olds bytes)) (put-AreFiles name bytes (sources_of olds) fine may))
 put-limits (Err e) name bytes olds news fine is may same = subst (λ (files : List KeptFile). AreFiles (sources_of files)) (sym same) fine
 
-pub put-sources : {T E : Type 0} (r : Result T E) (name bytes : List ℕ) (olds news : List KeptFile) → OnOk r (news ≡ with_kept name bytes olds)
+pub put-sources : {T E : Type 0} (r : Result T E) (name bytes : List ℕ) (olds news : List KeptFile)
+    → OnOk r (news ≡ with_kept name bytes olds)
     → OnOk r (sources_of news ≡ with_file name bytes (sources_of olds))
 put-sources (Ok x) name bytes olds news is = ap sources_of is ∙ with_kept-sources name olds bytes
 put-sources (Err e) name bytes olds news is = tt

@@ -27,7 +27,8 @@ one_file text one other u v =
     let same = one_reading text u.tokens v.tokens u.has v.has in
     one_tree (words_of u.tokens) one other u.spells (subst (λ ts. Spells other (words_of ts)) (sym same) v.spells)
 
-file_or_refused : (text : List ℕ) (file : File) (refusal : Refusal) (tokens : List Token) → IsUnitOf text file → HasTokens text tokens → RefusedAt (words_of tokens) refusal → ⊥
+file_or_refused : (text : List ℕ) (file : File) (refusal : Refusal) (tokens : List Token) → IsUnitOf text file → HasTokens text tokens
+    → RefusedAt (words_of tokens) refusal → ⊥
 file_or_refused text file refusal tokens u has at =
     let same = one_reading text u.tokens tokens u.has has in
     words.not_both (words_of tokens) file refusal (subst (λ ts. Spells file (words_of ts)) same u.spells) u.levels at
@@ -51,7 +52,8 @@ same_readings [] [] (s ∷ ss) a b = absurd b
 same_readings [] (r ∷ rs) other a b = absurd a
 same_readings (file ∷ files) [] other a b = absurd a
 same_readings (file ∷ files) (r ∷ rs) [] a b = absurd b
-same_readings (file ∷ files) (r ∷ rs) (s ∷ ss) a b = ap₂ (λ x xs. x ∷ xs) (same_reading file.bytes r s a.0 b.0) (same_readings files rs ss a.1 b.1)
+same_readings (file ∷ files) (r ∷ rs) (s ∷ ss) a b =
+    ap₂ (λ x xs. x ∷ xs) (same_reading file.bytes r s a.0 b.0) (same_readings files rs ss a.1 b.1)
 
 pub one_answer : (files : List SourceFile) (one other : Result Program Refused) → Reads files one → Reads files other → one ≡ other
 one_answer files one other a b = a.means ∙ ap (answer_of files) (same_readings files a.readings b.readings a.read b.read) ∙ sym b.means
@@ -71,12 +73,14 @@ some_reading : (text : List ℕ) → (reading : Reading) × IsRead text reading
 some_reading text = at_tokens (either text)
   where
     at_words : (tokens : List Token) → HasTokens text tokens
-        → ((file : File) × Spells file (words_of tokens) × (file_nesting file ≤ MOST_LEVELS)) ⊎ ((refusal : Refusal) × RefusedAt (words_of tokens) refusal)
+        → ((file : File) × Spells file (words_of tokens) × (file_nesting file ≤ MOST_LEVELS))
+        ⊎ ((refusal : Refusal) × RefusedAt (words_of tokens) refusal)
         → (reading : Reading) × IsRead text reading
     at_words tokens has (inl (file, spells, levels)) = (Tree file, record { tokens = tokens; has = has; spells = spells; levels = levels })
     at_words tokens has (inr (refusal, at)) = (NoFile refusal, (tokens, has, at))
 
-    at_tokens : ((tokens : List Token) × HasTokens text tokens) ⊎ ((refusal : Refusal) × Refuses text refusal) → (reading : Reading) × IsRead text reading
+    at_tokens : ((tokens : List Token) × HasTokens text tokens) ⊎ ((refusal : Refusal) × Refuses text refusal)
+        → (reading : Reading) × IsRead text reading
     at_tokens (inl (tokens, has)) = at_words tokens has (words.either tokens (listed text tokens has))
     at_tokens (inr (refusal, r)) = (NoTokens refusal, r)
 

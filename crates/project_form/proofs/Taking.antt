@@ -1,5 +1,6 @@
 -- Syntax trees are taken out of the files, and come back.
-use Rattle.std.proofs.Common.{◌≡◌, ℕ, ◌+◌, ◌<◌, true, List, [], ◌∷◌, ◌++◌, length, get_or, take, drop, refl, sym, ap, ap₂, ◌∙◌, subst, arith}
+use Rattle.std.proofs.Common.{◌≡◌, ℕ, ◌+◌, ◌<◌, true, List, [], ◌∷◌, ◌++◌, length, get_or, take, drop, refl, sym, ap, ap₂, ◌∙◌, subst}
+use Rattle.std.proofs.Common.{arith}
 use Rattle.std.specs.Prelude.{map}
 use Rattle.std.proofs.lemmas.List.{length-map, length-take, get_or_at, take_at, take_more, drop_more}
 use Rattle.std.proofs.lemmas.List.Elements.{All-head, All-tail}
@@ -11,19 +12,24 @@ use Rattle.project_form.specs.Parts.{AreUnits}
 use Rattle.project_form.proofs.Units.{units-more}
 
 -- a loop that changes each member has not changed this one yet
-not_yet : {X : Type 0} (f : X → X) (xs ys : List X) (place : ℕ) (x : X) → place < length xs → ys ≡ map f (take place xs) ++ drop place xs → x ≡ get_or ys place x → x ≡ get_or xs place x
+not_yet : {X : Type 0} (f : X → X) (xs ys : List X) (place : ℕ) (x : X) → place < length xs → ys ≡ map f (take place xs) ++ drop place xs
+    → x ≡ get_or ys place x → x ≡ get_or xs place x
 not_yet f xs ys place x inside so_far is =
     let front = map f (take place xs) in
     let long : length front ≡ place = length-map (take place xs) f ∙ omega (arith, length-take place xs) in
-    is ∙ ap (λ l. get_or l place x) (so_far ∙ ap (λ l. front ++ l) (drop_more xs place x inside)) ∙ get_or_at front (get_or xs place x) (drop (place + 1) xs) x place long
+    is ∙ ap (λ l. get_or l place x) (so_far ∙ ap (λ l. front ++ l) (drop_more xs place x inside))
+    ∙ get_or_at front (get_or xs place x) (drop (place + 1) xs) x place long
 
 -- one syntax tree more
-pub units-taken : (files so_far : List KeptFile) (units : List UnitValue) (place : ℕ) (one : KeptFile) (unit : UnitValue) → place < length files
-    → so_far ≡ map without_parse (take place files) ++ drop place files → one ≡ get_or so_far place one → AreUnits (take place files) units → IsUnitOf one.file.bytes (unit_tree unit)
+pub units-taken : (files so_far : List KeptFile) (units : List UnitValue) (place : ℕ) (one : KeptFile) (unit : UnitValue)
+    → place < length files
+    → so_far ≡ map without_parse (take place files) ++ drop place files → one ≡ get_or so_far place one → AreUnits (take place files) units
+    → IsUnitOf one.file.bytes (unit_tree unit)
     → AreUnits (take (place + 1) files) (units ++ unit ∷ [])
 units-taken files so_far units place one unit inside are is before read =
     let same = not_yet without_parse files so_far place one inside are is in
-    subst (λ (all : List KeptFile). AreUnits all (units ++ unit ∷ [])) (sym (take_more files place one inside ∙ ap (λ (k : KeptFile). take place files ++ k ∷ []) (sym same)))
+    subst (λ (all : List KeptFile). AreUnits all (units ++ unit ∷ []))
+    (sym (take_more files place one inside ∙ ap (λ (k : KeptFile). take place files ++ k ∷ []) (sym same)))
     (units-more (take place files) units one unit before read)
 
 -- one syntax tree less
@@ -47,8 +53,10 @@ pub parses-back : (files : List KeptFile) → AreAllKept files → map with_pars
 parses-back [] are = refl
 parses-back (kept ∷ files) are =
     let is : kept.is_kept ≡ true = All-head (λ (kept : KeptFile). kept.is_kept ≡ true) kept files are in
-    ap₂ (λ (k : KeptFile) ks. k ∷ ks) (ap (λ b. record kept { is_kept = b }) (sym is)) (parses-back files (All-tail (λ (kept : KeptFile). kept.is_kept ≡ true) kept files are))
+    ap₂ (λ (k : KeptFile) ks. k ∷ ks) (ap (λ b. record kept { is_kept = b }) (sym is))
+    (parses-back files (All-tail (λ (kept : KeptFile). kept.is_kept ≡ true) kept files are))
 
 -- what a list has when a slice of all of it, which is as before, is given back
-pub written-back : (read lent files : List KeptFile) (len : ℕ) → lent ≡ read → files ≡ lent → length lent ≡ len → take len (files ++ drop (length files) read) ≡ read
+pub written-back : (read lent files : List KeptFile) (len : ℕ) → lent ≡ read → files ≡ lent → length lent ≡ len
+    → take len (files ++ drop (length files) read) ≡ read
 written-back read lent files len of_list same long = take_at files (drop (length files) read) len (ap length same ∙ long) ∙ same ∙ of_list

@@ -10,6 +10,8 @@ pub one_more : (n : ℕ) → (structure_line ++ proc_lines n) ++ proc_line n ≡
 one_more n = rw add-one (append_assoc structure_line (proc_lines n) (proc_line n))
 
 -- a front of a line, and then the rest of it
-pub joined : (old mid new front name rest : List ℕ) → mid ≡ old ++ front → new ≡ mid ++ (name ++ rest) → new ≡ old ++ ((front ++ name) ++ rest)
+pub joined : (old mid new front name rest : List ℕ) → mid ≡ old ++ front → new ≡ mid ++ (name ++ rest)
+    → new ≡ old ++ ((front ++ name) ++ rest)
 joined old mid new front name rest was is =
-    is ∙ ap (λ xs. xs ++ (name ++ rest)) was ∙ append_assoc old front (name ++ rest) ∙ ap (λ xs. old ++ xs) (sym (append_assoc front name rest))
+    is ∙ ap (λ xs. xs ++ (name ++ rest)) was ∙ append_assoc old front (name ++ rest)
+    ∙ ap (λ xs. old ++ xs) (sym (append_assoc front name rest))

@@ -1,5 +1,6 @@
 -- Whether a text is a line, and whether a command stands first in a stream, is decided.
-use Rattle.std.proofs.Common.{◌≡◌, ◌≢◌, ℕ, ◌<◌, ◌≤◌, Bool, true, false, Option, Some, None, List, [], ◌∷◌, ◌++◌, ◌⊎◌, inl, inr, suc, zero, length, take, drop, refl, sym, ap, ◌∙◌, subst, arith}
+use Rattle.std.proofs.Common.{◌≡◌, ◌≢◌, ℕ, ◌<◌, ◌≤◌, Bool, true, false, Option, Some, None, List, [], ◌∷◌, ◌++◌, ◌⊎◌, inl, inr, suc, zero}
+use Rattle.std.proofs.Common.{length, take, drop, refl, sym, ap, ◌∙◌, subst, arith}
 use Rattle.std.proofs.lemmas.Bool.{cases_lt}
 use Rattle.std.specs.Prelude.{codes, IsTrue, slice_index}
 use Rattle.std.specs.Fmt.{decimal}
@@ -73,7 +74,8 @@ pub below : (P : ℕ → Type 0) → ((n : ℕ) → Decided (P n)) → (bound : 
 below P decide zero = inr (λ n under p. omega (arith, under))
 below P decide (suc bound) = by (decide bound) (below P decide bound)
   where
-    by : Decided (P bound) → ((n : ℕ) × (n < bound) × P n) ⊎ ((n : ℕ) → n < bound → P n → ⊥) → ((n : ℕ) × (n < suc bound) × P n) ⊎ ((n : ℕ) → n < suc bound → P n → ⊥)
+    by : Decided (P bound) → ((n : ℕ) × (n < bound) × P n) ⊎ ((n : ℕ) → n < bound → P n → ⊥)
+        → ((n : ℕ) × (n < suc bound) × P n) ⊎ ((n : ℕ) → n < suc bound → P n → ⊥)
     by (inl p) others = inl (bound, omega arith, p)
     by (inr never) (inl (n, under, p)) = inl (n, omega (arith, under), p)
     by (inr never) (inr none) = inr (λ n under p. at n under p (cases_lt n bound))
@@ -93,12 +95,18 @@ file_name name = by (both (1 ≤ length name) ((length name ≤ 64) × IsTrue (l
 
 -- a C name of so few bytes
 proc_name : (name : List ℕ) → Decided (IsProcName name)
-proc_name name = by (both (length name ≤ 64) ((1 ≤ length name) × (IsTrue (is_name_start (slice_index name 0)) × IsTrue (list_all is_name_byte name))) (at_most (length name) 64)
+proc_name name =
+    by (both (length name ≤ 64) ((1 ≤ length name) × (IsTrue (is_name_start (slice_index name 0)) × IsTrue (list_all is_name_byte name)))
+    (at_most (length name) 64)
     (both (1 ≤ length name) (IsTrue (is_name_start (slice_index name 0)) × IsTrue (list_all is_name_byte name)) (at_most 1 (length name))
-    (both (IsTrue (is_name_start (slice_index name 0))) (IsTrue (list_all is_name_byte name)) (is_true (is_name_start (slice_index name 0))) (is_true (list_all is_name_byte name)))))
+    (both (IsTrue (is_name_start (slice_index name 0))) (IsTrue (list_all is_name_byte name)) (is_true (is_name_start (slice_index name 0)))
+    (is_true (list_all is_name_byte name)))))
   where
-    by : Decided ((length name ≤ 64) × ((1 ≤ length name) × (IsTrue (is_name_start (slice_index name 0)) × IsTrue (list_all is_name_byte name)))) → Decided (IsProcName name)
-    by (inl (short, (some, (first, each)))) = inl (record { c_name = record { some = omega (arith, some); first = first; each = each }; short = short })
+    by : Decided
+        ((length name ≤ 64) × ((1 ≤ length name) × (IsTrue (is_name_start (slice_index name 0)) × IsTrue (list_all is_name_byte name))))
+        → Decided (IsProcName name)
+    by (inl (short, (some, (first, each)))) =
+        inl (record { c_name = record { some = omega (arith, some); first = first; each = each }; short = short })
     by (inr never) = inr (λ named. let is = named.c_name in never (named.short, (omega (arith, is.some), (is.first, is.each))))
 
 -- WHETHER A TEXT IS A LINE, KIND BY KIND
@@ -109,7 +117,8 @@ IsCut argument place size = IsFileName (take place argument) × (argument ≡ ta
 
 cut_decided : (argument : List ℕ) (place size : ℕ) → Decided (IsCut argument place size)
 cut_decided argument place size =
-    both (IsFileName (take place argument)) (argument ≡ take place argument ++ 32 ∷ decimal size) (file_name (take place argument)) (same_bytes argument (take place argument ++ 32 ∷ decimal size))
+    both (IsFileName (take place argument)) (argument ≡ take place argument ++ 32 ∷ decimal size) (file_name (take place argument))
+    (same_bytes argument (take place argument ++ 32 ∷ decimal size))
 
 -- some size below a bound
 abbrev HasSize : ℕ → List ℕ → ℕ → Type 0
@@ -118,7 +127,8 @@ HasSize bound argument place = (size : ℕ) × (size < bound) × IsCut argument 
 size_decided : (bound : ℕ) (argument : List ℕ) (place : ℕ) → Decided (HasSize bound argument place)
 size_decided bound argument place = by (below (IsCut argument place) (cut_decided argument place) bound)
   where
-    by : ((size : ℕ) × (size < bound) × IsCut argument place size) ⊎ ((size : ℕ) → size < bound → IsCut argument place size → ⊥) → Decided (HasSize bound argument place)
+    by : ((size : ℕ) × (size < bound) × IsCut argument place size) ⊎ ((size : ℕ) → size < bound → IsCut argument place size → ⊥)
+        → Decided (HasSize bound argument place)
     by (inl found) = inl found
     by (inr none) = inr (λ has. none has.0 has.1 has.2)
 
@@ -134,9 +144,11 @@ put_decided bound argument = by (below (HasSize bound argument) (size_decided bo
         let size_of = ap length text in
         let parts = length-append name (32 ∷ decimal size) in
         let front : take (length name) argument ≡ name = ap (take (length name)) text ∙ take-append_seam name (32 ∷ decimal size) in
-        none (length name) (omega arith) (size, under, (subst IsFileName (sym front) named, text ∙ ap (λ xs. xs ++ 32 ∷ decimal size) (sym front)))
+        none (length name) (omega arith)
+        (size, under, (subst IsFileName (sym front) named, text ∙ ap (λ xs. xs ++ 32 ∷ decimal size) (sym front)))
 
-    by : ((place : ℕ) × (place < length argument) × HasSize bound argument place) ⊎ ((place : ℕ) → place < length argument → HasSize bound argument place → ⊥) → Decided (IsPut bound argument)
+    by : ((place : ℕ) × (place < length argument) × HasSize bound argument place)
+        ⊎ ((place : ℕ) → place < length argument → HasSize bound argument place → ⊥) → Decided (IsPut bound argument)
     by (inl (place, under, (size, small, (named, text)))) = inl (take place argument, size, small, named, text)
     by (inr none) = inr (none_there none)
 
@@ -145,9 +157,12 @@ abbrev IsGen : ℕ → List ℕ → Type 0
 IsGen bound argument = (n : ℕ) × (n < bound) × ((1 ≤ n) × (argument ≡ decimal n))
 
 gen_decided : (bound : ℕ) (argument : List ℕ) → Decided (IsGen bound argument)
-gen_decided bound argument = by (below (λ n. (1 ≤ n) × (argument ≡ decimal n)) (λ n. both (1 ≤ n) (argument ≡ decimal n) (at_most 1 n) (same_bytes argument (decimal n))) bound)
+gen_decided bound argument =
+    by (below (λ n. (1 ≤ n) × (argument ≡ decimal n))
+    (λ n. both (1 ≤ n) (argument ≡ decimal n) (at_most 1 n) (same_bytes argument (decimal n))) bound)
   where
-    by : ((n : ℕ) × (n < bound) × ((1 ≤ n) × (argument ≡ decimal n))) ⊎ ((n : ℕ) → n < bound → ((1 ≤ n) × (argument ≡ decimal n)) → ⊥) → Decided (IsGen bound argument)
+    by : ((n : ℕ) × (n < bound) × ((1 ≤ n) × (argument ≡ decimal n))) ⊎ ((n : ℕ) → n < bound → ((1 ≤ n) × (argument ≡ decimal n)) → ⊥)
+        → Decided (IsGen bound argument)
     by (inl found) = inl found
     by (inr none) = inr (λ has. none has.0 has.1 has.2)
 
@@ -159,7 +174,8 @@ pub dropped : (word argument : List ℕ) → drop (length word) (word ++ argumen
 dropped [] argument = refl
 dropped (x ∷ word) argument = dropped word argument
 
-behind_decided : (word text : List ℕ) (P : List ℕ → Type 0) → ((argument : List ℕ) → Decided (P argument)) → Decided (IsBehindWord word text P)
+behind_decided : (word text : List ℕ) (P : List ℕ → Type 0) → ((argument : List ℕ) → Decided (P argument))
+    → Decided (IsBehindWord word text P)
 behind_decided word text P decide = by (same_bytes text (word ++ drop (length word) text)) (decide (drop (length word) text))
   where
     by : Decided (text ≡ word ++ drop (length word) text) → Decided (P (drop (length word) text)) → Decided (IsBehindWord word text P)
@@ -170,11 +186,13 @@ behind_decided word text P decide = by (same_bytes text (word ++ drop (length wo
 -- whether the text is a line: each kind is decided
 line_in : (text : List ℕ) → (found : Option Line) × IsLineIn text found
 line_in text = by
-    (same_bytes text []) (same_bytes text (codes "start")) (same_bytes text (codes "report")) (same_bytes text (codes "save")) (same_bytes text (codes "quit"))
+    (same_bytes text []) (same_bytes text (codes "start")) (same_bytes text (codes "report")) (same_bytes text (codes "save"))
+    (same_bytes text (codes "quit"))
     (behind_decided (codes "put ") text (IsPut 10000000) (put_decided 10000000)) (behind_decided (codes "drop ") text IsFileName file_name)
     (behind_decided (codes "show ") text IsProcName proc_name) (behind_decided (codes "gen ") text (IsGen 1001) (gen_decided 1001))
   where
-    by : Decided (text ≡ []) → Decided (text ≡ codes "start") → Decided (text ≡ codes "report") → Decided (text ≡ codes "save") → Decided (text ≡ codes "quit")
+    by : Decided (text ≡ []) → Decided (text ≡ codes "start") → Decided (text ≡ codes "report") → Decided (text ≡ codes "save")
+        → Decided (text ≡ codes "quit")
         → Decided (IsBehindWord (codes "put ") text (IsPut 10000000)) → Decided (IsBehindWord (codes "drop ") text IsFileName)
         → Decided (IsBehindWord (codes "show ") text IsProcName) → Decided (IsBehindWord (codes "gen ") text (IsGen 1001))
         → (found : Option Line) × IsLineIn text found
@@ -197,7 +215,8 @@ line_in text = by
         none line.Report is same = c same
         none line.Save is same = d same
         none line.Quit is same = e same
-        none (line.Put name size) (named, small) same = f (name ++ 32 ∷ decimal size, same ∙ put_text name size, (name, size, omega (arith, small), named, refl))
+        none (line.Put name size) (named, small) same =
+            f (name ++ 32 ∷ decimal size, same ∙ put_text name size, (name, size, omega (arith, small), named, refl))
         none (line.DropFile name) named same = g (name, same, named)
         none (line.Show name) named same = h (name, same, named)
         none (line.Gen n) (some, few) same = i (decimal n, same, (n, omega (arith, few), (some, refl)))
@@ -220,7 +239,8 @@ split (x ∷ xs) = by (same_number x 10) (split xs)
         → IsAbsent 10 (x ∷ xs) ⊎ ((text : List ℕ) × (behind : List ℕ) × ((x ∷ xs) ≡ text ++ 10 ∷ behind) × IsAbsent 10 text)
     by (inl here) others = inr ([], xs, ap (λ b. b ∷ xs) here, All-nil (λ b. b ≢ 10))
     by (inr other) (inl absent) = inl (All-cons (λ b. b ≢ 10) x xs other absent)
-    by (inr other) (inr (text, behind, is, absent)) = inr (x ∷ text, behind, ap (λ ys. x ∷ ys) is, All-cons (λ b. b ≢ 10) x text other absent)
+    by (inr other) (inr (text, behind, is, absent)) =
+        inr (x ∷ text, behind, ap (λ ys. x ∷ ys) is, All-cons (λ b. b ≢ 10) x text other absent)
 
 cut_first : (stream : List ℕ) → stream ≢ [] → IsCutFirst stream
 cut_first stream some = by (split stream)
@@ -233,26 +253,33 @@ cut_first stream some = by (split stream)
 pub first_in : (stream : List ℕ) → stream ≢ [] → ((one : Command) × (rest : List ℕ) × IsFirst stream one rest) ⊎ BeginsWithNone stream
 first_in stream some = let first = cut_first stream some in by first (line_in first.text)
   where
-    whole : (first : IsCutFirst stream) (one : Line) → IsLine one → first.text ≡ line_text one → (body_size one ≤ length first.behind) → IsFirst stream (command_of one (take (body_size one) first.behind)) (drop (body_size one) first.behind)
+    whole : (first : IsCutFirst stream) (one : Line) → IsLine one → first.text ≡ line_text one → (body_size one ≤ length first.behind)
+        → IsFirst stream (command_of one (take (body_size one) first.behind)) (drop (body_size one) first.behind)
     whole first one allowed is enough = record {
       line = one;
       body = take (body_size one) first.behind;
       allowed = allowed;
       whole = length-take-le (body_size one) first.behind enough;
       means = refl;
-      text = subst (IsFirstLine stream (line_text one)) (sym (take-append-drop (body_size one) first.behind)) (subst (λ xs. IsFirstLine stream xs first.behind) is first.cut);
+      text =
+          subst (IsFirstLine stream (line_text one)) (sym (take-append-drop (body_size one) first.behind))
+          (subst (λ xs. IsFirstLine stream xs first.behind) is first.cut);
     }
 
-    by_size : (first : IsCutFirst stream) (one : Line) → IsLine one → first.text ≡ line_text one → Decided (body_size one ≤ length first.behind)
+    by_size : (first : IsCutFirst stream) (one : Line) → IsLine one → first.text ≡ line_text one
+        → Decided (body_size one ≤ length first.behind)
         → ((one : Command) × (rest : List ℕ) × IsFirst stream one rest) ⊎ BeginsWithNone stream
-    by_size first one allowed is (inl enough) = inl (command_of one (take (body_size one) first.behind), drop (body_size one) first.behind, whole first one allowed is enough)
+    by_size first one allowed is (inl enough) =
+        inl (command_of one (take (body_size one) first.behind), drop (body_size one) first.behind, whole first one allowed is enough)
     by_size first one allowed is (inr short) =
-        inr (short_begins stream first.behind one allowed (subst (λ xs. IsFirstLine stream xs first.behind) is first.cut) (less (cases_lt (length first.behind) (body_size one))))
+        inr (short_begins stream first.behind one allowed (subst (λ xs. IsFirstLine stream xs first.behind) is first.cut)
+        (less (cases_lt (length first.behind) (body_size one))))
       where
         less : (length first.behind < body_size one) ⊎ (body_size one ≤ length first.behind) → length first.behind < body_size one
         less (inl under) = under
         less (inr enough) = absurd (short enough)
 
-    by : (first : IsCutFirst stream) → ((found : Option Line) × IsLineIn first.text found) → ((one : Command) × (rest : List ℕ) × IsFirst stream one rest) ⊎ BeginsWithNone stream
+    by : (first : IsCutFirst stream) → ((found : Option Line) × IsLineIn first.text found)
+        → ((one : Command) × (rest : List ℕ) × IsFirst stream one rest) ⊎ BeginsWithNone stream
     by first (None, never) = inr (none_begins stream first.text first.behind first.cut first.absent never)
     by first (Some one, (allowed, is)) = by_size first one allowed is (at_most (body_size one) (length first.behind))

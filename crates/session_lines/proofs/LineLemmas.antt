@@ -1,5 +1,6 @@
 -- A line is one text, and a text is at most one line.
-use Rattle.std.proofs.Common.{◌≡◌, ◌≢◌, ℕ, ◌<◌, ◌≤◌, ◌^◌, Bool, true, false, if◌then◌else◌, List, [], ◌∷◌, ◌++◌, length, refl, sym, ap, subst, ◌∙◌, arith, append_assoc, length-append}
+use Rattle.std.proofs.Common.{◌≡◌, ◌≢◌, ℕ, ◌<◌, ◌≤◌, ◌^◌, Bool, true, false, if◌then◌else◌, List, [], ◌∷◌, ◌++◌, length, refl, sym, ap}
+use Rattle.std.proofs.Common.{subst, ◌∙◌, arith, append_assoc, length-append}
 use Rattle.std.specs.Prelude.{codes, ◌&&◌, ◌==◌, not, None}
 use Rattle.std.specs.Fmt.{decimal}
 use Rattle.std.specs.List.{list_all}
@@ -13,7 +14,8 @@ use Rattle.session_lines.specs.Lines.{IsFileName, IsLine, IsProcName, body_size,
 use Rattle.session_lines.specs.Parts.{IsAbsent, IsLineIn}
 
 -- the first such byte parts the bytes in one way
-pub part_once : (byte : ℕ) (xs us ys vs : List ℕ) → IsAbsent byte xs → IsAbsent byte us → xs ++ byte ∷ ys ≡ us ++ byte ∷ vs → (xs ≡ us) × (ys ≡ vs)
+pub part_once : (byte : ℕ) (xs us ys vs : List ℕ) → IsAbsent byte xs → IsAbsent byte us → xs ++ byte ∷ ys ≡ us ++ byte ∷ vs
+    → (xs ≡ us) × (ys ≡ vs)
 part_once byte [] [] ys vs no_x no_u same = (refl, cc)
 part_once byte [] (u ∷ us) ys vs no_x no_u same =
     let first : u ≡ byte = cc in
@@ -137,7 +139,8 @@ kind_once : (one other : Line) → line_text one ≡ line_text other → kind_of
 kind_once one other same = sym (kind_is one) ∙ ap kind_in same ∙ kind_is other
 
 -- what stands behind `put `
-behind_put : (argument name : List ℕ) (size : ℕ) → codes "put " ++ argument ≡ line_text (line.Put name size) → argument ≡ name ++ 32 ∷ decimal size
+behind_put : (argument name : List ℕ) (size : ℕ) → codes "put " ++ argument ≡ line_text (line.Put name size)
+    → argument ≡ name ++ 32 ∷ decimal size
 behind_put argument name size same = let whole = same ∙ put_text name size in cc
 
 -- a text is at most one line
@@ -176,14 +179,16 @@ put_argument argument other is same =
     let kinds : put ≡ kind_of other = ap kind_in same ∙ kind_is other in
     absurd cc
 
-pub gen_argument : (argument : List ℕ) (one : Line) → IsLine one → codes "gen " ++ argument ≡ line_text one → (n : ℕ) × (1 ≤ n) × (n ≤ 1000) × (argument ≡ decimal n)
+pub gen_argument : (argument : List ℕ) (one : Line) → IsLine one → codes "gen " ++ argument ≡ line_text one
+    → (n : ℕ) × (1 ≤ n) × (n ≤ 1000) × (argument ≡ decimal n)
 gen_argument argument (line.Gen n) (some, few) same = (n, some, few, cc)
 gen_argument argument other is same =
     let kinds : gen ≡ kind_of other = ap kind_in same ∙ kind_is other in
     absurd cc
 
 -- without such a number there is no such line
-pub no_size : (name digits : List ℕ) → IsAbsent 32 name → ((n : ℕ) → n ≤ 9999999 → digits ≢ decimal n) → IsLineIn (codes "put " ++ (name ++ 32 ∷ digits)) None
+pub no_size : (name digits : List ℕ) → IsAbsent 32 name → ((n : ℕ) → n ≤ 9999999 → digits ≢ decimal n)
+    → IsLineIn (codes "put " ++ (name ++ 32 ∷ digits)) None
 no_size name digits absent never one is same =
     let put = put_argument (name ++ 32 ∷ digits) one is same in
     let (names, sizes) = part_once 32 name put.name digits (decimal put.size) absent (no_space put.name put.named) put.text in
@@ -208,13 +213,15 @@ no_number digits never one is same =
     never n few some text
 
 -- a text without a space that is none of the words
-pub no_word : (text : List ℕ) → IsAbsent 32 text → text ≢ [] → text ≢ codes "start" → text ≢ codes "report" → text ≢ codes "save" → text ≢ codes "quit" → IsLineIn text None
+pub no_word : (text : List ℕ) → IsAbsent 32 text → text ≢ [] → text ≢ codes "start" → text ≢ codes "report" → text ≢ codes "save"
+    → text ≢ codes "quit" → IsLineIn text None
 no_word text absent a b c d e line.Blank is same = a same
 no_word text absent a b c d e line.Start is same = b same
 no_word text absent a b c d e line.Report is same = c same
 no_word text absent a b c d e line.Save is same = d same
 no_word text absent a b c d e line.Quit is same = e same
-no_word text absent a b c d e (line.Put name size) is same = not_absent 32 (codes "put") (name ++ 32 ∷ decimal size) text (same ∙ put_text name size) absent
+no_word text absent a b c d e (line.Put name size) is same =
+    not_absent 32 (codes "put") (name ++ 32 ∷ decimal size) text (same ∙ put_text name size) absent
 no_word text absent a b c d e (line.DropFile name) is same = not_absent 32 (codes "drop") name text same absent
 no_word text absent a b c d e (line.Show proc) is same = not_absent 32 (codes "show") proc text same absent
 no_word text absent a b c d e (line.Gen n) is same = not_absent 32 (codes "gen") (decimal n) text same absent
@@ -226,14 +233,20 @@ unspaced : (word : List ℕ) → list_all is_unspaced word ≡ true → IsAbsent
 unspaced word e = absent_by is_unspaced 32 word refl e
 
 -- a text whose first word is none of those that have an argument
-pub no_such_word : (word argument : List ℕ) → IsAbsent 32 word → word ≢ codes "put" → word ≢ codes "drop" → word ≢ codes "show" → word ≢ codes "gen" → IsLineIn (word ++ 32 ∷ argument) None
+pub no_such_word : (word argument : List ℕ) → IsAbsent 32 word → word ≢ codes "put" → word ≢ codes "drop" → word ≢ codes "show"
+    → word ≢ codes "gen" → IsLineIn (word ++ 32 ∷ argument) None
 no_such_word word argument absent a b c d line.Blank is same = not_absent 32 word argument [] (sym same) (unspaced [] refl)
-no_such_word word argument absent a b c d line.Start is same = not_absent 32 word argument (codes "start") (sym same) (unspaced (codes "start") refl)
-no_such_word word argument absent a b c d line.Report is same = not_absent 32 word argument (codes "report") (sym same) (unspaced (codes "report") refl)
-no_such_word word argument absent a b c d line.Save is same = not_absent 32 word argument (codes "save") (sym same) (unspaced (codes "save") refl)
-no_such_word word argument absent a b c d line.Quit is same = not_absent 32 word argument (codes "quit") (sym same) (unspaced (codes "quit") refl)
+no_such_word word argument absent a b c d line.Start is same =
+    not_absent 32 word argument (codes "start") (sym same) (unspaced (codes "start") refl)
+no_such_word word argument absent a b c d line.Report is same =
+    not_absent 32 word argument (codes "report") (sym same) (unspaced (codes "report") refl)
+no_such_word word argument absent a b c d line.Save is same =
+    not_absent 32 word argument (codes "save") (sym same) (unspaced (codes "save") refl)
+no_such_word word argument absent a b c d line.Quit is same =
+    not_absent 32 word argument (codes "quit") (sym same) (unspaced (codes "quit") refl)
 no_such_word word argument absent a b c d (line.Put name size) is same =
-    a (part_once 32 word (codes "put") argument (name ++ 32 ∷ decimal size) absent (unspaced (codes "put") refl) (same ∙ put_text name size)).0
+    a (part_once 32 word (codes "put") argument (name ++ 32 ∷ decimal size) absent (unspaced (codes "put") refl)
+    (same ∙ put_text name size)).0
 no_such_word word argument absent a b c d (line.DropFile name) is same =
     b (part_once 32 word (codes "drop") argument name absent (unspaced (codes "drop") refl) same).0
 no_such_word word argument absent a b c d (line.Show proc) is same =

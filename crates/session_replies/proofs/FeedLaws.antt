@@ -11,8 +11,10 @@ use Rattle.session_replies.specs.Entries.{Feeds, program_entries}
 use Rattle.session_replies.specs.Laws.{OneFeed, SomeFeed}
 
 module _ (one_reading : HaveOneAnswer) where
-  never : (present : Present) (program : Program) (refused : Refused) → Reads present.files (Ok program) → Reads present.files (Err refused) → {A : Type 0} → A
-  never present program refused reads refuses = let clash : Ok program ≡ Err refused = one_reading present.files (Ok program) (Err refused) reads refuses in absurd cc
+  never : (present : Present) (program : Program) (refused : Refused) → Reads present.files (Ok program) → Reads present.files (Err refused)
+      → {A : Type 0} → A
+  never present program refused reads refuses =
+      let clash : Ok program ≡ Err refused = one_reading present.files (Ok program) (Err refused) reads refuses in absurd cc
 
   pub fed_once : OneFeed
   fed_once present _ _ _ (Feeds.report program reads) (Feeds.report other reads') =
@@ -29,7 +31,8 @@ module _ (one_reading : HaveOneAnswer) where
   fed_once present _ _ _ (Feeds.other asked other) (Feeds.other _ _) = refl
 
 module _ (some_reading : HaveAnswer) where
-  report_feeds : (present : Present) (answer : Result Program Refused) → Reads present.files answer → (entries : List Entry) × Feeds present command.Report entries
+  report_feeds : (present : Present) (answer : Result Program Refused) → Reads present.files answer
+      → (entries : List Entry) × Feeds present command.Report entries
   report_feeds present (Ok program) reads = (program_entries present.setting.loaded program, Feeds.report program reads)
   report_feeds present (Err refused) refuses = (_, Feeds.report_refused refused refuses)
 

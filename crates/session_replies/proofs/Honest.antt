@@ -1,4 +1,5 @@
--- Over honest entries a command is answered as from nothing: what is known of a program is the same, but for the marks of stored answers, which no reply shows and no store holds.
+-- Over honest entries a command is answered as from nothing: what is known of a program is the same, but for the marks of stored answers,
+-- which no reply shows and no store holds.
 use Rattle.std.proofs.Common.{◌≡◌, ℕ, List, [], ◌∷◌, map, Option, Some, None, Result, Ok, Err, slice_get, refl, sym, ap, ◌∙◌, subst}
 use Rattle.std.specs.List.{position}
 use Rattle.shape_data.specs.declared.answer.ProcSummary.{ProcSummary}
@@ -16,7 +17,8 @@ use Rattle.session_generator.specs.Generated.{generated}
 use Rattle.project_form.specs.Files.{with_file}
 use Rattle.session_replies.specs.Answers.{Answers, GENERATED, missing_by, text_of}
 use Rattle.session_replies.specs.Laws.{HonestAnswers, from_nothing}
-use Rattle.session_replies.specs.Texts.{block_at, block_named, block_of, is_named, program_report, program_store, program_stored_line, program_total, stored_line, unless_too_long}
+use Rattle.session_replies.specs.Texts.{block_at, block_named, block_of, is_named, program_report, program_store, program_stored_line}
+use Rattle.session_replies.specs.Texts.{program_total, stored_line, unless_too_long}
 
 -- the mark is not written
 unmarked_data : (entries : List Solution) → map entry_data entries ≡ map entry_data (map unmarked entries)
@@ -30,7 +32,8 @@ module _ (honest_is : HonestIsFromNothing) (loaded : List Solution) (honest : Is
   same_store : (program : Program) → program_store loaded program ≡ program_store [] program
   same_store program =
       let data_same : map entry_data (bottom_up loaded program) ≡ map entry_data (bottom_up [] program) =
-      unmarked_data (bottom_up loaded program) ∙ ap (map entry_data) (honest_is loaded honest program).1 ∙ sym (unmarked_data (bottom_up [] program)) in
+      unmarked_data (bottom_up loaded program) ∙ ap (map entry_data) (honest_is loaded honest program).1
+      ∙ sym (unmarked_data (bottom_up [] program)) in
       ap (λ (ds : List Data). with_trailer (compact_text (store_object ds))) data_same
 
   same_block : (name : List ℕ) (program : Program) → block_named loaded name program ≡ block_named [] name program
@@ -38,7 +41,9 @@ module _ (honest_is : HonestIsFromNothing) (loaded : List Solution) (honest : Is
     where
       by_place : (o : Option ℕ) → block_at loaded program o ≡ block_at [] program o
       by_place None = refl
-      by_place (Some number) = ap (λ (summaries : List ProcSummary). block_of program.structs (slice_get program.procs number) (slice_get summaries number)) (same program)
+      by_place (Some number) =
+          ap (λ (summaries : List ProcSummary). block_of program.structs (slice_get program.procs number) (slice_get summaries number))
+          (same program)
 
   same_report : (program : Program) → program_report loaded program ≡ program_report [] program
   same_report program = ap (report_of program.structs program.procs) (same program)
@@ -54,7 +59,8 @@ module _ (honest_is : HonestIsFromNothing) (loaded : List Solution) (honest : Is
   same_line program = ap (λ bytes. stored_line (unless_too_long bytes)) (same_store program)
 
   -- whatever is written of a program
-  same_text : (one other : Program → List ℕ) → ((program : Program) → one program ≡ other program) → (answer : Result Program Refused) → text_of one answer ≡ text_of other answer
+  same_text : (one other : Program → List ℕ) → ((program : Program) → one program ≡ other program) → (answer : Result Program Refused)
+      → text_of one answer ≡ text_of other answer
   same_text one other are (Ok program) = are program
   same_text one other are (Err refused) = refl
 
@@ -67,20 +73,26 @@ honest_so honest_is present _ _ _ honest (Answers.start answer reads) = Answers.
 honest_so honest_is present _ _ _ honest (Answers.show name answer reads) =
     let loaded = present.setting.loaded in
     subst (λ text. Answers (from_nothing present) (command.Show name) text (from_nothing present))
-    (sym (same_text honest_is loaded honest (block_named loaded name) (block_named [] name) (same_block honest_is loaded honest name) answer)) (Answers.show name answer reads)
+    (sym (same_text honest_is loaded honest (block_named loaded name) (block_named [] name)
+    (same_block honest_is loaded honest name) answer)) (Answers.show name answer reads)
 honest_so honest_is present _ _ _ honest (Answers.report answer reads) =
     let loaded = present.setting.loaded in
-    subst (λ text. Answers (from_nothing present) command.Report text (from_nothing (record present { missing = missing_by loaded present.missing answer })))
+    subst (λ text. Answers (from_nothing present) command.Report text
+    (from_nothing (record present { missing = missing_by loaded present.missing answer })))
     (sym (same_text honest_is loaded honest (program_report loaded) (program_report []) (same_report honest_is loaded honest) answer))
-    (subst (λ (missing : ℕ). Answers (from_nothing present) command.Report (text_of (program_report []) answer) (from_nothing (record present { missing = missing })))
+    (subst (λ (missing : ℕ). Answers (from_nothing present) command.Report (text_of (program_report []) answer)
+    (from_nothing (record present { missing = missing })))
     (sym (same_missing honest_is loaded honest present.missing answer)) (Answers.report answer reads))
 honest_so honest_is present _ _ _ honest (Answers.gen n answer may reads) =
     let loaded = present.setting.loaded in
-    subst (λ text. Answers (from_nothing present) (command.Gen n) text (from_nothing (record present { files = with_file GENERATED (generated n) present.files })))
-    (sym (same_text honest_is loaded honest (program_total loaded) (program_total []) (same_total honest_is loaded honest) answer)) (Answers.gen n answer may reads)
+    subst (λ text. Answers (from_nothing present) (command.Gen n) text
+    (from_nothing (record present { files = with_file GENERATED (generated n) present.files })))
+    (sym (same_text honest_is loaded honest (program_total loaded) (program_total []) (same_total honest_is loaded honest) answer))
+    (Answers.gen n answer may reads)
 honest_so honest_is present _ _ _ honest (Answers.gen_refused n code refused) = Answers.gen_refused n code refused
 honest_so honest_is present _ _ _ honest (Answers.save answer saves reads) =
     let loaded = present.setting.loaded in
     subst (λ text. Answers (from_nothing present) command.Save text (from_nothing present))
-    (sym (same_text honest_is loaded honest (program_stored_line loaded) (program_stored_line []) (same_line honest_is loaded honest) answer)) (Answers.save answer saves reads)
+    (sym (same_text honest_is loaded honest (program_stored_line loaded) (program_stored_line [])
+    (same_line honest_is loaded honest) answer)) (Answers.save answer saves reads)
 honest_so honest_is present _ _ _ honest (Answers.save_nowhere none) = Answers.save_nowhere none

@@ -22,15 +22,18 @@ use Rattle.worker_pool.specs.Entries.{AreEntries}
 use Rattle.session_replies.specs.Work.{count_reached}
 
 -- there are as many entries of an aim, whatever they hold
-pub entries_many : (solves : Key → Answer → Type 0) → CollectedAreMany → (program : Program) (aim : Aim) (kept : List Kept) → AreEntries solves program aim kept → length kept ≡ count_reached program aim
+pub entries_many : (solves : Key → Answer → Type 0) → CollectedAreMany → (program : Program) (aim : Aim) (kept : List Kept) →
+    AreEntries solves program aim kept → length kept ≡ count_reached program aim
 entries_many solves many program aim kept are =
     many are.log aim (subst (λ (p : Program). IsSettled (replay are.log) (aimed p aim)) (sym are.program_is) are.settled) kept
     (are.kept_are ∙ ap (λ (p : Program). map slot_solution (slots_by (replay are.log) (aimed p aim))) (sym are.program_is)) ∙
     ap (λ (p : Program). count_reached p aim) are.program_is
 
 -- entries that agree with the loaded ones are what is looked up
-pub entries_known : CollectedAreKnown Solves → AgreedAreLookedUp → (loaded : List Solution) (program : Program) (aim : Aim) (kept : List Kept) →
-    AreEntries Solves program aim kept → All (λ (one : Kept). Agrees loaded (solution_of one)) kept → solutions_of kept ≡ aimed_known (lookup loaded) program aim
+pub entries_known : CollectedAreKnown Solves → AgreedAreLookedUp →
+    (loaded : List Solution) (program : Program) (aim : Aim) (kept : List Kept) →
+    AreEntries Solves program aim kept → All (λ (one : Kept). Agrees loaded (solution_of one)) kept →
+    solutions_of kept ≡ aimed_known (lookup loaded) program aim
 entries_known collected agreed loaded program aim kept are agree =
     collected (lookup loaded) are.log are.legal aim
     (subst (λ (p : Program). IsSettled (replay are.log) (aimed p aim)) (sym are.program_is) are.settled) kept
@@ -43,9 +46,12 @@ answers_of_solutions [] = refl
 answers_of_solutions (one ∷ kept) = ap (λ others. one.answer.value ∷ others) (answers_of_solutions kept)
 
 -- the answers of the entries of an aim
-pub answers_aimed : (answer_of : Key → Answer) (program : Program) (aim : Aim) (kept : List Kept) → solutions_of kept ≡ aimed_known answer_of program aim → answers_kept kept ≡ aimed_answers answer_of program aim
+pub answers_aimed : (answer_of : Key → Answer) (program : Program) (aim : Aim) (kept : List Kept) →
+    solutions_of kept ≡ aimed_known answer_of program aim → answers_kept kept ≡ aimed_answers answer_of program aim
 answers_aimed answer_of program aim kept are = sym (answers_of_solutions kept) ∙ ap answers_in are
 
 -- those of all components
-pub answers_known : (answer_of : Key → Answer) → AllAreAimed → (program : Program) (kept : List Kept) → solutions_of kept ≡ aimed_known answer_of program aims.All → answers_kept kept ≡ answers_in (known_by answer_of program)
-answers_known answer_of aimed_all program kept are = answers_aimed answer_of program aims.All kept are ∙ ap answers_in (aimed_all answer_of program)
+pub answers_known : (answer_of : Key → Answer) → AllAreAimed → (program : Program) (kept : List Kept) →
+    solutions_of kept ≡ aimed_known answer_of program aims.All → answers_kept kept ≡ answers_in (known_by answer_of program)
+answers_known answer_of aimed_all program kept are =
+    answers_aimed answer_of program aims.All kept are ∙ ap answers_in (aimed_all answer_of program)

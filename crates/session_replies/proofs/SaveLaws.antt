@@ -14,18 +14,22 @@ never : (present : Present) → present.setting.saves ≡ true → present.setti
 never present saves none = let clash : true ≡ false = sym saves ∙ none in absurd cc
 
 module _ (one_reading : HaveOneAnswer) where
-  apart : (present : Present) (program : Program) (refused : Refused) → Reads present.files (Ok program) → Reads present.files (Err refused) → {A : Type 0} → A
-  apart present program refused reads refuses = let clash : Ok program ≡ Err refused = one_reading present.files (Ok program) (Err refused) reads refuses in absurd cc
+  apart : (present : Present) (program : Program) (refused : Refused) → Reads present.files (Ok program) → Reads present.files (Err refused)
+      → {A : Type 0} → A
+  apart present program refused reads refuses =
+      let clash : Ok program ≡ Err refused = one_reading present.files (Ok program) (Err refused) reads refuses in absurd cc
 
   pub saved_once : OneSaving
   saved_once present _ _ _ (Saves.save program saves reads) (Saves.save other saves' reads') =
       let same : Ok program ≡ Ok other = one_reading present.files (Ok program) (Ok other) reads reads' in
       let alike : program ≡ other = cc in
       ap (stored_program present.setting.loaded) alike
-  saved_once present _ _ _ (Saves.save program saves reads) (Saves.save_refused refused saves' refuses) = apart present program refused reads refuses
+  saved_once present _ _ _ (Saves.save program saves reads) (Saves.save_refused refused saves' refuses) =
+      apart present program refused reads refuses
   saved_once present _ _ _ (Saves.save program saves reads) (Saves.save_nowhere none) = never present saves none
   saved_once present _ _ _ (Saves.save program saves reads) (Saves.other _ other) = absurd (other refl)
-  saved_once present _ _ _ (Saves.save_refused refused saves refuses) (Saves.save program saves' reads) = apart present program refused reads refuses
+  saved_once present _ _ _ (Saves.save_refused refused saves refuses) (Saves.save program saves' reads) =
+      apart present program refused reads refuses
   saved_once present _ _ _ (Saves.save_refused refused saves refuses) (Saves.save_refused _ _ _) = refl
   saved_once present _ _ _ (Saves.save_refused refused saves refuses) (Saves.save_nowhere none) = refl
   saved_once present _ _ _ (Saves.save_refused refused saves refuses) (Saves.other _ other) = absurd (other refl)
@@ -39,7 +43,8 @@ module _ (one_reading : HaveOneAnswer) where
   saved_once present _ _ _ (Saves.other asked other) (Saves.other _ _) = refl
 
 module _ (some_reading : HaveAnswer) where
-  saving : (present : Present) (saves : Bool) → present.setting.saves ≡ saves → (answer : Result Program Refused) → Reads present.files answer → (saved : Option (List ℕ)) × Saves present command.Save saved
+  saving : (present : Present) (saves : Bool) → present.setting.saves ≡ saves → (answer : Result Program Refused)
+      → Reads present.files answer → (saved : Option (List ℕ)) × Saves present command.Save saved
   saving present false none answer reads = (_, Saves.save_nowhere none)
   saving present true saves (Ok program) reads = (_, Saves.save program saves reads)
   saving present true saves (Err refused) refuses = (_, Saves.save_refused refused saves refuses)

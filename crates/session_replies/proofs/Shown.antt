@@ -1,5 +1,6 @@
 -- What is known of the procedure of a name stands among what is known of the components that an aim at it reaches.
-use Rattle.std.proofs.Common.{◌≡◌, ℕ, ◌+◌, ◌<◌, true, false, List, [], ◌∷◌, length, slice_get, Some, None, Option, refl, sym, ap, ◌∙◌, subst}
+use Rattle.std.proofs.Common.{◌≡◌, ℕ, ◌+◌, ◌<◌, true, false, List, [], ◌∷◌, length, slice_get, Some, None, Option, refl, sym, ap, ◌∙◌}
+use Rattle.std.proofs.Common.{subst}
 use Rattle.std.proofs.Common.{filter, filter_map, flat_map, option_and_then, option_map, bytes_eq, is_some, arith}
 use Rattle.std.specs.List.{position, range_with_len}
 use Rattle.std.specs.Cmp.Lexicographic.{pointwise}
@@ -26,14 +27,16 @@ use Rattle.loaded_answers.specs.Lookup.{lookup}
 use Rattle.bottom_up.specs.BottomUp.{answers_in, known_by, program_summaries, summary_named}
 use Rattle.bottom_up.specs.Placed.{summary_among}
 use Rattle.bottom_up.proofs.ListPlaces.{from_flat, in_flat, mapped_at, mapped_same, only_found}
-use Rattle.bottom_up.proofs.ProceduresByName.{each_summarized, found_in_all, is_member, member_of, names_exact, own_key, summary_is, summary_of}
+use Rattle.bottom_up.proofs.ProceduresByName.{each_summarized, found_in_all, is_member, member_of, names_exact, own_key, summary_is}
+use Rattle.bottom_up.proofs.ProceduresByName.{summary_of}
 use Rattle.bottom_up.proofs.Over.{answer_is, known_of_component}
 use Rattle.settled_laws.specs.Laws.{aimed_answers}
 use Rattle.settled_laws.proofs.Whole.{given_mapped}
 use Rattle.session_replies.specs.Known.{named_summary}
 use Rattle.session_replies.specs.Texts.{is_named}
 
-module _ (loaded : List Solution) (fit : (key : Key) → IsKey analysable key → IsAnswer analysable key (lookup loaded key)) (program : Program) (formed : IsProgram program) where
+module _ (loaded : List Solution) (fit : (key : Key) → IsKey analysable key → IsAnswer analysable key (lookup loaded key))
+    (program : Program) (formed : IsProgram program) where
   abbrev answer_of : Key → Answer
   answer_of = lookup loaded
 
@@ -52,13 +55,15 @@ module _ (loaded : List Solution) (fit : (key : Key) → IsKey analysable key �
     found : summary_named known name ≡ Some summary
 
   -- a summary at a place of a known answer is the one of its name
-  summary_known : (component : ℕ) (answer : Answer) (k : ℕ) (summary : ProcSummary) → slice_get answers component ≡ Some answer → slice_get answer.procs k ≡ Some summary →
+  summary_known : (component : ℕ) (answer : Answer) (k : ℕ) (summary : ProcSummary) → slice_get answers component ≡ Some answer →
+      slice_get answer.procs k ≡ Some summary →
       summary_named known summary.name ≡ Some summary
   summary_known component answer k summary at here =
       let one = mapped_some (λ (it : Solution). it.answer) (slice_get known component) answer (sym (slice_get_mapped component) ∙ at) in
       let of = known_of_component answer_of program component one.0 one.1 in
       let there : slice_get (answer_of (own_key analysable answer_of fit program formed of.0)).procs k ≡ Some summary =
-      subst (λ (it : Solution). slice_get it.answer.procs k ≡ Some summary) of.2 (subst (λ (a : Answer). slice_get a.procs k ≡ Some summary) one.2 here) in
+      subst (λ (it : Solution). slice_get it.answer.procs k ≡ Some summary) of.2
+      (subst (λ (a : Answer). slice_get a.procs k ≡ Some summary) one.2 here) in
       let own = summary_is analysable answer_of fit program formed component of.0 k summary of.1 there in
       found_in_all analysable answer_of fit program formed component of.0 k own.0 own.1 summary own.2
     where
@@ -101,9 +106,12 @@ module _ (loaded : List Solution) (fit : (key : Key) → IsKey analysable key �
       by_place : (o : Option ℕ) → component_with program proc.flow.name ≡ o → IsBegun proc.flow.name
       by_place None none =
           let own = is_member program formed number proc at in
-          let fails = position_missing (λ (part : Component). has_name proc.flow.name part.flows) (program_components program) none own.0 own.1 own.3.at in
+          let fails =
+          position_missing (λ (part : Component). has_name proc.flow.name part.flows)
+          (program_components program) none own.0 own.1 own.3.at in
           let passes : has_name proc.flow.name own.1.flows ≡ true =
-          any_passes (λ (one : Flow). pointwise nat_eq one.name proc.flow.name) own.1.flows own.2 proc.flow own.3.flow_at ((names_exact proc.flow.name proc.flow.name).1 refl) in
+          any_passes (λ (one : Flow). pointwise nat_eq one.name proc.flow.name) own.1.flows own.2 proc.flow own.3.flow_at
+          ((names_exact proc.flow.name proc.flow.name).1 refl) in
           let clash : true ≡ false = sym passes ∙ fails in
           absurd cc
       by_place (Some component) is = begun_at proc.flow.name component is
@@ -140,7 +148,8 @@ module _ (loaded : List Solution) (fit : (key : Key) → IsKey analysable key �
     are_reached =
         given_mapped (λ (one : Solution). one.answer) (slice_get known) places ∙
         mapped_same (λ place. option_map (λ (one : Solution). one.answer) (slice_get known place)) (slice_get answers) places places refl
-        (λ i place other at at_other. sym (slice_get-map (λ (one : Solution). one.answer) known place) ∙ ap (slice_get answers) (some_same (sym at ∙ at_other)))
+        (λ i place other at at_other. sym (slice_get-map (λ (one : Solution). one.answer) known place)
+        ∙ ap (slice_get answers) (some_same (sym at ∙ at_other)))
 
     among_reached : summary_among reached_answers name ≡ Some begun.summary
     among_reached =
@@ -158,7 +167,8 @@ module _ (loaded : List Solution) (fit : (key : Key) → IsKey analysable key �
     among = ap (λ all. summary_among all name) are_reached ∙ among_reached
 
   -- what is known of the procedure at a number
-  known_at : (number : ℕ) (proc : Proc) → slice_get program.procs number ≡ Some proc → slice_get (program_summaries loaded program) number ≡ summary_named known proc.flow.name
+  known_at : (number : ℕ) (proc : Proc) → slice_get program.procs number ≡ Some proc →
+      slice_get (program_summaries loaded program) number ≡ summary_named known proc.flow.name
   known_at number proc at =
       mapped_at (λ (one : Proc). summary_named known one.flow.name) program.procs
       (λ i one at_i. let own = each_summarized analysable answer_of fit program formed i one at_i in (own.summary, own.found)) number ∙
@@ -182,5 +192,6 @@ module _ (loaded : List Solution) (fit : (key : Key) → IsKey analysable key �
           record {
             summary = begun.summary;
             among = among name begun;
-            known = ap (option_and_then (slice_get (program_summaries loaded program))) is ∙ known_at number there.0 there.1 ∙ ap (summary_named known) named ∙ known_so name begun;
+            known = ap (option_and_then (slice_get (program_summaries loaded program))) is ∙ known_at number there.0 there.1
+                ∙ ap (summary_named known) named ∙ known_so name begun;
           }

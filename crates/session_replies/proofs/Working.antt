@@ -24,7 +24,8 @@ module _ (once : HaveOneAnswer) (present : Present) (program : Program) (reads :
       let alike : program ≡ other = cc in
       alike
 
-  pub show_worked : (seen : ℕ) (name : List ℕ) → (is_some (position (is_named name) program.procs) ≡ true → count_reached program (One name) ≤ seen) →
+  pub show_worked : (seen : ℕ) (name : List ℕ) →
+      (is_some (position (is_named name) program.procs) ≡ true → count_reached program (One name) ≤ seen) →
       IsWorked present (command.Show name) seen
   show_worked seen name worked other aim (aim_is, is, defined) =
       let same = same_program other is in
@@ -40,7 +41,8 @@ module _ (once : HaveOneAnswer) (present : Present) (program : Program) (reads :
   pub save_worked : (seen : ℕ) → count_reached program All ≤ seen → IsWorked present command.Save seen
   save_worked seen worked other aim (aim_is, saves, is) = report_worked seen worked other aim (aim_is, is)
 
-  pub total_worked : (seen : ℕ) → count_reached program All ≤ seen → (other : Program) → Reads present.files (Ok other) → count_reached other All ≤ seen
+  pub total_worked : (seen : ℕ) → count_reached program All ≤ seen → (other : Program) → Reads present.files (Ok other) →
+      count_reached other All ≤ seen
   total_worked seen worked other is = subst (λ (p : Program). count_reached p All ≤ seen) (same_program other is) worked
 
 -- files that are refused are no program
@@ -65,16 +67,20 @@ pub save_nowhere : (present : Present) (seen : ℕ) → present.setting.saves �
 save_nowhere present seen none other aim (aim_is, saves, is) = let clash : true ≡ false = sym saves ∙ none in absurd cc
 
 -- the generated file was put
-pub gen_worked : (present mid : Present) (n : ℕ) (name bytes : List ℕ) (seen : ℕ) → name ≡ GENERATED → bytes ≡ generated n → mid ≡ with_put name bytes present →
+pub gen_worked : (present mid : Present) (n : ℕ) (name bytes : List ℕ) (seen : ℕ) → name ≡ GENERATED → bytes ≡ generated n →
+    mid ≡ with_put name bytes present →
     ((other : Program) → Reads mid.files (Ok other) → count_reached other All ≤ seen) → IsWorked present (command.Gen n) seen
 gen_worked present mid n name bytes seen named made put worked other aim (aim_is, may, is) =
     let there : mid.files ≡ with_file GENERATED (generated n) present.files =
-    ap (λ (p : Present). p.files) put ∙ ap (λ xs. (with_put xs bytes present).files) named ∙ ap (λ xs. (with_put GENERATED xs present).files) made ∙
+    ap (λ (p : Present). p.files) put ∙ ap (λ xs. (with_put xs bytes present).files) named
+    ∙ ap (λ xs. (with_put GENERATED xs present).files) made ∙
     put_so (put_refusal GENERATED (generated n) present.files) may in
     subst (λ (a : Aim). count_reached other a ≤ seen) (sym aim_is)
     (worked other (subst (λ files. Reads files (Ok other)) (sym there) is))
   where
-    put_so : (refusal : Option ℕ) → refusal ≡ None → unless_refused refusal (with_file GENERATED (generated n) present.files) present.files ≡ with_file GENERATED (generated n) present.files
+    put_so : (refusal : Option ℕ) → refusal ≡ None →
+        unless_refused refusal (with_file GENERATED (generated n) present.files) present.files
+        ≡ with_file GENERATED (generated n) present.files
     put_so None e = refl
     put_so (Some code) e = cc
 
@@ -82,7 +88,8 @@ gen_worked present mid n name bytes seen named made put worked other aim (aim_is
 pub gen_not_worked : (present : Present) (n code : ℕ) (name bytes : List ℕ) (seen : ℕ) → name ≡ GENERATED → bytes ≡ generated n →
     Some code ≡ put_refusal name bytes present.files → IsWorked present (command.Gen n) seen
 gen_not_worked present n code name bytes seen named made refused other aim (aim_is, may, is) =
-    let clash : Some code ≡ None = refused ∙ ap (λ xs. put_refusal xs bytes present.files) named ∙ ap (λ xs. put_refusal GENERATED xs present.files) made ∙ may in
+    let clash : Some code ≡ None = refused ∙ ap (λ xs. put_refusal xs bytes present.files) named
+    ∙ ap (λ xs. put_refusal GENERATED xs present.files) made ∙ may in
     absurd (apart clash)
   where
     apart : Some code ≡ None → ⊥

@@ -1,5 +1,6 @@
 -- What is collected of the components that an aim reaches is what is known of them, where it has the answers that keys are given.
-use Rattle.std.proofs.Common.{◌≡◌, ℕ, zero, suc, ◌+◌, ◌<◌, Bool, true, false, cond, List, [], ◌∷◌, length, map, slice_get, Some, None, Option, All}
+use Rattle.std.proofs.Common.{◌≡◌, ℕ, zero, suc, ◌+◌, ◌<◌, Bool, true, false, cond, List, [], ◌∷◌, length, map, slice_get, Some, None}
+use Rattle.std.proofs.Common.{Option, All}
 use Rattle.std.proofs.Common.{refl, sym, ap, ◌∙◌, subst, filter, filter_map, option_map, arith}
 use Rattle.std.specs.List.{range_with_len}
 use Rattle.std.proofs.lemmas.Bool.{lt-ltb}
@@ -37,7 +38,8 @@ in_range from zero i x at = not_none at
 in_range from (suc count) zero x at = let here : from ≡ x = some_same at in omega (arith, here)
 in_range from (suc count) (suc i) x at = let lt = in_range (from + 1) count i x at in omega (arith, lt)
 
-from_filter : {X : Type 0} (p : X → Bool) (xs : List X) (k : ℕ) (x : X) → slice_get (filter p xs) k ≡ Some x → (p x ≡ true) × ((i : ℕ) × (slice_get xs i ≡ Some x))
+from_filter : {X : Type 0} (p : X → Bool) (xs : List X) (k : ℕ) (x : X) → slice_get (filter p xs) k ≡ Some x →
+    (p x ≡ true) × ((i : ℕ) × (slice_get xs i ≡ Some x))
 from_filter p [] k x at = not_none at
 from_filter {X = X} p (first ∷ xs) k x at = by_test (p first) refl k at (from_filter p xs)
   where
@@ -56,7 +58,8 @@ passing_at p count k x at =
     (own.0, omega (arith, lt))
 
 -- and each number below it that passes stands there
-pub passing_in : (p : ℕ → Bool) (count x : ℕ) → p x ≡ true → x < count → (k : ℕ) × (slice_get (filter p (range_with_len 0 count)) k ≡ Some x)
+pub passing_in : (p : ℕ → Bool) (count x : ℕ) → p x ≡ true → x < count →
+    (k : ℕ) × (slice_get (filter p (range_with_len 0 count)) k ≡ Some x)
 passing_in p count x passes lt =
     let here : 0 + x ≡ x = omega arith in
     in_filter p (range_with_len 0 count) x x (range_at 0 count x lt ∙ ap (λ n. Some n) here) passes
@@ -78,10 +81,13 @@ module _ (answer_of : Key → Answer) (world : World) (aim : Aim) (settled : IsS
   slots_given : All IsGiven (map slot_solution (slots_by world (aimed world.program aim)))
   slots_given = subst (All IsGiven) same (All-map IsGiven solution_of kept all_given)
 
-  slot_given : (component : ℕ) (slot : Slot) → aimed world.program aim component ≡ true → settled_at world component ≡ Some slot → slot.answer ≡ answer_of slot.key
+  slot_given : (component : ℕ) (slot : Slot) → aimed world.program aim component ≡ true → settled_at world component ≡ Some slot →
+      slot.answer ≡ answer_of slot.key
   slot_given component slot reaches at =
       let own = settled_stands world component slot at in
-      let place = passing_in (aimed world.program aim) (length (standings world)) component reaches (slice_get_within (standings world) component own.0 own.1) in
+      let place =
+      passing_in (aimed world.program aim) (length (standings world)) component reaches
+      (slice_get_within (standings world) component own.0 own.1) in
       let there = in_filter_map (settled_at world) reached place.0 component slot place.1 at in
       all_at IsGiven (map slot_solution (slots_by world (aimed world.program aim))) there.0 (slot_solution slot) slots_given
       (at_map slot_solution (slots_by world (aimed world.program aim)) there.0 ∙ ap (option_map slot_solution) there.1)
@@ -97,12 +103,14 @@ module _ (answer_of : Key → Answer) (world : World) (aim : Aim) (settled : IsS
           let own = stands_at world place there.0 there.1 in
           absurd (settled place reaches
           (record { standing = own.standing; at = own.at; settled = sym (settled_of world place own.standing own.at) ∙ e }))
-      by_slot (Some slot) e = sym (settled_known answer_of world (aimed world.program aim) (aims_are world aim) slot_given place slot reaches e)
+      by_slot (Some slot) e =
+          sym (settled_known answer_of world (aimed world.program aim) (aims_are world aim) slot_given place slot reaches e)
 
   slots_known : map slot_solution (slots_by world (aimed world.program aim)) ≡ aimed_known answer_of world.program aim
   slots_known =
       let places : List ℕ = filter (aimed world.program aim) (range_with_len 0 (length (program_components world.program))) in
-      ap (λ n. map slot_solution (filter_map (settled_at world) (filter (aimed world.program aim) (range_with_len 0 n)))) (standings_length world) ∙
+      ap (λ n. map slot_solution (filter_map (settled_at world) (filter (aimed world.program aim) (range_with_len 0 n))))
+      (standings_length world) ∙
       given_mapped slot_solution (settled_at world) places ∙
       mapped_same (λ place. option_map slot_solution (settled_at world place)) (slice_get known) places places refl
       (λ i place other at at_same.
@@ -110,7 +118,8 @@ module _ (answer_of : Key → Answer) (world : World) (aim : Aim) (settled : IsS
       slot_known place own.0 own.1 ∙ ap (slice_get known) (some_same (sym at ∙ at_same)))
 
 pub collected_are_known : (solves : Key → Answer → Type 0) → CollectedAreKnown solves
-collected_are_known solves answer_of log legal aim settled kept same all_given = same ∙ slots_known answer_of (replay log) aim settled kept same all_given
+collected_are_known solves answer_of log legal aim settled kept same all_given =
+    same ∙ slots_known answer_of (replay log) aim settled kept same all_given
 
 pub all_are_aimed : AllAreAimed
 all_are_aimed answer_of program =

@@ -1,5 +1,6 @@
 -- At least as many answers were published as components are settled: each has a slot of its own.
-use Rattle.std.proofs.Common.{◌≡◌, ℕ, zero, suc, ◌+◌, ◌<◌, ◌≤◌, Bool, true, false, cond, List, [], ◌∷◌, length, slice_get, Some, None, Option}
+use Rattle.std.proofs.Common.{◌≡◌, ℕ, zero, suc, ◌+◌, ◌<◌, ◌≤◌, Bool, true, false, cond, List, [], ◌∷◌, length, slice_get, Some, None}
+use Rattle.std.proofs.Common.{Option}
 use Rattle.std.proofs.Common.{refl, sym, ◌∙◌, filter, filter_map, arith}
 use Rattle.std.specs.List.{AllByRecursion, IsDistinct, cons_option, range_with_len}
 use Rattle.std.specs.Prelude.{nat_eq}
@@ -32,7 +33,8 @@ use Rattle.settled_laws.proofs.Aimed.{passing_at}
 -- ---- numbers that pass differ
 
 -- each is at least the first
-none_before : (p : ℕ → Bool) (low from count : ℕ) → low < from → AllByRecursion (λ x. nat_eq low x ≡ false) (filter p (range_with_len from count))
+none_before : (p : ℕ → Bool) (low from count : ℕ) → low < from →
+    AllByRecursion (λ x. nat_eq low x ≡ false) (filter p (range_with_len from count))
 none_before p low from zero lt = tt
 none_before p low from (suc count) lt = by_test (p from) (none_before p low (from + 1) count (omega (arith, lt)))
   where
@@ -41,7 +43,8 @@ none_before p low from (suc count) lt = by_test (p from) (none_before p low (fro
     differs true e = let same : low ≡ from = (Decides-eqb low from).0 e in absurd (omega (arith, lt, same))
 
     by_test : (b : Bool) → AllByRecursion (λ x. nat_eq low x ≡ false) (filter p (range_with_len (from + 1) count)) →
-        AllByRecursion (λ x. nat_eq low x ≡ false) (cond b (from ∷ filter p (range_with_len (from + 1) count)) (filter p (range_with_len (from + 1) count)))
+        AllByRecursion (λ x. nat_eq low x ≡ false)
+        (cond b (from ∷ filter p (range_with_len (from + 1) count)) (filter p (range_with_len (from + 1) count)))
     by_test true again = (differs (nat_eq low from) refl, again)
     by_test false again = again
 
@@ -50,7 +53,8 @@ unfolding IsDistinct
 all_differ p from zero = tt
 all_differ p from (suc count) = by_test (p from) (none_before p from (from + 1) count (omega arith)) (all_differ p (from + 1) count)
   where
-    by_test : (b : Bool) → AllByRecursion (λ x. nat_eq from x ≡ false) (filter p (range_with_len (from + 1) count)) → IsDistinct nat_eq (filter p (range_with_len (from + 1) count)) →
+    by_test : (b : Bool) → AllByRecursion (λ x. nat_eq from x ≡ false) (filter p (range_with_len (from + 1) count)) →
+        IsDistinct nat_eq (filter p (range_with_len (from + 1) count)) →
         IsDistinct nat_eq (cond b (from ∷ filter p (range_with_len (from + 1) count)) (filter p (range_with_len (from + 1) count)))
     by_test true others again = (others, again)
     by_test false others again = again
@@ -88,7 +92,8 @@ module _ (log : List Event) (aim : Aim) (settled : IsSettled (replay log) (aimed
       by_slot None e =
           let there = within_at (program_components world.program) place lt in
           let own = stands_at world place there.0 there.1 in
-          absurd (settled place reached (record { standing = own.standing; at = own.at; settled = sym (settled_of world place own.standing own.at) ∙ e }))
+          absurd (settled place reached
+          (record { standing = own.standing; at = own.at; settled = sym (settled_of world place own.standing own.at) ∙ e }))
       by_slot (Some slot) e =
           let there = within_at (program_components world.program) place lt in
           let own = stands_at world place there.0 there.1 in
@@ -97,7 +102,8 @@ module _ (log : List Event) (aim : Aim) (settled : IsSettled (replay log) (aimed
           settled_slot (slot_of world.slots (names_of own.standing.part.flows)) own.standing.due slot
           (sym is.settled ∙ sym (settled_of world place own.standing own.at) ∙ e) in
           let at = found (λ (one : Slot). same_names one.members (names_of own.standing.part.flows)) world.slots slot here in
-          let members : slot.members ≡ names_of own.standing.part.flows = (names_same slot.members (names_of own.standing.part.flows)).0 at.0 in
+          let members : slot.members ≡ names_of own.standing.part.flows =
+          (names_same slot.members (names_of own.standing.part.flows)).0 at.0 in
           in_filter_map (λ (one : Slot). place_named (program_components world.program) one.members) world.slots at.1.0 slot place at.1.1
           (own_place world.program place own.standing.part slot.members (part_at world place own.standing own.at) (sym members))
 

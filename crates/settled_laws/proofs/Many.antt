@@ -18,7 +18,8 @@ use Rattle.settled_laws.proofs.Aimed.{passing_at}
 
 module _ (world : World) (aim : Aim) (settled : IsSettled world (aimed world.program aim)) where
   -- a component that is reached has a slot
-  has_slot : (place : ℕ) → aimed world.program aim place ≡ true → place < length (program_components world.program) → (slot : Slot) × (settled_at world place ≡ Some slot)
+  has_slot : (place : ℕ) → aimed world.program aim place ≡ true → place < length (program_components world.program)
+      → (slot : Slot) × (settled_at world place ≡ Some slot)
   has_slot place reaches lt = by_slot (settled_at world place) refl
     where
       by_slot : (o : Option Slot) → settled_at world place ≡ o → (slot : Slot) × (settled_at world place ≡ Some slot)
@@ -29,7 +30,8 @@ module _ (world : World) (aim : Aim) (settled : IsSettled world (aimed world.pro
           (record { standing = own.standing; at = own.at; settled = sym (settled_of world place own.standing own.at) ∙ e }))
       by_slot (Some slot) e = (slot, e)
 
-  slots_many : length (slots_by world (aimed world.program aim)) ≡ count_by (aimed world.program aim) (range_with_len 0 (length (program_components world.program)))
+  slots_many : length (slots_by world (aimed world.program aim))
+      ≡ count_by (aimed world.program aim) (range_with_len 0 (length (program_components world.program)))
   slots_many =
       let same : length (standings world) ≡ length (program_components world.program) = standings_length world in
       mapped_length (settled_at world) (filter (aimed world.program aim) (range_with_len 0 (length (standings world))))
@@ -41,4 +43,5 @@ module _ (world : World) (aim : Aim) (settled : IsSettled world (aimed world.pro
 
 pub collected_are_many : CollectedAreMany
 collected_are_many log aim settled kept same =
-    sym (length-map kept solution_of) ∙ ap length same ∙ length-map (slots_by (replay log) (aimed (replay log).program aim)) slot_solution ∙ slots_many (replay log) aim settled
+    sym (length-map kept solution_of) ∙ ap length same ∙ length-map (slots_by (replay log) (aimed (replay log).program aim)) slot_solution
+    ∙ slots_many (replay log) aim settled

@@ -57,13 +57,15 @@ given_known before answers (first ∷ others) callees each e =
 -- ---- what is known
 
 module _ (answer_of : Key → Answer) (world : World) (aim : ℕ → Bool) (closed : IsAim world aim)
-    (have : (component : ℕ) (slot : Slot) → aim component ≡ true → settled_at world component ≡ Some slot → slot.answer ≡ answer_of slot.key) where
+    (have : (component : ℕ) (slot : Slot) → aim component ≡ true → settled_at world component ≡ Some slot →
+    slot.answer ≡ answer_of slot.key) where
   abbrev known : List Solution
   known = known_by answer_of world.program
 
   -- over those before it that the aim reaches
   known_at : (component : ℕ) (slot : Slot) → aim component ≡ true → settled_at world component ≡ Some slot →
-      ((other : ℕ) (its : Slot) → other < component → aim other ≡ true → settled_at world other ≡ Some its → slice_get known other ≡ Some (slot_solution its)) →
+      ((other : ℕ) (its : Slot) → other < component → aim other ≡ true → settled_at world other ≡ Some its →
+      slice_get known other ≡ Some (slot_solution its)) →
       slice_get known component ≡ Some (slot_solution slot)
   known_at component slot reached settled before =
       let own = settled_stands world component slot settled in
@@ -91,7 +93,8 @@ module _ (answer_of : Key → Answer) (world : World) (aim : ℕ → Bool) (clos
       slice_get known component ≡ Some (slot_solution slot)
   known_below zero component slot lt reached settled = absurd (omega (arith, lt))
   known_below (suc bound) component slot lt reached settled =
-      known_at component slot reached settled (λ other its less reaches there. known_below bound other its (omega (arith, lt, less)) reaches there)
+      known_at component slot reached settled
+      (λ other its less reaches there. known_below bound other its (omega (arith, lt, less)) reaches there)
 
   pub settled_known : (component : ℕ) (slot : Slot) → aim component ≡ true → settled_at world component ≡ Some slot →
       slice_get known component ≡ Some (slot_solution slot)

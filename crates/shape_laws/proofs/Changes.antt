@@ -7,10 +7,13 @@ use Rattle.std.proofs.lemmas.Bool.Decides.{Decides-int_eq}
 use Rattle.shape_data.specs.declared.machine.Cell.{Cell}
 use Rattle.shape_data.specs.declared.program.StructDef.{StructDef}
 use Rattle.shape_data.specs.Heap.{cell_at, put, without, with_field, first_of_two, HasShape, IsHeap, IsSum}
-use Rattle.shape_laws.proofs.Cells.{cell_at-put_same, cell_at-put_other, cell_at-without_same, cell_at-without_other, cell_at-with_field_same, cell_at-with_field_other, with_number, first_right_none, IsHeap-put, IsHeap-without, IsHeap-with_field}
+use Rattle.shape_laws.proofs.Cells.{cell_at-put_same, cell_at-put_other, cell_at-without_same, cell_at-without_other}
+use Rattle.shape_laws.proofs.Cells.{cell_at-with_field_same, cell_at-with_field_other, with_number, first_right_none, IsHeap-put}
+use Rattle.shape_laws.proofs.Cells.{IsHeap-without, IsHeap-with_field}
 
 -- where the frame has no cell, the whole has that of the part
-pub IsSum-cell_outside : {structs : List StructDef} {whole own frame : List Cell} → IsSum structs whole own frame → (at : ℤ) → cell_at frame at ≡ None → cell_at whole at ≡ cell_at own at
+pub IsSum-cell_outside : {structs : List StructDef} {whole own frame : List Cell} → IsSum structs whole own frame → (at : ℤ) →
+    cell_at frame at ≡ None → cell_at whole at ≡ cell_at own at
 IsSum-cell_outside {structs} {whole} {own} {frame} sum at none = sum.cells at ∙ first_right_none (cell_at own at) (cell_at frame at) none
 
 -- a change at one address outside the frame, alike in the part and the whole
@@ -28,7 +31,8 @@ IsSum-changed {structs} {whole} {own} {frame} at new_whole new_own sum none whol
   apart = λ other. apart_at other (int_eq at other) refl;
 }
   where
-    cells_at : (other : ℤ) (b : Bool) → int_eq at other ≡ b → cell_at new_whole other ≡ first_of_two (cell_at new_own other) (cell_at frame other)
+    cells_at : (other : ℤ) (b : Bool) → int_eq at other ≡ b →
+        cell_at new_whole other ≡ first_of_two (cell_at new_own other) (cell_at frame other)
     cells_at other true e =
         let same : at ≡ other = (Decides-int_eq at other).0 e in
         rw (← same) (alike ∙ sym (first_right_none (cell_at new_own at) (cell_at frame at) none))
@@ -38,10 +42,12 @@ IsSum-changed {structs} {whole} {own} {frame} at new_whole new_own sum none whol
     apart_at other true e some = let same : at ≡ other = (Decides-int_eq at other).0 e in rw (← same) none
     apart_at other false e some = sum.apart other (rw (own_stays other e) at some)
 
-pub IsSum-put : {structs : List StructDef} {whole own frame : List Cell} (cell : Cell) → pos 0 <ℤ cell.at → HasShape structs cell → cell_at frame cell.at ≡ None →
+pub IsSum-put : {structs : List StructDef} {whole own frame : List Cell} (cell : Cell) → pos 0 <ℤ cell.at → HasShape structs cell →
+    cell_at frame cell.at ≡ None →
     IsSum structs whole own frame → IsSum structs (put cell whole) (put cell own) frame
 IsSum-put {structs} {whole} {own} {frame} cell above has_shape none sum =
-    IsSum-changed cell.at (put cell whole) (put cell own) sum none (IsHeap-put cell above has_shape sum.is_heap) (IsHeap-put cell above has_shape sum.left_is_heap)
+    IsSum-changed cell.at (put cell whole) (put cell own) sum none (IsHeap-put cell above has_shape sum.is_heap)
+    (IsHeap-put cell above has_shape sum.left_is_heap)
     (cell_at-put_same cell whole ∙ sym (cell_at-put_same cell own)) (cell_at-put_other cell whole) (cell_at-put_other cell own)
 
 pub IsSum-without : {structs : List StructDef} {whole own frame : List Cell} (at : ℤ) → cell_at frame at ≡ None →
@@ -56,5 +62,6 @@ pub IsSum-with_field : {structs : List StructDef} {whole own frame : List Cell} 
 IsSum-with_field {structs} {whole} {own} {frame} at field value none sum =
     IsSum-changed at (with_field whole at field value) (with_field own at field value) sum none
     (IsHeap-with_field at field value sum.is_heap) (IsHeap-with_field at field value sum.left_is_heap)
-    (cell_at-with_field_same whole at field value ∙ ap (with_number field value) (IsSum-cell_outside sum at none) ∙ sym (cell_at-with_field_same own at field value))
+    (cell_at-with_field_same whole at field value ∙ ap (with_number field value) (IsSum-cell_outside sum at none)
+    ∙ sym (cell_at-with_field_same own at field value))
     (cell_at-with_field_other whole at field value) (cell_at-with_field_other own at field value)

@@ -22,11 +22,13 @@ use Rattle.shape_data.specs.declared.symbolic.SymHeap.{SymHeap}
 use Rattle.shape_data.specs.declared.symbolic.SymState.{SymState}
 use Rattle.shape_data.specs.Heap.{struct_named, HaveShapes, IsHeap, IsSum}
 use Rattle.shape_data.specs.Structures.{ContainsStructures}
-use Rattle.shape_data.specs.WellFormed.{AreCallees, AreKeyProcs, AreStates, IsAtom, IsCallee, IsCert, IsCmd, IsField, IsFlow, IsKind, IsNode, IsPost, IsSpec, IsState, IsSummary, IsSymHeap, Limits}
+use Rattle.shape_data.specs.WellFormed.{AreCallees, AreKeyProcs, AreStates, IsAtom, IsCallee, IsCert, IsCmd, IsField, IsFlow, IsKind}
+use Rattle.shape_data.specs.WellFormed.{IsNode, IsPost, IsSpec, IsState, IsSummary, IsSymHeap, Limits}
 
 module _ (larger smaller : List StructDef) (contains : ContainsStructures larger smaller) where
   -- what is said of the structure that the smaller list has of a name is said of the larger list's
-  pub named-carries : (kind : List ℕ) (P : StructDef → Type 0) → IsSomeAnd (struct_named smaller kind) P → IsSomeAnd (struct_named larger kind) P
+  pub named-carries : (kind : List ℕ) (P : StructDef → Type 0) → IsSomeAnd (struct_named smaller kind) P
+      → IsSomeAnd (struct_named larger kind) P
   named-carries kind P some = by_found (struct_named smaller kind) refl some
     where
       by_found : (found : Option StructDef) → struct_named smaller kind ≡ found → IsSomeAnd found P → IsSomeAnd (struct_named larger kind) P
@@ -45,7 +47,8 @@ module _ (larger smaller : List StructDef) (contains : ContainsStructures larger
 
   pub shapes-carry : (heap : List Cell) → HaveShapes smaller heap → HaveShapes larger heap
   shapes-carry [] all = tt
-  shapes-carry (cell ∷ cells) all = (named-carries cell.kind (λ def. length cell.fields ≡ length def.fields) all.0, shapes-carry cells all.1)
+  shapes-carry (cell ∷ cells) all =
+      (named-carries cell.kind (λ def. length cell.fields ≡ length def.fields) all.0, shapes-carry cells all.1)
 
   pub heap-carries : (heap : List Cell) → IsHeap smaller heap → IsHeap larger heap
   heap-carries heap is_heap = record { rising = is_heap.rising; shaped = shapes-carry heap is_heap.shaped }
@@ -89,7 +92,13 @@ module _ (larger smaller : List StructDef) (contains : ContainsStructures larger
   }
 
   pub procs-carry : (flows : List Flow) → AreKeyProcs smaller flows → AreKeyProcs larger flows
-  procs-carry flows are = record { some = are.some; countable = are.countable; each = All-weaker (IsFlow smaller) (IsFlow larger) flow-carries flows are.each; ordered = are.ordered }
+  procs-carry flows are =
+      record {
+        some = are.some;
+        countable = are.countable;
+        each = All-weaker (IsFlow smaller) (IsFlow larger) flow-carries flows are.each;
+        ordered = are.ordered;
+      }
 
   module _ (limits : Limits) where
     pub atom-carries : (params : ℕ) (atom : Atom) → IsAtom limits smaller params atom → IsAtom limits larger params atom
@@ -104,13 +113,18 @@ module _ (larger smaller : List StructDef) (contains : ContainsStructures larger
       atoms = All-weaker (IsAtom limits smaller params) (IsAtom limits larger params) (atom-carries params) heap.spatial is.atoms;
     }
 
-    pub state-carries : (params slots : ℕ) (state : SymState) → IsState limits smaller params slots state → IsState limits larger params slots state
-    state-carries params slots state is = record { one_each = is.one_each; locals = is.locals; heap = sym_heap-carries params state.heap is.heap }
+    pub state-carries : (params slots : ℕ) (state : SymState) → IsState limits smaller params slots state
+        → IsState limits larger params slots state
+    state-carries params slots state is =
+        record { one_each = is.one_each; locals = is.locals; heap = sym_heap-carries params state.heap is.heap }
 
-    pub states-carry : (params slots : ℕ) (states : List SymState) → AreStates limits smaller params slots states → AreStates limits larger params slots states
+    pub states-carry : (params slots : ℕ) (states : List SymState) → AreStates limits smaller params slots states
+        → AreStates limits larger params slots states
     states-carry params slots states are = record {
       few = are.few;
-      each = All-weaker (IsState limits smaller params slots) (IsState limits larger params slots) (state-carries params slots) states are.each;
+      each =
+          All-weaker (IsState limits smaller params slots) (IsState limits larger params slots)
+          (state-carries params slots) states are.each;
     }
 
     pub post-carries : (params : ℕ) (post : Post) → IsPost limits smaller params post → IsPost limits larger params post
@@ -126,10 +140,14 @@ module _ (larger smaller : List StructDef) (contains : ContainsStructures larger
     pub cert-carries : (flow : Flow) (cert : Cert) → IsCert limits smaller flow cert → IsCert limits larger flow cert
     cert-carries flow cert is = record {
       one_each = is.one_each;
-      nodes = All-weaker (AreStates limits smaller (length flow.params) (length flow.slots)) (AreStates limits larger (length flow.params) (length flow.slots))
+      nodes =
+          All-weaker (AreStates limits smaller (length flow.params) (length flow.slots))
+          (AreStates limits larger (length flow.params) (length flow.slots))
           (states-carry (length flow.params) (length flow.slots)) cert.nodes is.nodes;
       few = is.few;
-      exits = All-weaker (IsPost limits smaller (length flow.params)) (IsPost limits larger (length flow.params)) (post-carries (length flow.params)) cert.exits is.exits;
+      exits =
+          All-weaker (IsPost limits smaller (length flow.params)) (IsPost limits larger (length flow.params))
+          (post-carries (length flow.params)) cert.exits is.exits;
     }
 
     pub callee-carries : (callee : Callee) → IsCallee limits smaller callee → IsCallee limits larger callee
@@ -137,7 +155,9 @@ module _ (larger smaller : List StructDef) (contains : ContainsStructures larger
       name = is.name;
       params = is.params;
       few = is.few;
-      specs = All-weaker (IsSpec limits smaller (length callee.params)) (IsSpec limits larger (length callee.params)) (spec-carries (length callee.params)) callee.specs is.specs;
+      specs =
+          All-weaker (IsSpec limits smaller (length callee.params)) (IsSpec limits larger (length callee.params))
+          (spec-carries (length callee.params)) callee.specs is.specs;
     }
 
     pub callees-carry : (callees : List Callee) → AreCallees limits smaller callees → AreCallees limits larger callees
@@ -147,11 +167,14 @@ module _ (larger smaller : List StructDef) (contains : ContainsStructures larger
       different = are.different;
     }
 
-    pub summary-carries : (flow : Flow) (summary : ProcSummary) → IsSummary limits smaller flow summary → IsSummary limits larger flow summary
+    pub summary-carries : (flow : Flow) (summary : ProcSummary) → IsSummary limits smaller flow summary
+        → IsSummary limits larger flow summary
     summary-carries flow summary is = record {
       name = is.name;
       few = is.few;
-      specs = All-weaker (IsSpec limits smaller (length flow.params)) (IsSpec limits larger (length flow.params)) (spec-carries (length flow.params)) summary.specs is.specs;
+      specs =
+          All-weaker (IsSpec limits smaller (length flow.params)) (IsSpec limits larger (length flow.params))
+          (spec-carries (length flow.params)) summary.specs is.specs;
       one_each = is.one_each;
       certs = All-weaker (IsCert limits smaller flow) (IsCert limits larger flow) (cert-carries flow) summary.certs is.certs;
     }

@@ -19,14 +19,19 @@ run_from-append program (choice ∷ choices) second config index =
     counted = omega arith
 
     by_step : (to : Stepped) →
-        ((next : Config) → run_from program next (choices ++ second) (index + 1) ≡ continued program ((index + 1) + length choices) second (run_from program next choices (index + 1))) →
+        ((next : Config) →
+        run_from program next (choices ++ second) (index + 1)
+        ≡ continued program ((index + 1) + length choices) second (run_from program next choices (index + 1))) →
         run_after index (λ next. run_from program next (choices ++ second) (index + 1)) to
-        ≡ continued program (index + length (choice ∷ choices)) second (run_after index (λ next. run_from program next choices (index + 1)) to)
+        ≡ continued program (index + length (choice ∷ choices)) second
+        (run_after index (λ next. run_from program next choices (index + 1)) to)
     by_step (stepped.On next) later = later next ∙ ap (λ n. continued program n second (run_from program next choices (index + 1))) counted
     by_step (stepped.Returned value heap) later = refl
     by_step (stepped.Fault line cause) later = refl
     by_step stepped.BadChoice later = refl
 
-pub run-append : (program : Program) (config : Config) (first second : List Choice) → run program config (first ++ second) ≡ continued program (length first) second (run program config first)
+pub run-append : (program : Program) (config : Config) (first second : List Choice) →
+    run program config (first ++ second) ≡ continued program (length first) second (run program config first)
 run-append program config first second =
-    run_from-append program first second config 0 ∙ ap (λ n. continued program n second (run program config first)) (zero-add (length first))
+    run_from-append program first second config 0
+    ∙ ap (λ n. continued program n second (run program config first)) (zero-add (length first))

@@ -34,16 +34,19 @@ Holds-split structs s a b whole holds =
     let parts = HoldsAtoms-split structs s a.spatial b.spatial holds.atoms in
     (parts.0, parts.1, parts.2, record { facts = facts.0; atoms = parts.3 }, record { facts = facts.1; atoms = parts.4 })
 
-pub Meets-is_heap : (structs : List StructDef) (s : ℕ → ℤ) (heap : List Cell) (shape : SymHeap) → Meets structs s heap shape → IsHeap structs heap
+pub Meets-is_heap : (structs : List StructDef) (s : ℕ → ℤ) (heap : List Cell) (shape : SymHeap) → Meets structs s heap shape →
+    IsHeap structs heap
 Meets-is_heap structs s heap shape meets = HoldsAtoms-is_heap structs meets.0 shape.spatial meets.2.atoms
 
 pub Meets-emp : (structs : List StructDef) (s : ℕ → ℤ) (heap : List Cell) → Meets structs s heap emp ↔ (heap ≡ [])
 Meets-emp structs s heap = (λ meets. meets.2.atoms, λ empty. (s, λ x below. refl, record { facts = tt; atoms = empty }))
 
-pub Meets-agree : (structs : List StructDef) (s u : ℕ → ℤ) (heap : List Cell) (shape : SymHeap) → AgreesOnLogical s u → Meets structs s heap shape → Meets structs u heap shape
+pub Meets-agree : (structs : List StructDef) (s u : ℕ → ℤ) (heap : List Cell) (shape : SymHeap) → AgreesOnLogical s u →
+    Meets structs s heap shape → Meets structs u heap shape
 Meets-agree structs s u heap shape agrees meets = (meets.0, λ x below. meets.1 x below ∙ sym (agrees x below), meets.2)
 
-module _ (a b : SymHeap) (apart : ShareNoExistential a b) (s t u : ℕ → ℤ) (t_agrees : AgreesOnLogical s t) (u_agrees : AgreesOnLogical s u) where
+module _ (a b : SymHeap) (apart : ShareNoExistential a b) (s t u : ℕ → ℤ) (t_agrees : AgreesOnLogical s t)
+    (u_agrees : AgreesOnLogical s u) where
   -- one assignment for two symbolic heaps: that of the first for the variables that occur there
   abbrev merged : ℕ → ℤ
   merged x = if occurs_in x a then t x else u x
@@ -76,7 +79,8 @@ module _ (a b : SymHeap) (apart : ShareNoExistential a b) (s t u : ℕ → ℤ) 
   on_b : (x : ℕ) → occurs_in x b ≡ true → u x ≡ merged x
   on_b x k = second (occurs_in x a) (t x) (u x) (λ h. same_value x h k)
 
-pub Meets-beside : (structs : List StructDef) (s : ℕ → ℤ) (a b : SymHeap) (whole one other : List Cell) → ShareNoExistential a b → IsSum structs whole one other →
+pub Meets-beside : (structs : List StructDef) (s : ℕ → ℤ) (a b : SymHeap) (whole one other : List Cell) → ShareNoExistential a b →
+    IsSum structs whole one other →
     Meets structs s one a → Meets structs s other b → Meets structs s whole (beside a b)
 Meets-beside structs s a b whole one other apart sum on_a' on_b' =
     let t = on_a'.0 in

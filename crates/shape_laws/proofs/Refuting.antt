@@ -11,7 +11,8 @@ use Rattle.shape_data.specs.Heap.{IsHeap, IsSum, cell_at}
 use Rattle.shape_data.specs.Meaning.{value, IsChain, IsSumOf, MeetsOne}
 use Rattle.shape_data.specs.Valid.{Valid}
 use Rattle.shape_laws.specs.Examples.{bad_flow, node_cell, node_struct}
-use Rattle.shape_laws.specs.Refuted.{cell_at_x, drop_flow, list_between, set_flow, CycleMeets, IsNeverValid, NoEmptySegment, TwoCellsAreApart}
+use Rattle.shape_laws.specs.Refuted.{cell_at_x, drop_flow, list_between, set_flow, CycleMeets, IsNeverValid, NoEmptySegment}
+use Rattle.shape_laws.specs.Refuted.{TwoCellsAreApart}
 use Rattle.shape_laws.specs.Returns.{identity_program, returns_value}
 use Rattle.shape_laws.specs.Symbolic.{emp}
 use Rattle.shape_laws.proofs.Meets.{Meets-emp}
@@ -21,11 +22,13 @@ use Rattle.shape_laws.proofs.Sums.{IsHeap-empty, IsSum-unit, IsSum-unit_right, I
 abbrev values : ℕ → ℤ
 values x = if x == 1 then pos 2 else pos 1
 
-not_two : (structs : List StructDef) (heap : List Cell) → MeetsOne structs values (pos 1) heap (record { ret = Const (pos 2); heap = emp } ∷ []) → ⊥
+not_two : (structs : List StructDef) (heap : List Cell) →
+    MeetsOne structs values (pos 1) heap (record { ret = Const (pos 2); heap = emp } ∷ []) → ⊥
 not_two structs heap (inl m) = cc
 not_two structs heap (inr n) = n
 
-not_further : (structs : List StructDef) (heap : List Cell) → MeetsOne structs values (pos 1) heap (record { ret = Var 1; heap = emp } ∷ []) → ⊥
+not_further : (structs : List StructDef) (heap : List Cell) →
+    MeetsOne structs values (pos 1) heap (record { ret = Var 1; heap = emp } ∷ []) → ⊥
 not_further structs heap (inl m) = let same : pos 1 ≡ pos 2 = m.2 ∙ m.1 1 (lit< tt) in cc
 not_further structs heap (inr n) = n
 
@@ -76,7 +79,9 @@ changed e = let same : pos 1 ≡ pos 2 = ap first_number e in cc
 -- the cell at x is the frame's, and it is written
 pub writes_the_frame : IsNeverValid set_flow emp
 writes_the_frame posts valid =
-    let ended = valid values [] one_node one_node ((Meets-emp (node_struct ∷ []) values []).1 refl) (IsSum-unit one_is_heap) (choice.Go ∷ choice.Go ∷ []) in
+    let ended =
+    valid values [] one_node one_node ((Meets-emp (node_struct ∷ []) values []).1 refl) (IsSum-unit one_is_heap)
+    (choice.Go ∷ choice.Go ∷ []) in
     changed (IsSum-cell_right ended.1 (pos 1) (node_cell (pos 1) (pos 2) (pos 1)) refl)
 
 cycle_is_heap : (number : ℤ) → IsHeap (node_struct ∷ []) (node_cell (pos 1) number (pos 1) ∷ [])
@@ -85,8 +90,11 @@ cycle_is_heap number = record { rising = (omega arith, tt); shaped = (refl, tt) 
 pub cycle_meets : CycleMeets
 cycle_meets s number is =
     let cell : Cell = node_cell (pos 1) number (pos 1) in
-    let whole : IsSum (node_struct ∷ []) (cell ∷ []) (cell ∷ []) [] = IsSum-unit_right (cycle_is_heap number) in
-    (s, λ x below. refl, record { facts = tt; atoms = (cell ∷ [], [], whole, (cell ∷ [], (sym is, refl, sym is), ([], whole, refl)), refl) })
+    let whole : IsSum (node_struct ∷ []) (cell ∷ []) (cell ∷ []) [] = IsSum-unit_right (cycle_is_heap number) in (
+      s,
+      λ x below. refl,
+      record { facts = tt; atoms = (cell ∷ [], [], whole, (cell ∷ [], (sym is, refl, sym is), ([], whole, refl)), refl) },
+    )
 
 none_at : (at : ℤ) (cell : Cell) → cell_at [] at ≡ Some cell → ⊥
 none_at at cell e = cc

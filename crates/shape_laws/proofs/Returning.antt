@@ -50,7 +50,8 @@ module _ (program : Program) (number : ℕ) (operand : Operand) (at_once : Retur
   first_step args heap choice = rw (at_once.is_proc, at_once.is_first, at_once.is_return) refl
 
   pub returned-ValidFor : (ret : Exp) →
-      ((s t : ℕ → ℤ) → AgreesOnLogical s t → operand_value (new_frame number at_once.proc.flow (values_from s 0 at_once.proc.flow.params) None).locals operand ≡ value t ret) →
+      ((s t : ℕ → ℤ) → AgreesOnLogical s t →
+      operand_value (new_frame number at_once.proc.flow (values_from s 0 at_once.proc.flow.params) None).locals operand ≡ value t ret) →
       ValidFor program number at_once.proc (returns_value ret)
   returned-ValidFor ret said s own frame whole meets sum [] = tt
   returned-ValidFor ret said s own frame whole meets sum (choice ∷ choices) =
@@ -58,27 +59,34 @@ module _ (program : Program) (number : ℕ) (operand : Operand) (at_once : Retur
       (own, sum, inl (meets.0, meets.1, said s meets.0 meets.1, meets.2))
 
   pub returned-Valid : (ret : Exp) →
-      ((s t : ℕ → ℤ) → AgreesOnLogical s t → operand_value (new_frame number at_once.proc.flow (values_from s 0 at_once.proc.flow.params) None).locals operand ≡ value t ret) →
+      ((s t : ℕ → ℤ) → AgreesOnLogical s t →
+      operand_value (new_frame number at_once.proc.flow (values_from s 0 at_once.proc.flow.params) None).locals operand ≡ value t ret) →
       Valid program number (returns_value ret)
   returned-Valid ret said = rw at_once.is_proc (returned-ValidFor ret said)
 
-pub parameter-first_step : (program : Program) (number slot : ℕ) (at_once : ReturnsAtOnce program number (Slot slot)) (args : List ℤ) (heap : List Cell) (choice : Choice) →
-    slot < length args → step program (start at_once.proc.flow number args heap) choice ≡ stepped.Returned (slice_index_or args slot (pos 0)) heap
+pub parameter-first_step : (program : Program) (number slot : ℕ) (at_once : ReturnsAtOnce program number (Slot slot)) (args : List ℤ)
+    (heap : List Cell) (choice : Choice) →
+    slot < length args →
+    step program (start at_once.proc.flow number args heap) choice ≡ stepped.Returned (slice_index_or args slot (pos 0)) heap
 parameter-first_step program number slot at_once args heap choice within =
-    first_step program number (Slot slot) at_once args heap choice ∙ ap (λ v. stepped.Returned v heap) (get_or-append args _ (pos 0) slot within)
+    first_step program number (Slot slot) at_once args heap choice
+    ∙ ap (λ v. stepped.Returned v heap) (get_or-append args _ (pos 0) slot within)
 
-pub other_slot-first_step : (program : Program) (number slot : ℕ) (at_once : ReturnsAtOnce program number (Slot slot)) (args : List ℤ) (heap : List Cell) (choice : Choice) →
+pub other_slot-first_step : (program : Program) (number slot : ℕ) (at_once : ReturnsAtOnce program number (Slot slot)) (args : List ℤ)
+    (heap : List Cell) (choice : Choice) →
     length args ≤ slot → step program (start at_once.proc.flow number args heap) choice ≡ stepped.Returned (pos 0) heap
 other_slot-first_step program number slot at_once args heap choice past =
     first_step program number (Slot slot) at_once args heap choice ∙ ap (λ v. stepped.Returned v heap) (past_value args _ slot past)
 
 pub parameter-Valid : (program : Program) (number slot : ℕ) (at_once : ReturnsAtOnce program number (Slot slot)) →
     slot < length at_once.proc.flow.params → slot < 65536 → Valid program number (returns_value (Var slot))
-parameter-Valid program number slot at_once is_param is_logical = returned-Valid program number (Slot slot) at_once (Var slot) (λ s t agrees.
+parameter-Valid program number slot at_once is_param is_logical =
+    returned-Valid program number (Slot slot) at_once (Var slot) (λ s t agrees.
     let bare : 0 + slot ≡ slot = omega arith in
     param_value s 0 at_once.proc.flow.params _ slot is_param ∙ ap s bare ∙ sym (agrees slot is_logical))
 
-pub number-Valid : (program : Program) (number : ℕ) (n : ℤ) → ReturnsAtOnce program number (Num n) → Valid program number (returns_value (Const n))
+pub number-Valid : (program : Program) (number : ℕ) (n : ℤ) → ReturnsAtOnce program number (Num n) →
+    Valid program number (returns_value (Const n))
 number-Valid program number n at_once = returned-Valid program number (Num n) at_once (Const n) (λ s t agrees. refl)
 
 pub other_slot-Valid : (program : Program) (number slot : ℕ) (at_once : ReturnsAtOnce program number (Slot slot)) →

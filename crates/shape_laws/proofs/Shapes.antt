@@ -11,7 +11,8 @@ use Rattle.shape_laws.proofs.Cells.{low_none}
 use Rattle.shape_laws.proofs.Sums.{at_first, at_later, IsHeap-union, IsSum-cell_left, IsSum-cell_right, IsSum-is_union}
 
 -- the cell at an address has its shape
-pub HaveShapes-at : (structs : List StructDef) (heap : List Cell) (at : ℤ) (cell : Cell) → HaveShapes structs heap → cell_at heap at ≡ Some cell → HasShape structs cell
+pub HaveShapes-at : (structs : List StructDef) (heap : List Cell) (at : ℤ) (cell : Cell) → HaveShapes structs heap
+    → cell_at heap at ≡ Some cell → HasShape structs cell
 HaveShapes-at structs [] at cell all is = cc
 HaveShapes-at structs (first ∷ others) at cell all is = by_test (HaveShapes-at structs others at cell all.1) (int_eq first.at at) refl
   where
@@ -23,10 +24,14 @@ HaveShapes-at structs (first ∷ others) at cell all is = by_test (HaveShapes-at
     by_test later false e = let there : cell_at others at ≡ Some cell = rw e at is in later there
 
 -- where the cell at each address has its shape, all have
-pub HaveShapes-of : (structs : List StructDef) (low : ℤ) (heap : List Cell) → AreRising low heap → ((at : ℤ) (cell : Cell) → cell_at heap at ≡ Some cell → HasShape structs cell) → HaveShapes structs heap
+pub HaveShapes-of : (structs : List StructDef) (low : ℤ) (heap : List Cell) → AreRising low heap
+    → ((at : ℤ) (cell : Cell) → cell_at heap at ≡ Some cell → HasShape structs cell) → HaveShapes structs heap
 HaveShapes-of structs low [] rising each = tt
-HaveShapes-of structs low (cell ∷ cells) rising each =
-    (each cell.at cell (at_first cell cells), HaveShapes-of structs cell.at cells rising.1 (λ at other is. each at other (later at other is)))
+HaveShapes-of structs low (cell ∷ cells) rising each = (
+  each cell.at cell (at_first cell cells),
+  HaveShapes-of structs cell.at cells rising.1
+      (λ at other is. each at other (later at other is)),
+)
   where
     later : (at : ℤ) (other : Cell) → cell_at cells at ≡ Some other → cell_at (cell ∷ cells) at ≡ Some other
     later at other is = by_test (int_lt cell.at at) refl
@@ -39,23 +44,29 @@ HaveShapes-of structs low (cell ∷ cells) rising each =
             cc
 
 -- a sum whose whole is a heap over other structures is a sum over those: its parts have no other cells
-pub IsSum-over_whole : (structs others : List StructDef) (whole left right : List Cell) → IsHeap others whole → IsSum structs whole left right → IsSum others whole left right
+pub IsSum-over_whole : (structs others : List StructDef) (whole left right : List Cell) → IsHeap others whole
+    → IsSum structs whole left right → IsSum others whole left right
 IsSum-over_whole structs others whole left right is_heap sum = record {
   is_heap = is_heap;
   left_is_heap = record {
     rising = sum.left_is_heap.rising;
-    shaped = HaveShapes-of others (pos 0) left sum.left_is_heap.rising (λ at cell is. HaveShapes-at others whole at cell is_heap.shaped (IsSum-cell_left sum at cell is));
+    shaped =
+        HaveShapes-of others (pos 0) left sum.left_is_heap.rising
+        (λ at cell is. HaveShapes-at others whole at cell is_heap.shaped (IsSum-cell_left sum at cell is));
   };
   right_is_heap = record {
     rising = sum.right_is_heap.rising;
-    shaped = HaveShapes-of others (pos 0) right sum.right_is_heap.rising (λ at cell is. HaveShapes-at others whole at cell is_heap.shaped (IsSum-cell_right sum at cell is));
+    shaped =
+        HaveShapes-of others (pos 0) right sum.right_is_heap.rising
+        (λ at cell is. HaveShapes-at others whole at cell is_heap.shaped (IsSum-cell_right sum at cell is));
   };
   cells = sum.cells;
   apart = sum.apart;
 }
 
 -- and so is one whose parts are heaps over other structures
-pub IsSum-over_parts : (structs others : List StructDef) (whole left right : List Cell) → IsHeap others left → IsHeap others right → IsSum structs whole left right → IsSum others whole left right
+pub IsSum-over_parts : (structs others : List StructDef) (whole left right : List Cell) → IsHeap others left → IsHeap others right
+    → IsSum structs whole left right → IsSum others whole left right
 IsSum-over_parts structs others whole left right is_left is_right sum = record {
   is_heap = subst (λ heap. IsHeap others heap) (sym (IsSum-is_union sum)) (IsHeap-union others left right is_left is_right);
   left_is_heap = is_left;

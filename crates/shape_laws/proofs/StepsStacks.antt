@@ -1,5 +1,6 @@
 -- Stacks that are well formed, from their frames; and what a well-formed program says of a procedure and a node.
-use Rattle.std.specs.Prelude.{◌≡◌, ℕ, zero, suc, ◌+◌, ◌-◌, ◌<◌, ◌≤◌, ℤ, pos, Bool, true, false, List, [], ◌∷◌, ◌++◌, length, replicate, slice_get, slice_index_or, All}
+use Rattle.std.specs.Prelude.{◌≡◌, ℕ, zero, suc, ◌+◌, ◌-◌, ◌<◌, ◌≤◌, ℤ, pos, Bool, true, false, List, [], ◌∷◌, ◌++◌, length, replicate}
+use Rattle.std.specs.Prelude.{slice_get, slice_index_or, All}
 use Rattle.std.specs.Str.{bytes_eq}
 use Rattle.std.specs.declared.option.Option.{Option}
 use Rattle.std.specs.declared.option.Option.TheVariants.{None, Some}
@@ -17,7 +18,8 @@ use Rattle.shape_data.specs.WellFormed.{IsFrame, AreFrames}
 -- ---- lists
 
 -- what holds of each holds of the one at a place
-pub All-at : {A : Type 0} (P : A → Type 0) (things : List A) (place : ℕ) (thing : A) → All P things → slice_get things place ≡ Some thing → P thing
+pub All-at : {A : Type 0} (P : A → Type 0) (things : List A) (place : ℕ) (thing : A) → All P things → slice_get things place ≡ Some thing →
+    P thing
 All-at P things place thing all is =
     let here : slice_index_or things place thing ≡ thing = get_or_from_slice_get things place thing thing is in
     rw here at (all place thing (slice_get_within things place thing is))
@@ -59,7 +61,8 @@ last_of-push under (first ∷ frames) frame = last_of-push (Some first) frames f
 pub AreFrames-append : (program : Program) (under : Option Frame) (frames others : List Frame) →
     AreFrames program under frames → AreFrames program (last_of under frames) others → AreFrames program under (frames ++ others)
 AreFrames-append program under [] others are more = more
-AreFrames-append program under (frame ∷ frames) others are more = (are.0, are.1, AreFrames-append program (Some frame) frames others are.2 more)
+AreFrames-append program under (frame ∷ frames) others are more =
+    (are.0, are.1, AreFrames-append program (Some frame) frames others are.2 more)
 
 pub AreFrames-split : (program : Program) (under : Option Frame) (frames others : List Frame) →
     AreFrames program under (frames ++ others) → AreFrames program under frames × AreFrames program (last_of under frames) others
@@ -81,7 +84,8 @@ pub proc_found : (k : ℕ) (procs : List Proc) (name : List ℕ) (found : ℕ ×
 proc_found k [] name found is = cc
 proc_found k (proc ∷ procs) name found is = by_test (proc_found (k + 1) procs name found) (bytes_eq proc.flow.name name) refl is
   where
-    by_test : (proc_named_from (k + 1) procs name ≡ Some found → (place : ℕ) × (found.0 ≡ k + 1 + place) × (slice_get procs place ≡ Some found.1) × (found.1.flow.name ≡ name)) →
+    by_test : (proc_named_from (k + 1) procs name ≡ Some found →
+        (place : ℕ) × (found.0 ≡ k + 1 + place) × (slice_get procs place ≡ Some found.1) × (found.1.flow.name ≡ name)) →
         (b : Bool) → bytes_eq proc.flow.name name ≡ b → proc_named_from k (proc ∷ procs) name ≡ Some found →
         (place : ℕ) × (found.0 ≡ k + place) × (slice_get (proc ∷ procs) place ≡ Some found.1) × (found.1.flow.name ≡ name)
     by_test later true e is' =
@@ -96,6 +100,11 @@ proc_found k (proc ∷ procs) name found is = by_test (proc_found (k + 1) procs 
         (suc rest.0, number, rest.2, rest.3)
 
 -- a new frame has one local for each slot
-pub new_frame_locals : (number : ℕ) (flow : Flow) (args : List ℤ) (to : Option ℕ) → length args ≤ length flow.slots → length (new_frame number flow args to).locals ≡ length flow.slots
+pub new_frame_locals : (number : ℕ) (flow : Flow) (args : List ℤ) (to : Option ℕ) → length args ≤ length flow.slots →
+    length (new_frame number flow args to).locals ≡ length flow.slots
 new_frame_locals number flow args to few =
-    rw (length-append args (replicate (length flow.slots - length args) (pos 0)), length-replicate (length flow.slots - length args) (pos 0)) (omega arith)
+    rw (
+      length-append args (replicate (length flow.slots - length args) (pos 0)),
+      length-replicate (length flow.slots - length args)
+          (pos 0),
+    ) (omega arith)

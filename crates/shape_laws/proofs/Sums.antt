@@ -42,11 +42,14 @@ rising-union low [] right rising others = others
 rising-union low (cell ∷ cells) right rising others =
     rising-put low cell (union cells right) (rising-union low cells right (rising_from low cell cells rising.0 rising.1) others) rising.0
 
-shapes-union : (structs : List StructDef) (left right : List Cell) → HaveShapes structs left → HaveShapes structs right → HaveShapes structs (union left right)
+shapes-union : (structs : List StructDef) (left right : List Cell) → HaveShapes structs left → HaveShapes structs right →
+    HaveShapes structs (union left right)
 shapes-union structs [] right all others = others
-shapes-union structs (cell ∷ cells) right all others = shapes-put structs cell (union cells right) all.0 (shapes-union structs cells right all.1 others)
+shapes-union structs (cell ∷ cells) right all others =
+    shapes-put structs cell (union cells right) all.0 (shapes-union structs cells right all.1 others)
 
-pub IsHeap-union : (structs : List StructDef) (left right : List Cell) → IsHeap structs left → IsHeap structs right → IsHeap structs (union left right)
+pub IsHeap-union : (structs : List StructDef) (left right : List Cell) → IsHeap structs left → IsHeap structs right →
+    IsHeap structs (union left right)
 IsHeap-union structs left right is_left is_right = record {
   rising = rising-union (pos 0) left right is_left.rising is_right.rising;
   shaped = shapes-union structs left right is_left.shaped is_right.shaped;
@@ -74,7 +77,8 @@ IsSum-unit {structs} is_heap = record {
 }
 
 -- the union of the two left parts of a sum of three
-pub IsSum-left : {structs : List StructDef} {whole first others second third : List Cell} → IsSum structs whole first others → IsSum structs others second third →
+pub IsSum-left : {structs : List StructDef} {whole first others second third : List Cell} → IsSum structs whole first others →
+    IsSum structs others second third →
     IsSum structs (union first second) first second
 IsSum-left {structs} {whole} {first} {others} {second} {third} outer inner = record {
   is_heap = IsHeap-union structs first second outer.left_is_heap inner.left_is_heap;
@@ -84,13 +88,16 @@ IsSum-left {structs} {whole} {first} {others} {second} {third} outer inner = rec
   apart = λ at some. (first_none (cell_at second at) (cell_at third at) (sym (inner.cells at) ∙ outer.apart at some)).0;
 }
 
-pub IsSum-assoc : {structs : List StructDef} {whole first others second third : List Cell} → IsSum structs whole first others → IsSum structs others second third →
+pub IsSum-assoc : {structs : List StructDef} {whole first others second third : List Cell} → IsSum structs whole first others →
+    IsSum structs others second third →
     IsSum structs whole (union first second) third
 IsSum-assoc {structs} {whole} {first} {others} {second} {third} outer inner = record {
   is_heap = outer.is_heap;
   left_is_heap = IsHeap-union structs first second outer.left_is_heap inner.left_is_heap;
   right_is_heap = inner.right_is_heap;
-  cells = λ at. rw (cell_at-union first second at, first_assoc (cell_at first at) (cell_at second at) (cell_at third at), ← inner.cells at) (outer.cells at);
+  cells =
+      λ at. rw (cell_at-union first second at, first_assoc (cell_at first at) (cell_at second at) (cell_at third at), ← inner.cells at)
+      (outer.cells at);
   apart = λ at some. some_of_first (cell_at first at) (cell_at second at) (cell_at third at ≡ None)
       (λ in_first. (first_none (cell_at second at) (cell_at third at) (sym (inner.cells at) ∙ outer.apart at in_first)).1)
       (inner.apart at)
@@ -114,11 +121,13 @@ no_cells : (low : ℤ) (heap : List Cell) → ((at : ℤ) → cell_at heap at �
 no_cells low [] none = refl
 no_cells low (cell ∷ cells) none = let e : None ≡ Some cell = sym (none cell.at) ∙ at_first cell cells in cc
 
-pub same_cells : (low : ℤ) (left right : List Cell) → AreRising low left → AreRising low right → ((at : ℤ) → cell_at left at ≡ cell_at right at) → left ≡ right
+pub same_cells : (low : ℤ) (left right : List Cell) → AreRising low left → AreRising low right →
+    ((at : ℤ) → cell_at left at ≡ cell_at right at) → left ≡ right
 same_cells low [] right rising others equal = sym (no_cells low right (λ at. sym (equal at)))
 same_cells low (cell ∷ cells) [] rising others equal = no_cells low (cell ∷ cells) equal
 same_cells low (cell ∷ cells) (other ∷ rest) rising others equal =
-    by_order (λ rising_rest. same_cells cell.at cells rest rising.1 rising_rest) (int_lt cell.at other.at) refl (int_lt other.at cell.at) refl
+    by_order (λ rising_rest. same_cells cell.at cells rest rising.1 rising_rest) (int_lt cell.at other.at) refl
+    (int_lt other.at cell.at) refl
   where
     later : cell ≡ other → cells ≡ rest → cell ∷ cells ≡ other ∷ rest
     later e f = cc
@@ -136,7 +145,8 @@ same_cells low (cell ∷ cells) (other ∷ rest) rising others equal =
             let other_under : at ≤ℤ other.at = rw (← e) under in
             low_none cell.at at cells rising.1 under ∙ sym (low_none other.at at rest others.1 other_under)
 
-    by_order : (AreRising cell.at rest → ((at : ℤ) → cell_at cells at ≡ cell_at rest at) → cells ≡ rest) → (b : Bool) → int_lt cell.at other.at ≡ b → (d : Bool) → int_lt other.at cell.at ≡ d → cell ∷ cells ≡ other ∷ rest
+    by_order : (AreRising cell.at rest → ((at : ℤ) → cell_at cells at ≡ cell_at rest at) → cells ≡ rest) → (b : Bool) →
+        int_lt cell.at other.at ≡ b → (d : Bool) → int_lt other.at cell.at ≡ d → cell ∷ cells ≡ other ∷ rest
     by_order go_on true e d f =
         let above : cell.at <ℤ other.at = grind (arith, ints) in
         let under : cell.at ≤ℤ cell.at = grind (arith, ints) in
@@ -151,7 +161,8 @@ same_cells low (cell ∷ cells) (other ∷ rest) rising others equal =
         cc
     by_order go_on false e false f =
         let same : cell.at ≡ other.at = grind (arith, ints) in
-        let g : Some cell ≡ Some other = sym (at_first cell cells) ∙ equal cell.at ∙ ap (cell_at (other ∷ rest)) same ∙ at_first other rest in
+        let g : Some cell ≡ Some other =
+        sym (at_first cell cells) ∙ equal cell.at ∙ ap (cell_at (other ∷ rest)) same ∙ at_first other rest in
         let one : cell ≡ other = cc in
         let other_rising : AreRising cell.at rest = rw same others.1 in
         later one (go_on other_rising (tails one))
@@ -167,18 +178,22 @@ pub IsSum-unit_right : {structs : List StructDef} {heap : List Cell} → IsHeap 
 IsSum-unit_right is_heap = IsSum-sym (IsSum-unit is_heap)
 
 -- two heaps that a third heap can be put beside
-pub IsSum-rebuild : {structs : List StructDef} {whole first others second third : List Cell} → IsSum structs whole first others → IsSum structs others second third →
+pub IsSum-rebuild : {structs : List StructDef} {whole first others second third : List Cell} → IsSum structs whole first others →
+    IsSum structs others second third →
     (both : List Cell) × IsSum structs whole second both × IsSum structs both first third
 IsSum-rebuild {structs} {whole} {first} {others} {second} {third} outer inner =
     let turned : IsSum structs others third second = IsSum-sym inner in
     (union first third, IsSum-sym (IsSum-assoc outer turned), IsSum-left outer turned)
 
 -- the first of two beside a third: both regrouped to the left, and back
-pub IsSum-to_left : {structs : List StructDef} {whole first others second third : List Cell} → IsSum structs whole first others → IsSum structs others second third →
+pub IsSum-to_left : {structs : List StructDef} {whole first others second third : List Cell} → IsSum structs whole first others →
+    IsSum structs others second third →
     (both : List Cell) × IsSum structs whole both third × IsSum structs both first second
-IsSum-to_left {structs} {whole} {first} {others} {second} {third} outer inner = (union first second, IsSum-assoc outer inner, IsSum-left outer inner)
+IsSum-to_left {structs} {whole} {first} {others} {second} {third} outer inner =
+    (union first second, IsSum-assoc outer inner, IsSum-left outer inner)
 
-pub IsSum-to_right : {structs : List StructDef} {whole both first second third : List Cell} → IsSum structs whole both third → IsSum structs both first second →
+pub IsSum-to_right : {structs : List StructDef} {whole both first second third : List Cell} → IsSum structs whole both third →
+    IsSum structs both first second →
     (others : List Cell) × IsSum structs whole first others × IsSum structs others second third
 IsSum-to_right {structs} {whole} {both} {first} {second} {third} outer inner =
     let turned : IsSum structs both second first = IsSum-sym inner in
@@ -186,15 +201,18 @@ IsSum-to_right {structs} {whole} {both} {first} {second} {third} outer inner =
     (union third second, IsSum-sym (IsSum-assoc far turned), IsSum-sym (IsSum-left far turned))
 
 -- the cell of the left part stands in the whole
-pub IsSum-cell_left : {structs : List StructDef} {whole left right : List Cell} → IsSum structs whole left right → (at : ℤ) (cell : Cell) → cell_at left at ≡ Some cell → cell_at whole at ≡ Some cell
+pub IsSum-cell_left : {structs : List StructDef} {whole left right : List Cell} → IsSum structs whole left right → (at : ℤ) (cell : Cell) →
+    cell_at left at ≡ Some cell → cell_at whole at ≡ Some cell
 IsSum-cell_left sum at cell e = sum.cells at ∙ rw e refl
 
 -- the cell of the right part stands in the whole
-pub IsSum-cell_right : {structs : List StructDef} {whole left right : List Cell} → IsSum structs whole left right → (at : ℤ) (cell : Cell) → cell_at right at ≡ Some cell → cell_at whole at ≡ Some cell
+pub IsSum-cell_right : {structs : List StructDef} {whole left right : List Cell} → IsSum structs whole left right → (at : ℤ) (cell : Cell) →
+    cell_at right at ≡ Some cell → cell_at whole at ≡ Some cell
 IsSum-cell_right sum at cell e = IsSum-cell_left (IsSum-sym sum) at cell e
 
 -- two disjoint heaps have a sum, their union, and no other
-pub IsSum-union : (structs : List StructDef) (left right : List Cell) → IsHeap structs left → IsHeap structs right → Disjoint left right → IsSum structs (union left right) left right
+pub IsSum-union : (structs : List StructDef) (left right : List Cell) → IsHeap structs left → IsHeap structs right → Disjoint left right →
+    IsSum structs (union left right) left right
 IsSum-union structs left right is_left is_right apart = record {
   is_heap = IsHeap-union structs left right is_left is_right;
   left_is_heap = is_left;
@@ -203,24 +221,31 @@ IsSum-union structs left right is_left is_right apart = record {
   apart = apart;
 }
 
-pub IsSum-same : {structs : List StructDef} {whole other left right : List Cell} → IsSum structs whole left right → IsSum structs other left right → whole ≡ other
-IsSum-same {structs} {whole} {other} sum also = same_cells (pos 0) whole other sum.is_heap.rising also.is_heap.rising (λ at. sum.cells at ∙ sym (also.cells at))
+pub IsSum-same : {structs : List StructDef} {whole other left right : List Cell} → IsSum structs whole left right →
+    IsSum structs other left right → whole ≡ other
+IsSum-same {structs} {whole} {other} sum also =
+    same_cells (pos 0) whole other sum.is_heap.rising also.is_heap.rising (λ at. sum.cells at ∙ sym (also.cells at))
 
 pub IsSum-is_union : {structs : List StructDef} {whole left right : List Cell} → IsSum structs whole left right → whole ≡ union left right
-IsSum-is_union {structs} {whole} {left} {right} sum = IsSum-same sum (IsSum-union structs left right sum.left_is_heap sum.right_is_heap sum.apart)
+IsSum-is_union {structs} {whole} {left} {right} sum =
+    IsSum-same sum (IsSum-union structs left right sum.left_is_heap sum.right_is_heap sum.apart)
 
 pub Disjoint-sym : (left right : List Cell) → Disjoint left right → Disjoint right left
 Disjoint-sym left right apart at = swapped_apart (cell_at left at) (cell_at right at) (apart at)
 
-pub union-comm : (structs : List StructDef) (left right : List Cell) → IsHeap structs left → IsHeap structs right → Disjoint left right → union left right ≡ union right left
+pub union-comm : (structs : List StructDef) (left right : List Cell) → IsHeap structs left → IsHeap structs right → Disjoint left right →
+    union left right ≡ union right left
 union-comm structs left right is_left is_right apart = IsSum-is_union (IsSum-sym (IsSum-union structs left right is_left is_right apart))
 
 -- this needs no disjointness: in both the cell of the first heap that has one stands
-pub union-assoc : (structs : List StructDef) (first second third : List Cell) → IsHeap structs first → IsHeap structs second → IsHeap structs third →
+pub union-assoc : (structs : List StructDef) (first second third : List Cell) → IsHeap structs first → IsHeap structs second →
+    IsHeap structs third →
     union (union first second) third ≡ union first (union second third)
 union-assoc structs first second third is_first is_second is_third =
-    let one : IsHeap structs (union (union first second) third) = IsHeap-union structs (union first second) third (IsHeap-union structs first second is_first is_second) is_third in
-    let other : IsHeap structs (union first (union second third)) = IsHeap-union structs first (union second third) is_first (IsHeap-union structs second third is_second is_third) in
+    let one : IsHeap structs (union (union first second) third) =
+    IsHeap-union structs (union first second) third (IsHeap-union structs first second is_first is_second) is_third in
+    let other : IsHeap structs (union first (union second third)) =
+    IsHeap-union structs first (union second third) is_first (IsHeap-union structs second third is_second is_third) in
     same_cells (pos 0) _ _ one.rising other.rising (λ at. alike at)
   where
     alike : (at : ℤ) → cell_at (union (union first second) third) at ≡ cell_at (union first (union second third)) at

@@ -10,7 +10,8 @@ use Rattle.loaded_answers.specs.Lookup.{first_answer, first_entry}
 use Rattle.solve_job.specs.Solves.{IsStoredEntry}
 use Rattle.claim_laws.proofs.Invariant.{all_at}
 
-pub stored_found : (loaded : List Solution) → All IsStoredEntry loaded → (key : Key) (answer : Answer) → first_answer loaded key ≡ Some answer → IsStoredEntry (record { key = key; answer = answer })
+pub stored_found : (loaded : List Solution) → All IsStoredEntry loaded → (key : Key) (answer : Answer)
+    → first_answer loaded key ≡ Some answer → IsStoredEntry (record { key = key; answer = answer })
 stored_found loaded all key answer is =
     let one = mapped_some (λ (it : Solution). it.answer) (first_entry loaded key) answer is in
     let own = found (λ (it : Solution). key_test.0 it.key key) loaded one.0 one.1 in

@@ -40,41 +40,53 @@ module _ (task : Task) where
 
   -- the same specs are left, and what stands is inductive
   abbrev Settled : List Trial → Type 0
-  Settled trials = (filter_map spec_of (map again trials) ≡ filter_map spec_of trials) × AllStanding (IsInductiveCert task) (map again trials)
+  Settled trials = (filter_map spec_of (map again trials) ≡ filter_map spec_of trials)
+      × AllStanding (IsInductiveCert task) (map again trials)
 
-  trials-leave : (trials : List Trial) → Leaves (length (filter_map spec_of (map again trials))) (length (filter_map spec_of trials)) (Settled trials)
+  trials-leave : (trials : List Trial) →
+      Leaves (length (filter_map spec_of (map again trials))) (length (filter_map spec_of trials)) (Settled trials)
   trials-leave [] = record { fewer = omega arith; all = λ same. (refl, tt) }
-  trials-leave (Fell why ∷ trials) = let rest = trials-leave trials in record { fewer = rest.fewer; all = λ same. let settled = rest.all same in (settled.0, (tt, settled.1)) }
+  trials-leave (Fell why ∷ trials) =
+      let rest =
+      trials-leave trials in record { fewer = rest.fewer; all = λ same. let settled = rest.all same in (settled.0, (tt, settled.1)) }
   trials-leave (Stands spec cert ∷ trials) = by_gap (spec_gap task spec cert) refl (trials-leave trials)
     where
-      by_gap : (gap : Option SpecGap) → spec_gap task spec cert ≡ gap → Leaves (length (filter_map spec_of (map again trials))) (length (filter_map spec_of trials)) (Settled trials) →
+      by_gap : (gap : Option SpecGap) → spec_gap task spec cert ≡ gap →
+          Leaves (length (filter_map spec_of (map again trials))) (length (filter_map spec_of trials)) (Settled trials) →
           Leaves (length (filter_map spec_of (unless_gap spec cert gap ∷ map again trials))) (suc (length (filter_map spec_of trials)))
-          ((filter_map spec_of (unless_gap spec cert gap ∷ map again trials) ≡ spec ∷ filter_map spec_of trials) × AllStanding (IsInductiveCert task) (unless_gap spec cert gap ∷ map again trials))
+          ((filter_map spec_of (unless_gap spec cert gap ∷ map again trials) ≡ spec ∷ filter_map spec_of trials)
+          × AllStanding (IsInductiveCert task) (unless_gap spec cert gap ∷ map again trials))
       by_gap None is rest =
           let fewer = rest.fewer in record {
             fewer = omega (arith, fewer);
-            all = λ same. let settled = rest.all (omega (arith, same)) in (ap (λ specs. spec ∷ specs) settled.0, ((no_spec_gap task spec cert).0 is, settled.1));
+            all =
+                λ same. let settled =
+                rest.all (omega (arith, same)) in (ap (λ specs. spec ∷ specs) settled.0, ((no_spec_gap task spec cert).0 is, settled.1));
           }
-      by_gap (Some gap) is rest = let fewer = rest.fewer in record { fewer = omega (arith, fewer); all = λ same. absurd (omega (arith, fewer, same)) }
+      by_gap (Some gap) is rest =
+          let fewer = rest.fewer in record { fewer = omega (arith, fewer); all = λ same. absurd (omega (arith, fewer, same)) }
 
 -- ---- all procedures
 
 module _ (key : Key) where
   -- what stands is inductive under a table
   abbrev InductiveUnder : Table → List Flow → List Attempt → Type 0
-  InductiveUnder table flows attempts = AllZip (λ flow one. AllStanding (IsInductiveCert (task_under key table flow)) one.trials) flows attempts
+  InductiveUnder table flows attempts =
+      AllZip (λ flow one. AllStanding (IsInductiveCert (task_under key table flow)) one.trials) flows attempts
 
   -- under the table of itself
   abbrev pub InductiveTogether : List Attempt → Type 0
   InductiveTogether attempts = InductiveUnder (table_with key (specs_of attempts) false) key.procs attempts
 
   module _ (P : Flow → Attempt → Type 0) where
-    nothing-stands : (table : Table) (flows : List Flow) (attempts : List Attempt) → AllZip P flows attempts → count_of attempts ≡ 0 → InductiveUnder table flows attempts
+    nothing-stands : (table : Table) (flows : List Flow) (attempts : List Attempt) → AllZip P flows attempts → count_of attempts ≡ 0 →
+        InductiveUnder table flows attempts
     nothing-stands table [] [] all none = tt
     nothing-stands table [] (one ∷ attempts) all none = absurd all
     nothing-stands table (flow ∷ flows) [] all none = absurd all
     nothing-stands table (flow ∷ flows) (one ∷ attempts) all none =
-        let sum : count_of (one ∷ attempts) ≡ length (specs_in one) + count_of attempts = length-append (specs_in one) (flat_map specs_in attempts) in (
+        let sum : count_of (one ∷ attempts) ≡ length (specs_in one) + count_of attempts =
+        length-append (specs_in one) (flat_map specs_in attempts) in (
           standing-none (IsInductiveCert (task_under key table flow)) one.trials (omega (arith, none, sum)),
           nothing-stands table flows attempts all.1 (omega (arith, none, sum)),
         )
@@ -94,8 +106,10 @@ module _ (key : Key) where
         let rest = attempts-leave table flows attempts all.1 in
         let first_fewer = first.fewer in
         let rest_fewer = rest.fewer in
-        let were : count_of (one ∷ attempts) ≡ length (specs_in one) + count_of attempts = length-append (specs_in one) (flat_map specs_in attempts) in
-        let left : count_of (passed table (flow ∷ flows) (one ∷ attempts)) ≡ length (specs_in (attempt_again checked_again task one)) + count_of (passed table flows attempts) =
+        let were : count_of (one ∷ attempts) ≡ length (specs_in one) + count_of attempts =
+        length-append (specs_in one) (flat_map specs_in attempts) in
+        let left : count_of (passed table (flow ∷ flows) (one ∷ attempts))
+        ≡ length (specs_in (attempt_again checked_again task one)) + count_of (passed table flows attempts) =
         length-append (specs_in (attempt_again checked_again task one)) (flat_map specs_in (passed table flows attempts)) in
         record {
           fewer = omega (arith, first_fewer, rest_fewer, were, left);
@@ -106,15 +120,19 @@ module _ (key : Key) where
         }
 
     module _ (kept : (attempts : List Attempt) → AllZip P key.procs attempts → AllZip P key.procs (pass key attempts)) where
-      passes-settle : (left : ℕ) (attempts : List Attempt) → AllZip P key.procs attempts → count_of attempts ≤ left → InductiveTogether (passes left key attempts)
-      passes-settle zero attempts all few = nothing-stands (table_with key (specs_of attempts) false) key.procs attempts all (omega (arith, few))
+      passes-settle : (left : ℕ) (attempts : List Attempt) → AllZip P key.procs attempts → count_of attempts ≤ left →
+          InductiveTogether (passes left key attempts)
+      passes-settle zero attempts all few =
+          nothing-stands (table_with key (specs_of attempts) false) key.procs attempts all (omega (arith, few))
       passes-settle (suc left) attempts all few =
           by_count (count_of (pass key attempts) == count_of attempts) refl
-          (attempts-leave (table_with key (specs_of attempts) false) key.procs attempts all) (passes-settle left (pass key attempts) (kept attempts all))
+          (attempts-leave (table_with key (specs_of attempts) false) key.procs attempts all)
+          (passes-settle left (pass key attempts) (kept attempts all))
         where
           by_count : (b : Bool) → (count_of (pass key attempts) == count_of attempts) ≡ b →
               Leaves (count_of (pass key attempts)) (count_of attempts)
-              ((specs_of (pass key attempts) ≡ specs_of attempts) × InductiveUnder (table_with key (specs_of attempts) false) key.procs (pass key attempts)) →
+              ((specs_of (pass key attempts) ≡ specs_of attempts)
+              × InductiveUnder (table_with key (specs_of attempts) false) key.procs (pass key attempts)) →
               (count_of (pass key attempts) ≤ left → InductiveTogether (passes left key (pass key attempts))) →
               InductiveTogether (cond b (pass key attempts) (passes left key (pass key attempts)))
           by_count true is leaves later =

@@ -13,7 +13,8 @@ use Rattle.solve_laws.specs.declared.parts.Trial.TheVariants.{Fell, Stands}
 use Rattle.solve_laws.specs.Attempts.{cert_of, spec_of}
 use Rattle.solve_laws.specs.Standing.{AllStanding}
 
-pub standing-weaker : (P Q : Spec → Cert → Type 0) → ((spec : Spec) (cert : Cert) → P spec cert → Q spec cert) → (trials : List Trial) → AllStanding P trials → AllStanding Q trials
+pub standing-weaker : (P Q : Spec → Cert → Type 0) → ((spec : Spec) (cert : Cert) → P spec cert → Q spec cert) → (trials : List Trial) →
+    AllStanding P trials → AllStanding Q trials
 standing-weaker P Q weaker [] all = tt
 standing-weaker P Q weaker (Stands spec cert ∷ trials) all = (weaker spec cert all.0, standing-weaker P Q weaker trials all.1)
 standing-weaker P Q weaker (Fell why ∷ trials) all = (tt, standing-weaker P Q weaker trials all.1)
@@ -21,17 +22,20 @@ standing-weaker P Q weaker (Fell why ∷ trials) all = (tt, standing-weaker P Q 
 -- nothing stands
 pub standing-none : (P : Spec → Cert → Type 0) (trials : List Trial) → length (filter_map spec_of trials) ≡ 0 → AllStanding P trials
 standing-none P [] none = tt
-standing-none P (Stands spec cert ∷ trials) none = absurd (let never : suc (length (filter_map spec_of trials)) ≡ 0 = none in omega (arith, never))
+standing-none P (Stands spec cert ∷ trials) none =
+    absurd (let never : suc (length (filter_map spec_of trials)) ≡ 0 = none in omega (arith, never))
 standing-none P (Fell why ∷ trials) none = (tt, standing-none P trials none)
 
 -- the specs that stand
-pub standing-specs : (P : Spec → Type 0) (trials : List Trial) → AllStanding (λ spec cert. P spec) trials → All P (filter_map spec_of trials)
+pub standing-specs : (P : Spec → Type 0) (trials : List Trial) → AllStanding (λ spec cert. P spec) trials →
+    All P (filter_map spec_of trials)
 standing-specs P [] all = All-nil P
 standing-specs P (Stands spec cert ∷ trials) all = All-cons P spec (filter_map spec_of trials) all.0 (standing-specs P trials all.1)
 standing-specs P (Fell why ∷ trials) all = standing-specs P trials all.1
 
 -- their certificates
-pub standing-certs : (P : Cert → Type 0) (trials : List Trial) → AllStanding (λ spec cert. P cert) trials → All P (filter_map cert_of trials)
+pub standing-certs : (P : Cert → Type 0) (trials : List Trial) → AllStanding (λ spec cert. P cert) trials →
+    All P (filter_map cert_of trials)
 standing-certs P [] all = All-nil P
 standing-certs P (Stands spec cert ∷ trials) all = All-cons P cert (filter_map cert_of trials) all.0 (standing-certs P trials all.1)
 standing-certs P (Fell why ∷ trials) all = standing-certs P trials all.1
@@ -61,7 +65,8 @@ standing-few (Fell why ∷ trials) = let few = standing-few trials in omega (ari
 -- ---- two lists, one beside the other
 
 module _ {A B : Type 0} where
-  pub zip-weaker : (P Q : A → B → Type 0) → ((one : A) (other : B) → P one other → Q one other) → (ones : List A) (others : List B) → AllZip P ones others → AllZip Q ones others
+  pub zip-weaker : (P Q : A → B → Type 0) → ((one : A) (other : B) → P one other → Q one other) → (ones : List A) (others : List B) →
+      AllZip P ones others → AllZip Q ones others
   zip-weaker P Q weaker [] [] all = tt
   zip-weaker P Q weaker [] (other ∷ others) all = absurd all
   zip-weaker P Q weaker (one ∷ ones) [] all = absurd all
@@ -73,14 +78,17 @@ module _ {A B : Type 0} where
   zip-length P (one ∷ ones) [] all = absurd all
   zip-length P (one ∷ ones) (other ∷ others) all = let same = zip-length P ones others all.1 in omega (arith, same)
 
-  pub zip-at : (P : A → B → Type 0) (ones : List A) (others : List B) → AllZip P ones others → (place : ℕ) (one : A) (other : B) → place < length ones →
+  pub zip-at : (P : A → B → Type 0) (ones : List A) (others : List B) → AllZip P ones others → (place : ℕ) (one : A) (other : B) →
+      place < length ones →
       P (slice_index_or ones place one) (slice_index_or others place other)
   zip-at P [] others all place one other within = absurd (omega (arith, within))
   zip-at P (first ∷ ones) [] all place one other within = absurd all
   zip-at P (first ∷ ones) (second ∷ others) all zero one other within = all.0
-  zip-at P (first ∷ ones) (second ∷ others) all (suc place) one other within = zip-at P ones others all.1 place one other (omega (arith, within))
+  zip-at P (first ∷ ones) (second ∷ others) all (suc place) one other within =
+      zip-at P ones others all.1 place one other (omega (arith, within))
 
-  pub zip-stand : (P : A → B → Type 0) (ones : List A) (others : List B) → AllZip P ones others → (place : ℕ) (one : A) (other : B) → StandAt ones others place one other → P one other
+  pub zip-stand : (P : A → B → Type 0) (ones : List A) (others : List B) → AllZip P ones others → (place : ℕ) (one : A) (other : B) →
+      StandAt ones others place one other → P one other
   zip-stand P [] others all place one other stand = let never : ◌≡◌ {A = Option A} None (Some one) = stand.0 in cc
   zip-stand P (first ∷ ones) [] all place one other stand = absurd all
   zip-stand P (first ∷ ones) (second ∷ others) all zero one other stand =

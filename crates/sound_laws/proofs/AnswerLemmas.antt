@@ -15,7 +15,8 @@ use Rattle.shape_data.specs.declared.symbolic.Spec.{Spec}
 use Rattle.shape_data.specs.Valid.{Valid}
 use Rattle.shape_data.specs.WellFormed.{IsFlow, IsKey, Limits}
 use Rattle.shape_laws.proofs.StepsStacks.{All-at}
-use Rattle.sound_laws.specs.Answers.{callee_with, own_callees, usable_callees, Summarizes, StandsIn, HasInductiveCerts, AreValidIn, AnswerIsValid}
+use Rattle.sound_laws.specs.Answers.{callee_with, own_callees, usable_callees, Summarizes, StandsIn, HasInductiveCerts, AreValidIn}
+use Rattle.sound_laws.specs.Answers.{AnswerIsValid}
 use Rattle.sound_laws.specs.Certificates.{IsInductive, IsInductiveFor, IsSupported, SupportEachOther}
 use Rattle.sound_laws.specs.Procedures.{Finds, HasFlow, IsValidCallee}
 use Rattle.sound_laws.proofs.CertificateLemmas.{claimed_is_valid}
@@ -23,7 +24,8 @@ use Rattle.sound_laws.proofs.ProcedureLemmas.{each_place, found_once, found_stan
 
 -- what holds of each procedure with its summary holds of each own callee
 pub each_own : (P : Callee → Type 0) (flows : List Flow) (summaries : List ProcSummary) →
-    ((place : ℕ) (flow : Flow) (summary : ProcSummary) → slice_get flows place ≡ Some flow → slice_get summaries place ≡ Some summary → P (callee_with flow summary)) →
+    ((place : ℕ) (flow : Flow) (summary : ProcSummary) → slice_get flows place ≡ Some flow → slice_get summaries place ≡ Some summary →
+    P (callee_with flow summary)) →
     All P (own_callees flows summaries)
 each_own P [] summaries each = All-nil P
 each_own P (flow ∷ flows) [] each = All-nil P
@@ -43,7 +45,8 @@ module _ (limits : Limits) (program : Program) (key : Key) (answer : Answer) (is
     inductive : IsInductive program (usable_callees key answer) flow spec cert
 
   -- each spec of the answer is claimed
-  claimed : (flow : Flow) (summary : ProcSummary) → Summarizes key answer flow summary → (number : ℕ) (proc : Proc) → Finds program flow.name number proc →
+  claimed : (flow : Flow) (summary : ProcSummary) → Summarizes key answer flow summary → (number : ℕ) (proc : Proc) →
+      Finds program flow.name number proc →
       (at : ℕ) (spec : Spec) → slice_get summary.specs at ≡ Some spec → (cert : Cert) × Claimed number spec cert
   claimed flow summary summarizes number proc found at spec is_spec =
       let has = certified flow summary summarizes at spec is_spec in
@@ -70,7 +73,8 @@ module _ (limits : Limits) (program : Program) (key : Key) (answer : Answer) (is
         (All-weaker (IsValidCallee program) (IsSupported program Claimed) outer key.callees stands.outer);
   }
     where
-      inductive_for : (number : ℕ) (spec : Spec) (cert : Cert) → Claimed number spec cert → IsInductiveFor program (usable_callees key answer) number spec cert
+      inductive_for : (number : ℕ) (spec : Spec) (cert : Cert) → Claimed number spec cert →
+          IsInductiveFor program (usable_callees key answer) number spec cert
       inductive_for number spec cert claim = record {
         proc = claim.proc;
         is_proc = found_stands program claim.flow.name number claim.proc claim.found;
@@ -78,7 +82,8 @@ module _ (limits : Limits) (program : Program) (key : Key) (answer : Answer) (is
         inductive = rw claim.same claim.inductive;
       }
 
-      own : (place : ℕ) (flow : Flow) (summary : ProcSummary) → slice_get key.procs place ≡ Some flow → slice_get answer.procs place ≡ Some summary →
+      own : (place : ℕ) (flow : Flow) (summary : ProcSummary) → slice_get key.procs place ≡ Some flow →
+          slice_get answer.procs place ≡ Some summary →
           IsSupported program Claimed (callee_with flow summary)
       own place flow summary is_flow is_summary =
           let stood : HasFlow program flow = All-at (HasFlow program) key.procs place flow stands.own is_flow in record {
@@ -87,7 +92,8 @@ module _ (limits : Limits) (program : Program) (key : Key) (answer : Answer) (is
             found = stood.found;
             params = ap (λ (one : Flow). one.params) stood.same;
             specs = each_place (λ spec. Valid program stood.number spec ⊎ ((cert : Cert) × Claimed stood.number spec cert)) summary.specs
-                (λ at spec is_spec. inr (claimed flow summary (place, (is_flow, is_summary)) stood.number stood.proc stood.found at spec is_spec));
+                (λ at spec is_spec. inr
+                (claimed flow summary (place, (is_flow, is_summary)) stood.number stood.proc stood.found at spec is_spec));
           }
 
       outer : (callee : Callee) → IsValidCallee program callee → IsSupported program Claimed callee
@@ -96,7 +102,9 @@ module _ (limits : Limits) (program : Program) (key : Key) (answer : Answer) (is
         proc = valid.proc;
         found = valid.found;
         params = valid.params;
-        specs = All-weaker (Valid program valid.number) (λ spec. Valid program valid.number spec ⊎ ((cert : Cert) × Claimed valid.number spec cert))
+        specs =
+            All-weaker (Valid program valid.number)
+            (λ spec. Valid program valid.number spec ⊎ ((cert : Cert) × Claimed valid.number spec cert))
             (λ spec is. inl is) callee.specs valid.valid;
       }
 

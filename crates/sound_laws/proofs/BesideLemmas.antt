@@ -24,7 +24,8 @@ use Rattle.shape_data.specs.Machine.{operand_value, run, step, step_cmd}
 use Rattle.shape_data.specs.Valid.{Satisfies, Valid, ValidFor, values_from}
 use Rattle.shape_laws.proofs.FrameSteps.{CarriesStep, CarriesOrRefuses, step_carries}
 use Rattle.shape_laws.proofs.Sums.{IsSum-assoc, IsSum-left, IsSum-to_right}
-use Rattle.sound_laws.specs.Beside.{callee_at_start, config_at, DoesBeside, DoesBesideFrame, DoesOnAnyStack, DoesOnTop, LandsBeside, ReturnsBeside}
+use Rattle.sound_laws.specs.Beside.{callee_at_start, config_at, DoesBeside, DoesBesideFrame, DoesOnAnyStack, DoesOnTop, LandsBeside}
+use Rattle.sound_laws.specs.Beside.{ReturnsBeside}
 use Rattle.sound_laws.specs.Commands.{alone, CallFits, Does, Lands, NodeAssertion, ResultAssertion}
 use Rattle.sound_laws.specs.Leading.{NextIsMet, PostIsMet}
 use Rattle.sound_laws.specs.Procedures.{Finds, IsValidCallee}
@@ -34,8 +35,10 @@ use Rattle.sound_laws.proofs.StackLemmas.{run_over_caller, step_over_caller}
 
 -- ---- beside a frame
 
-module _ (program : Program) (callees : List Callee) (At : NodeAssertion) (Ends : ResultAssertion) (valid : All (IsValidCallee program) callees)
-    (number at : ℕ) (node : Node) (proc : Proc) (is_proc : slice_get program.procs number ≡ Some proc) (is_node : slice_get proc.flow.nodes at ≡ Some node)
+module _ (program : Program) (callees : List Callee) (At : NodeAssertion) (Ends : ResultAssertion)
+    (valid : All (IsValidCallee program) callees)
+    (number at : ℕ) (node : Node) (proc : Proc) (is_proc : slice_get program.procs number ≡ Some proc)
+    (is_node : slice_get proc.flow.nodes at ≡ Some node)
     (locals : List ℤ) (own frame whole : List Cell) (sum : IsSum program.structs whole own frame) where
   carried : (small large : Stepped) → CarriesStep program.structs frame small large → Lands At Ends number small →
       LandsBeside program.structs At Ends number frame large
@@ -45,14 +48,17 @@ module _ (program : Program) (callees : List Callee) (At : NodeAssertion) (Ends 
   carried stepped.BadChoice large carries lands = rw carries tt
 
   step_is : (choice : Choice) →
-      step program (config_at number at locals own) choice ≡ step_cmd program [] (alone number at locals) own choice (proc.line + node.line) node.cmd
+      step program (config_at number at locals own) choice
+      ≡ step_cmd program [] (alone number at locals) own choice (proc.line + node.line) node.cmd
   step_is choice = rw (is_proc, is_node) refl
 
   -- each step of the node's command lands
   abbrev StepsLand : Type 0
-  StepsLand = (choice : Choice) → Lands At Ends number (step_cmd program [] (alone number at locals) own choice (proc.line + node.line) node.cmd)
+  StepsLand = (choice : Choice) →
+      Lands At Ends number (step_cmd program [] (alone number at locals) own choice (proc.line + node.line) node.cmd)
 
-  lands_beside : StepsLand → (choice : Choice) → LandsBeside program.structs At Ends number frame (step program (config_at number at locals whole) choice)
+  lands_beside : StepsLand → (choice : Choice) →
+      LandsBeside program.structs At Ends number frame (step program (config_at number at locals whole) choice)
   lands_beside lands choice =
       by_carried (step program (config_at number at locals own) choice) (step program (config_at number at locals whole) choice)
       (step_carries program (config_at number at locals own) frame whole choice sum) (rw (step_is choice) (lands choice))
@@ -62,7 +68,8 @@ module _ (program : Program) (callees : List Callee) (At : NodeAssertion) (Ends 
       by_carried small large (inl carries) lands = carried small large carries lands
       by_carried small large (inr refused) lands = rw refused.1 tt
 
-  module _ (to : Option ℕ) (next : ℕ) (name : List ℕ) (args : List Operand) (fits : CallFits program.structs callees (At next) locals own to name args) where
+  module _ (to : Option ℕ) (next : ℕ) (name : List ℕ) (args : List Operand)
+      (fits : CallFits program.structs callees (At next) locals own to name args) where
     returned_beside : (rest : List Cell) → IsSum program.structs rest fits.kept frame → (result : Outcome) →
         Satisfies program.structs fits.s rest fits.spec.posts result → ReturnsBeside program.structs (At next) locals to frame result
     returned_beside rest parts (outcome.Running config) satisfies = tt
@@ -119,7 +126,8 @@ does_beside_frame program callees valid number at node is_node state nexts exits
 
 module _ (program : Program) (At : NodeAssertion) (Ends : ResultAssertion) (number at : ℕ) (locals : List ℤ) (frame whole : List Cell)
     (below : List Frame) (caller : Frame) (back : Option ℕ) where
-  stepped_on_top : ((choice : Choice) → LandsBeside program.structs At Ends number frame (step program (config_at number at locals whole) choice)) →
+  stepped_on_top : ((choice : Choice) →
+      LandsBeside program.structs At Ends number frame (step program (config_at number at locals whole) choice)) →
       (choice : Choice) → (landed : Stepped) × LandsBeside program.structs At Ends number frame landed ×
       (step program (config_over below caller back (config_at number at locals whole)) choice ≡ step_over below caller back landed)
   stepped_on_top lands choice =
@@ -149,5 +157,6 @@ module _ (program : Program) (At : NodeAssertion) (Ends : ResultAssertion) (numb
 
 pub does_on_any_stack : DoesOnAnyStack
 does_on_any_stack program callees valid number at node is_node state nexts exits row s locals own meets frame whole sum below caller back =
-    on_top program (NextIsMet program.structs s nexts) (PostIsMet program.structs s exits) number at locals frame whole below caller back node.cmd
+    on_top program (NextIsMet program.structs s nexts)
+    (PostIsMet program.structs s exits) number at locals frame whole below caller back node.cmd
     (does_beside_frame program callees valid number at node is_node state nexts exits row s locals own meets frame whole sum)

@@ -27,13 +27,15 @@ module _ (program : Program) (keys : List Key) (answers : List Answer) (bottom_u
       })
     where
       -- a callee that is answered at an earlier place, where all answers are valid
-      of_callee : ((before : ℕ) (one : Key) (its : Answer) → before < at → StandAt keys answers before one its → AreValidIn program one its) →
+      of_callee : ((before : ℕ) (one : Key) (its : Answer) → before < at → StandAt keys answers before one its →
+          AreValidIn program one its) →
           (callee : Callee) → IsAnsweredBefore keys answers at callee → IsValidCallee program callee
       of_callee earlier callee (before, one, its, less, stood, answered) =
           let there : IsSoundAt program keys answers before one its = bottom_up before one its stood in
           let place = answered.summarized in
           let stands : HasFlow program answered.flow = All-at (HasFlow program) one.procs place.0 answered.flow there.flows place.1.0 in
-          let valid = earlier before one its less stood answered.flow answered.summary place stands.number stands.proc stands.found in record {
+          let valid =
+          earlier before one its less stood answered.flow answered.summary place stands.number stands.proc stands.found in record {
             number = stands.number;
             proc = stands.proc;
             found = found_as program answered.flow.name callee.name stands.number stands.proc answered.name stands.found;

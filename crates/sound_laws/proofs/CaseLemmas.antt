@@ -27,7 +27,14 @@ module _ (program : Program) (callees : List Callee) (cert : Cert) (command : Cm
     left : All IsLeft exits
 
   all_go_on : (cases : List SymState) → All (GoesOn program callees cert command) cases → AllGoOn cases
-  all_go_on [] each = record { nexts = []; exits = []; rows = All-nil (λ case. RowIsSound program callees case command [] []); covered = All-nil IsCovered; left = All-nil IsLeft }
+  all_go_on [] each =
+      record {
+        nexts = [];
+        exits = [];
+        rows = All-nil (λ case. RowIsSound program callees case command [] []);
+        covered = All-nil IsCovered;
+        left = All-nil IsLeft;
+      }
   all_go_on (case ∷ cases) each =
       let first = All-head (GoesOn program callees cert command) case cases each in
       let others = all_go_on cases (All-tail (GoesOn program callees cert command) case cases each) in
@@ -38,7 +45,8 @@ module _ (program : Program) (callees : List Callee) (cert : Cert) (command : Cm
       (λ s node locals heap meets. MeetsNext-left program.structs s node locals heap first.nexts others.nexts meets)
       (λ s value heap meets. MeetsOne-left program.structs s value heap first.exits others.exits meets) in
       let of_others : All (λ case. RowIsSound program callees case command nexts exits) cases =
-      All-weaker (λ case. RowIsSound program callees case command others.nexts others.exits) (λ case. RowIsSound program callees case command nexts exits)
+      All-weaker (λ case. RowIsSound program callees case command others.nexts others.exits)
+      (λ case. RowIsSound program callees case command nexts exits)
       (λ other row. row_may_weaken program callees other command others.nexts nexts others.exits exits row
       (λ s node locals heap meets. MeetsNext-right program.structs s node locals heap first.nexts others.nexts meets)
       (λ s value heap meets. MeetsOne-right program.structs s value heap first.exits others.exits meets))

@@ -1,5 +1,6 @@
 -- The certificate of the recursive procedure supports itself, and so its spec is valid.
-use Rattle.std.specs.Prelude.{◌≡◌, ◌⊎◌, ℕ, zero, suc, ◌==◌, if◌then◌else◌, ℤ, pos, Bool, true, false, List, [], ◌∷◌, slice_get, slice_set, slice_index_or, All}
+use Rattle.std.specs.Prelude.{◌≡◌, ◌⊎◌, ℕ, zero, suc, ◌==◌, if◌then◌else◌, ℤ, pos, Bool, true, false, List, [], ◌∷◌, slice_get, slice_set}
+use Rattle.std.specs.Prelude.{slice_index_or, All}
 use Rattle.std.specs.declared.option.Option.TheVariants.{Some}
 use Rattle.std.proofs.Common.{refl, ap, ◌∙◌, inl, inr, arith, lit<}
 use Rattle.std.proofs.lemmas.Bool.{eqb-true}
@@ -54,10 +55,13 @@ at_end = bare (Var 0) (Var 65536) (Const (pos 7))
 abbrev seven : Post
 seven = record { ret = Const (pos 7); heap = emp }
 
-branch : RowIsSound down_program down_callees at_start (cmd.Branch test.Eq false (Slot 0) (Num (pos 0)) 1 2) ((1, at_start) ∷ (2, at_start) ∷ []) []
+branch : RowIsSound down_program down_callees at_start (cmd.Branch test.Eq false (Slot 0) (Num (pos 0)) 1 2)
+    ((1, at_start) ∷ (2, at_start) ∷ []) []
 branch s locals heap meets number node line choice = by_test (test_passes test.Eq (operand_value locals (Slot 0)) (pos 0))
   where
-    by_test : (b : Bool) → Lands (λ next locals heap. MeetsNext [] s next locals heap ((1, at_start) ∷ (2, at_start) ∷ [])) (λ value heap. MeetsOne [] s value heap [])
+    by_test : (b : Bool) →
+        Lands (λ next locals heap. MeetsNext [] s next locals heap ((1, at_start) ∷ (2, at_start) ∷ []))
+        (λ value heap. MeetsOne [] s value heap [])
         number (go_to [] (alone number node locals) heap (if b then 1 else 2))
     by_test true = (1, locals, refl, inl (refl, meets))
     by_test false = (2, locals, refl, inr (inl (refl, meets)))
@@ -98,7 +102,8 @@ call s locals heap meets = record {
   back = λ value given whole sum returned. came_back value given whole sum returned;
 }
   where
-    came_back : (value : ℤ) (given whole : List Cell) → IsSum [] whole given [] → MeetsOne [] (λ x. meets.0 65536) value given down_spec.posts →
+    came_back : (value : ℤ) (given whole : List Cell) → IsSum [] whole given [] →
+        MeetsOne [] (λ x. meets.0 65536) value given down_spec.posts →
         MeetsNext [] s 4 (slice_set locals 2 value) whole ((4, at_end) ∷ [])
     came_back value given whole sum (inl returned) =
         let none : IsSum [] whole [] [] = rw returned.3.atoms at sum in
@@ -132,9 +137,11 @@ IsCovered next = StateLeads [] next.1 (states_at down_cert next.0)
 
 goes : (command : Cmd) (state : SymState) (nexts : List (ℕ × SymState)) → All IsCovered nexts →
     RowIsSound down_program down_callees state command nexts [] → GoesOn down_program down_callees down_cert command state
-goes command state nexts covered row = record { nexts = nexts; exits = []; executed = row; covered = covered; left = All-nil (λ exit. PostLeads [] exit down_cert.exits) }
+goes command state nexts covered row =
+    record { nexts = nexts; exits = []; executed = row; covered = covered; left = All-nil (λ exit. PostLeads [] exit down_cert.exits) }
 
-leaves : (command : Cmd) (state : SymState) → RowIsSound down_program down_callees state command [] (seven ∷ []) → GoesOn down_program down_callees down_cert command state
+leaves : (command : Cmd) (state : SymState) → RowIsSound down_program down_callees state command [] (seven ∷ []) →
+    GoesOn down_program down_callees down_cert command state
 leaves command state row = record {
   nexts = [];
   exits = seven ∷ [];
@@ -144,17 +151,20 @@ leaves command state row = record {
 }
 
 -- the one state of a node with this command
-at_node : (command : Cmd) (node : Node) (state : SymState) → Some (on_line 0 command) ≡ Some node → GoesOn down_program down_callees down_cert command state →
+at_node : (command : Cmd) (node : Node) (state : SymState) → Some (on_line 0 command) ≡ Some node →
+    GoesOn down_program down_callees down_cert command state →
     All (GoesOn down_program down_callees down_cert node.cmd) (state ∷ [])
 at_node command node state is goes =
     let same : on_line 0 command ≡ node = cc in
     rw (← same) (of_one (GoesOn down_program down_callees down_cert command) state goes)
 
-states_go_on : (at : ℕ) (node : Node) → slice_get down_flow.nodes at ≡ Some node → All (GoesOn down_program down_callees down_cert node.cmd) (states_at down_cert at)
+states_go_on : (at : ℕ) (node : Node) → slice_get down_flow.nodes at ≡ Some node →
+    All (GoesOn down_program down_callees down_cert node.cmd) (states_at down_cert at)
 states_go_on zero node is =
     at_node _ node at_start is
     (goes _ at_start ((1, at_start) ∷ (2, at_start) ∷ [])
-    (All-cons IsCovered (1, at_start) ((2, at_start) ∷ []) (state_stays at_start) (of_one IsCovered (2, at_start) (state_stays at_start))) branch)
+    (All-cons IsCovered (1, at_start) ((2, at_start) ∷ []) (state_stays at_start)
+    (of_one IsCovered (2, at_start) (state_stays at_start))) branch)
 states_go_on (suc zero) node is = at_node _ node at_start is (leaves _ at_start return_seven)
 states_go_on (suc (suc zero)) node is =
     at_node _ node at_start is (goes _ at_start ((3, at_call) ∷ []) (of_one IsCovered (3, at_call) (state_stays at_call)) less_one)
@@ -185,14 +195,18 @@ down_supports_itself = record {
     inductive_for : IsInductiveFor down_program down_callees 0 down_spec down_cert
     inductive_for = record { proc = down_proc; is_proc = refl; logical = lit< tt; inductive = down_inductive }
 
-    supported : IsSupported down_program (IsClaimed down_claims) (record { name = down_flow.name; params = down_flow.params; specs = down_spec ∷ [] })
+    supported : IsSupported down_program (IsClaimed down_claims)
+        (record { name = down_flow.name; params = down_flow.params; specs = down_spec ∷ [] })
     supported = record {
       number = 0;
       proc = down_proc;
       found = refl;
       params = refl;
-      specs = of_one (λ spec. Valid down_program 0 spec ⊎ ((cert : Cert) × IsClaimed down_claims 0 spec cert)) down_spec (inr (down_cert, Contains-first _ []));
+      specs =
+          of_one (λ spec. Valid down_program 0 spec ⊎ ((cert : Cert) × IsClaimed down_claims 0 spec cert)) down_spec
+          (inr (down_cert, Contains-first _ []));
     }
 
 pub down_is_valid : Valid down_program 0 down_spec
-down_is_valid = claimed_is_valid down_program down_callees (IsClaimed down_claims) down_supports_itself 0 down_spec down_cert (Contains-first _ [])
+down_is_valid =
+    claimed_is_valid down_program down_callees (IsClaimed down_claims) down_supports_itself 0 down_spec down_cert (Contains-first _ [])

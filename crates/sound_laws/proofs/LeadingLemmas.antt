@@ -16,7 +16,9 @@ use Rattle.shape_data.specs.declared.symbolic.SymState.{SymState}
 use Rattle.shape_data.specs.Machine.{step_cmd}
 use Rattle.shape_data.specs.Meaning.{MeetsOne, MeetsPost, MeetsState}
 use Rattle.sound_laws.specs.Commands.{alone, Does, Lands, NodeAssertion, ResultAssertion}
-use Rattle.sound_laws.specs.Leading.{NextIsMet, PostIsMet, MeetsNext, MeetsSome, RowIsSound, StateLeads, PostLeads, StateLeadsOn, PostLeadsOn, ListedStateLeads, ListedPostLeads, CoveredStateLeads, CoveredPostLeads, CasesDo, RowMayWeaken}
+use Rattle.sound_laws.specs.Leading.{NextIsMet, PostIsMet, MeetsNext, MeetsSome, RowIsSound, StateLeads, PostLeads, StateLeadsOn}
+use Rattle.sound_laws.specs.Leading.{PostLeadsOn, ListedStateLeads, ListedPostLeads, CoveredStateLeads, CoveredPostLeads, CasesDo}
+use Rattle.sound_laws.specs.Leading.{RowMayWeaken}
 
 -- ---- members of lists
 
@@ -30,7 +32,8 @@ Contains-later first things thing has =
 
 -- ---- the one that is met
 
-pub MeetsSome-is : (structs : List StructDef) (s : ℕ → ℤ) (locals : List ℤ) (heap : List Cell) (states : List SymState) → MeetsSome structs s locals heap states →
+pub MeetsSome-is : (structs : List StructDef) (s : ℕ → ℤ) (locals : List ℤ) (heap : List Cell) (states : List SymState) →
+    MeetsSome structs s locals heap states →
     (state : SymState) × Contains states state × MeetsState structs s locals heap state
 MeetsSome-is structs s locals heap [] meets = absurd meets
 MeetsSome-is structs s locals heap (state ∷ states) (inl meets) = (state, Contains-first state states, meets)
@@ -39,14 +42,16 @@ MeetsSome-is structs s locals heap (state ∷ states) (inr meets) =
     (later.0, Contains-later state states later.0 later.1, later.2)
 
 pub MeetsNext-is : (structs : List StructDef) (s : ℕ → ℤ) (node : ℕ) (locals : List ℤ) (heap : List Cell) (nexts : List (ℕ × SymState)) →
-    MeetsNext structs s node locals heap nexts → (next : ℕ × SymState) × Contains nexts next × (next.0 ≡ node) × MeetsState structs s locals heap next.1
+    MeetsNext structs s node locals heap nexts →
+    (next : ℕ × SymState) × Contains nexts next × (next.0 ≡ node) × MeetsState structs s locals heap next.1
 MeetsNext-is structs s node locals heap [] meets = absurd meets
 MeetsNext-is structs s node locals heap (next ∷ nexts) (inl meets) = (next, Contains-first next nexts, meets.0, meets.1)
 MeetsNext-is structs s node locals heap (next ∷ nexts) (inr meets) =
     let later = MeetsNext-is structs s node locals heap nexts meets in
     (later.0, Contains-later next nexts later.0 later.1, later.2, later.3)
 
-pub MeetsOne-is : (structs : List StructDef) (s : ℕ → ℤ) (value : ℤ) (heap : List Cell) (posts : List Post) → MeetsOne structs s value heap posts →
+pub MeetsOne-is : (structs : List StructDef) (s : ℕ → ℤ) (value : ℤ) (heap : List Cell) (posts : List Post) →
+    MeetsOne structs s value heap posts →
     (post : Post) × Contains posts post × MeetsPost structs s value heap post
 MeetsOne-is structs s value heap [] meets = absurd meets
 MeetsOne-is structs s value heap (post ∷ posts) (inl meets) = (post, Contains-first post posts, meets)
@@ -56,13 +61,16 @@ MeetsOne-is structs s value heap (post ∷ posts) (inr meets) =
 
 -- ---- one of more
 
-pub MeetsNext-left : (structs : List StructDef) (s : ℕ → ℤ) (node : ℕ) (locals : List ℤ) (heap : List Cell) (nexts others : List (ℕ × SymState)) →
+pub MeetsNext-left : (structs : List StructDef) (s : ℕ → ℤ) (node : ℕ) (locals : List ℤ) (heap : List Cell)
+    (nexts others : List (ℕ × SymState)) →
     MeetsNext structs s node locals heap nexts → MeetsNext structs s node locals heap (nexts ++ others)
 MeetsNext-left structs s node locals heap [] others meets = absurd meets
 MeetsNext-left structs s node locals heap (next ∷ nexts) others (inl meets) = inl meets
-MeetsNext-left structs s node locals heap (next ∷ nexts) others (inr meets) = inr (MeetsNext-left structs s node locals heap nexts others meets)
+MeetsNext-left structs s node locals heap (next ∷ nexts) others (inr meets) =
+    inr (MeetsNext-left structs s node locals heap nexts others meets)
 
-pub MeetsNext-right : (structs : List StructDef) (s : ℕ → ℤ) (node : ℕ) (locals : List ℤ) (heap : List Cell) (nexts others : List (ℕ × SymState)) →
+pub MeetsNext-right : (structs : List StructDef) (s : ℕ → ℤ) (node : ℕ) (locals : List ℤ) (heap : List Cell)
+    (nexts others : List (ℕ × SymState)) →
     MeetsNext structs s node locals heap others → MeetsNext structs s node locals heap (nexts ++ others)
 MeetsNext-right structs s node locals heap [] others meets = meets
 MeetsNext-right structs s node locals heap (next ∷ nexts) others meets = inr (MeetsNext-right structs s node locals heap nexts others meets)
@@ -90,8 +98,10 @@ post_leads_on structs post cases posts leads each s value heap meets =
     let one = MeetsOne-is structs s value heap cases (leads s value heap meets) in
     All-contains (λ case. PostLeads structs case posts) cases one.0 each one.1 s value heap one.2
 
-listed_state : (structs : List StructDef) (s : ℕ → ℤ) (locals : List ℤ) (heap : List Cell) (states : List SymState) (state : SymState) (place : ℕ) →
-    place < length states → slice_index_or states place state ≡ state → MeetsState structs s locals heap state → MeetsSome structs s locals heap states
+listed_state : (structs : List StructDef) (s : ℕ → ℤ) (locals : List ℤ) (heap : List Cell) (states : List SymState) (state : SymState)
+    (place : ℕ) →
+    place < length states → slice_index_or states place state ≡ state → MeetsState structs s locals heap state →
+    MeetsSome structs s locals heap states
 listed_state structs s locals heap [] state place within is meets = absurd (omega arith)
 listed_state structs s locals heap (first ∷ states) state zero within is meets = rw is (inl meets)
 listed_state structs s locals heap (first ∷ states) state (suc place) within is meets =
@@ -99,7 +109,8 @@ listed_state structs s locals heap (first ∷ states) state (suc place) within i
     inr (listed_state structs s locals heap states state place inside is meets)
 
 listed_post : (structs : List StructDef) (s : ℕ → ℤ) (value : ℤ) (heap : List Cell) (posts : List Post) (post : Post) (place : ℕ) →
-    place < length posts → slice_index_or posts place post ≡ post → MeetsPost structs s value heap post → MeetsOne structs s value heap posts
+    place < length posts → slice_index_or posts place post ≡ post → MeetsPost structs s value heap post →
+    MeetsOne structs s value heap posts
 listed_post structs s value heap [] post place within is meets = absurd (omega arith)
 listed_post structs s value heap (first ∷ posts) post zero within is meets = rw is (inl meets)
 listed_post structs s value heap (first ∷ posts) post (suc place) within is meets =
@@ -150,9 +161,11 @@ module _ (At More : NodeAssertion) (Ends Leaves : ResultAssertion)
     lands_weaker : (number node line : ℕ) (choice : Choice) (command : Cmd) →
         Lands At Ends number (step_cmd program [] (alone number node locals) heap choice line command) →
         Lands More Leaves number (step_cmd program [] (alone number node locals) heap choice line command)
-    lands_weaker number node line choice command lands = Lands-weaker number (step_cmd program [] (alone number node locals) heap choice line command) lands
+    lands_weaker number node line choice command lands =
+        Lands-weaker number (step_cmd program [] (alone number node locals) heap choice line command) lands
 
-    pub Does-weaker : (command : Cmd) → Does program callees At Ends locals heap command → Does program callees More Leaves locals heap command
+    pub Does-weaker : (command : Cmd) → Does program callees At Ends locals heap command →
+        Does program callees More Leaves locals heap command
     Does-weaker (cmd.Copy to from next) does =
         λ number node line choice. lands_weaker number node line choice (cmd.Copy to from next) (does number node line choice)
     Does-weaker (cmd.Arith to op left right next) does =
@@ -182,11 +195,13 @@ module _ (At More : NodeAssertion) (Ends Leaves : ResultAssertion)
       back = λ value given whole sum meets. on_at next _ whole (does.back value given whole sum meets);
     }
     Does-weaker (cmd.Branch op pointers left right on_true on_false) does =
-        λ number node line choice. lands_weaker number node line choice (cmd.Branch op pointers left right on_true on_false) (does number node line choice)
+        λ number node line choice. lands_weaker number node line choice (cmd.Branch op pointers left right on_true on_false)
+        (does number node line choice)
     Does-weaker (cmd.Return value) does =
         λ number node line choice. lands_weaker number node line choice (cmd.Return value) (does number node line choice)
 
 pub row_may_weaken : RowMayWeaken
 row_may_weaken program callees state command nexts others exits posts row on_next on_exit s locals heap meets =
-    Does-weaker (NextIsMet program.structs s nexts) (NextIsMet program.structs s others) (PostIsMet program.structs s exits) (PostIsMet program.structs s posts)
+    Does-weaker (NextIsMet program.structs s nexts) (NextIsMet program.structs s others) (PostIsMet program.structs s exits)
+    (PostIsMet program.structs s posts)
     (on_next s) (on_exit s) program callees locals heap command (row s locals heap meets)

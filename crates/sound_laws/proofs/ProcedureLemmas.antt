@@ -1,5 +1,6 @@
 -- What a name finds.
-use Rattle.std.specs.Prelude.{◌≡◌, ◌≢◌, ℕ, zero, suc, ◌+◌, ◌<◌, Bool, true, false, List, [], ◌∷◌, length, slice_get, slice_index_or, if◌then◌else◌, All}
+use Rattle.std.specs.Prelude.{◌≡◌, ◌≢◌, ℕ, zero, suc, ◌+◌, ◌<◌, Bool, true, false, List, [], ◌∷◌, length, slice_get, slice_index_or}
+use Rattle.std.specs.Prelude.{if◌then◌else◌, All}
 use Rattle.std.specs.Str.{bytes_eq}
 use Rattle.std.specs.declared.option.Option.TheVariants.{Some}
 use Rattle.std.proofs.Common.{refl, sym, ap, ◌∙◌, arith}
@@ -14,14 +15,16 @@ use Rattle.shape_laws.proofs.StepsStacks.{proc_found}
 use Rattle.sound_laws.specs.Procedures.{Finds, FoundByName, HasFlow, HasOwnFlows}
 
 -- what is found stands at its number
-pub found_stands : (program : Program) (name : List ℕ) (number : ℕ) (proc : Proc) → Finds program name number proc → slice_get program.procs number ≡ Some proc
+pub found_stands : (program : Program) (name : List ℕ) (number : ℕ) (proc : Proc) → Finds program name number proc →
+    slice_get program.procs number ≡ Some proc
 found_stands program name number proc found =
     let told = proc_found 0 program.procs name (number, proc) found in
     let place : number ≡ told.0 = told.1 ∙ omega arith in
     rw place told.2
 
 -- a name finds one procedure
-pub found_once : (program : Program) (name : List ℕ) (number other : ℕ) (proc again : Proc) → Finds program name number proc → Finds program name other again →
+pub found_once : (program : Program) (name : List ℕ) (number other : ℕ) (proc again : Proc) → Finds program name number proc →
+    Finds program name other again →
     (number ≡ other) × (proc ≡ again)
 found_once program name number other proc again found refound = same_found (number, proc) (other, again) (sym found ∙ refound)
   where
@@ -31,7 +34,8 @@ found_once program name number other proc again found refound = same_found (numb
         (ap (λ (found : ℕ × Proc). found.0) same, ap (λ (found : ℕ × Proc). found.1) same)
 
 -- the same of another name that is equal
-pub found_as : (program : Program) (name other : List ℕ) (number : ℕ) (proc : Proc) → name ≡ other → Finds program name number proc → Finds program other number proc
+pub found_as : (program : Program) (name other : List ℕ) (number : ℕ) (proc : Proc) → name ≡ other → Finds program name number proc →
+    Finds program other number proc
 found_as program name other number proc same found = ap (λ called. proc_named_from 0 program.procs called) (sym same) ∙ found
 
 found_from : (k : ℕ) (procs : List Proc) (number : ℕ) (proc : Proc) → HaveDifferentNames (λ (one : Proc). one.flow.name) procs →
@@ -40,7 +44,8 @@ found_from k [] number proc different is = cc
 found_from k (first ∷ procs) zero proc different is =
     let same : first ≡ proc = cc in
     let none : k + 0 ≡ k = omega arith in
-    let here : bytes_eq first.flow.name proc.flow.name ≡ true = (bytes_eq-Decides first.flow.name proc.flow.name).1 (ap (λ (one : Proc). one.flow.name) same) in
+    let here : bytes_eq first.flow.name proc.flow.name ≡ true =
+    (bytes_eq-Decides first.flow.name proc.flow.name).1 (ap (λ (one : Proc). one.flow.name) same) in
     rw (here, none, same) refl
 found_from k (first ∷ procs) (suc number) proc different is =
     let inside : number < length procs = slice_get_within procs number proc is in
@@ -59,9 +64,11 @@ found_from k (first ∷ procs) (suc number) proc different is =
     by_test false e differs later = later
 
 -- what holds of each thing at its place holds of all
-pub each_place : {A : Type 0} (P : A → Type 0) (things : List A) → ((place : ℕ) (thing : A) → slice_get things place ≡ Some thing → P thing) → All P things
+pub each_place : {A : Type 0} (P : A → Type 0) (things : List A) →
+    ((place : ℕ) (thing : A) → slice_get things place ≡ Some thing → P thing) → All P things
 each_place P [] each = All-nil P
-each_place P (thing ∷ things) each = All-cons P thing things (each 0 thing refl) (each_place P things (λ place one is. each (suc place) one is))
+each_place P (thing ∷ things) each =
+    All-cons P thing things (each 0 thing refl) (each_place P things (λ place one is. each (suc place) one is))
 
 pub procedure_is_found : FoundByName
 procedure_is_found program number proc different is =

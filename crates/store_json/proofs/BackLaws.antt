@@ -167,8 +167,10 @@ cmds levels (cmd.Branch op pointers left right on_true on_false) is fits = (
 cmds levels (cmd.Return value) is fits = (literal (codes "return") refl, (operands (suc levels) value fits, tt))
 
 marks : (levels : ℕ) (mark : HeadMark) → MarkFits mark → IsPlain (mark_data mark) (suc (suc levels))
-marks levels mark fits =
-    (lists IsCount count_data levels (counts levels) mark.ints fits.0, (lists IsCount count_data levels (counts levels) mark.dead fits.1, tt))
+marks levels mark fits = (
+  lists IsCount count_data levels (counts levels) mark.ints fits.0,
+  (lists IsCount count_data levels (counts levels) mark.dead fits.1, tt),
+)
 
 nodes : (levels : ℕ) (node : Node) → NodeIsText node × NodeFits node → IsPlain (node_data node) (suc (suc (suc (suc levels))))
 nodes levels node is = (
@@ -192,7 +194,12 @@ flows levels flow is = (
         (
           literal (codes "ret") refl,
           tys (suc (suc (suc (suc levels)))) flow.ret is.0.ret,
-          (literal (codes "slots") refl, lists TyIsText ty_data (suc (suc (suc (suc levels)))) (tys (suc (suc (suc levels)))) flow.slots is.0.slots, tt),
+          (
+            literal (codes "slots") refl,
+            lists TyIsText ty_data (suc (suc (suc (suc levels))))
+                (tys (suc (suc (suc levels)))) flow.slots is.0.slots,
+            tt,
+          ),
         ),
       ),
     ),
@@ -260,7 +267,8 @@ module _ (structs : List StructDef) (are_structs : AreStructs structs) where
       (
         literal (codes "nodes") refl,
         lists (All (StateIsText structs params)) (list_data (state_data structs params)) (suc (suc (suc levels)))
-            (lists (StateIsText structs params) (state_data structs params) (suc (suc levels)) (states levels params are)) cert.nodes is.nodes,
+            (lists (StateIsText structs params) (state_data structs params) (suc (suc levels))
+            (states levels params are)) cert.nodes is.nodes,
         tt,
       ),
     ),
@@ -325,7 +333,8 @@ module _ (structs : List StructDef) (are_structs : AreStructs structs) where
   each_summary levels [] answers same are each fits = tt
   each_summary levels (flow ∷ all) [] same are each fits = tt
   each_summary levels (flow ∷ all) (summary ∷ answers) same are each fits = (
-    summaries levels flow.params (are 0 flow (omega arith)) summary (each 0 flow summary (omega arith)) (All-head SummaryFits summary answers fits),
+    summaries levels flow.params (are 0 flow (omega arith)) summary (each 0 flow summary (omega arith))
+        (All-head SummaryFits summary answers fits),
     each_summary levels all answers (omega (arith, same)) (λ place one within. are (suc place) one (omega arith))
         (λ place one other within. each (suc place) one other (omega arith)) (All-tail SummaryFits summary answers fits),
   )
@@ -380,7 +389,8 @@ entries_plain entry is =
       ),
     )
 
-store_plain : (entries : List Solution) → All (λ (entry : Solution). IsStorable entry × Fits entry) entries → IsPlain (store_data entries) 127
+store_plain : (entries : List Solution) → All (λ (entry : Solution). IsStorable entry × Fits entry) entries →
+    IsPlain (store_data entries) 127
 store_plain entries is = (
   refl,
   (

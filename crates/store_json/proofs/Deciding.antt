@@ -1,5 +1,6 @@
 -- Whether a key and an answer are well formed within the limits of a store, is decided.
-use Rattle.std.specs.Prelude.{◌≡◌, ◌≢◌, ◌⊎◌, ◌+◌, ◌<◌, ◌≤◌, ℕ, zero, suc, Bool, true, false, List, [], ◌∷◌, is_some, length, slice_index, slice_index_or, All}
+use Rattle.std.specs.Prelude.{◌≡◌, ◌≢◌, ◌⊎◌, ◌+◌, ◌<◌, ◌≤◌, ℕ, zero, suc, Bool, true, false, List, [], ◌∷◌, is_some, length, slice_index}
+use Rattle.std.specs.Prelude.{slice_index_or, All}
 use Rattle.std.specs.Cmp.Lexicographic.{slice_cmp}
 use Rattle.std.specs.List.{list_all, AllAdjacentBelow, AllPairs}
 use Rattle.std.specs.Option.{IfSome, IsSomeAnd}
@@ -41,7 +42,10 @@ use Rattle.shape_data.specs.declared.symbolic.SymHeap.{SymHeap}
 use Rattle.shape_data.specs.declared.symbolic.SymState.{SymState}
 use Rattle.shape_data.specs.Heap.{struct_named}
 use Rattle.shape_data.specs.Names.{is_name_byte, is_name_start, HaveDifferentNames, IsCName}
-use Rattle.shape_data.specs.WellFormed.{storable, AreCallees, AreInNameOrder, AreKeyProcs, AreParams, AreStates, AreStructs, AreSummaries, FitCalls, FitKeyCalls, FitsCall, HasReason, IsAtom, IsCallee, IsCert, IsCmd, IsCountable, IsExp, IsFact, IsField, IsFlow, IsKind, IsMark, IsNode, IsOperand, IsPost, IsSpec, IsState, IsStorableAnswer, IsStorableKey, IsStruct, IsSummary, IsSymHeap, IsTy}
+use Rattle.shape_data.specs.WellFormed.{storable, AreCallees, AreInNameOrder, AreKeyProcs, AreParams, AreStates, AreStructs, AreSummaries}
+use Rattle.shape_data.specs.WellFormed.{FitCalls, FitKeyCalls, FitsCall, HasReason, IsAtom, IsCallee, IsCert, IsCmd, IsCountable, IsExp}
+use Rattle.shape_data.specs.WellFormed.{IsFact, IsField, IsFlow, IsKind, IsMark, IsNode, IsOperand, IsPost, IsSpec, IsState}
+use Rattle.shape_data.specs.WellFormed.{IsStorableAnswer, IsStorableKey, IsStruct, IsSummary, IsSymHeap, IsTy}
 
 pub data Decided (P : Type 0) : Type 0 where
   holds : P → Decided P
@@ -82,7 +86,9 @@ below : (few many : ℕ) → Decided (few < many)
 below few many = at_most (suc few) many
 
 pub same_number : (m n : ℕ) → Decided (m ≡ n)
-same_number m n = by_part (λ both_ways. omega (arith, both_ways.0, both_ways.1)) (λ same. (omega (arith, same), omega (arith, same))) (both (at_most m n) (at_most n m))
+same_number m n =
+    by_part (λ both_ways. omega (arith, both_ways.0, both_ways.1)) (λ same. (omega (arith, same), omega (arith, same)))
+    (both (at_most m n) (at_most n m))
 
 pub same_bytes : (xs ys : List ℕ) → Decided (xs ≡ ys)
 same_bytes xs ys = by_part (bytes_eq-Decides xs ys).0 (bytes_eq-Decides xs ys).1 (test (bytes_eq xs ys))
@@ -90,7 +96,8 @@ same_bytes xs ys = by_part (bytes_eq-Decides xs ys).0 (bytes_eq-Decides xs ys).1
 all_of : {A : Type 0} (P : A → Type 0) → ((x : A) → Decided (P x)) → (xs : List A) → Decided (All P xs)
 all_of P decide [] = holds (All-nil P)
 all_of P decide (x ∷ xs) =
-    by_part (λ parts. All-cons P x xs parts.0 parts.1) (λ all. (All-head P x xs all, All-tail P x xs all)) (both (decide x) (all_of P decide xs))
+    by_part (λ parts. All-cons P x xs parts.0 parts.1) (λ all. (All-head P x xs all, All-tail P x xs all))
+    (both (decide x) (all_of P decide xs))
 
 if_some : {A : Type 0} (P : A → Type 0) → ((x : A) → Decided (P x)) → (o : Option A) → Decided (IfSome o P)
 if_some P decide None = holds tt
@@ -138,7 +145,8 @@ next_back : {A : Type 0} (R : A → A → Type 0) (xs : List A) →
     ((k : ℕ) (other : A) → suc k < length xs → R (slice_index_or xs k other) (slice_index_or xs (suc k) other)) → IsNext R xs
 next_back R [] all = tt
 next_back R (x ∷ []) all = tt
-next_back R (x ∷ y ∷ rest) all = (all 0 x (omega arith), next_back R (y ∷ rest) (λ k other within. all (suc k) other (omega (arith, within))))
+next_back R (x ∷ y ∷ rest) all =
+    (all 0 x (omega arith), next_back R (y ∷ rest) (λ k other within. all (suc k) other (omega (arith, within))))
 
 each_next : {A : Type 0} (R : A → A → Type 0) → ((x y : A) → Decided (R x y)) → (xs : List A) → Decided (IsNext R xs)
 each_next R decide [] = holds tt
@@ -157,7 +165,8 @@ is_less Greater = fails (λ is. cc)
 
 in_name_order : (flows : List Flow) → Decided (AreInNameOrder flows)
 in_name_order flows =
-    neighbours (λ (one next : Flow). slice_cmp nat_cmp one.name next.name ≡ Less) (λ one next. is_less (slice_cmp nat_cmp one.name next.name)) flows
+    neighbours (λ (one next : Flow). slice_cmp nat_cmp one.name next.name ≡ Less)
+    (λ one next. is_less (slice_cmp nat_cmp one.name next.name)) flows
 
 -- ---- programs
 
@@ -177,7 +186,8 @@ struct def =
     (λ is. (is.name, (is.fields, (is.field_names, (is.types, is.different)))))
     (both (c_name def.name) (both (at_most (length def.fields) 32768)
     (both (all_of (λ (field : Field). IsCName field.name) (λ field. c_name field.name) def.fields)
-    (both (all_of (λ (field : Field). IsTy field.ty) (λ field. ty field.ty) def.fields) (different_names (λ (field : Field). field.name) def.fields)))))
+    (both (all_of (λ (field : Field). IsTy field.ty) (λ field. ty field.ty) def.fields)
+    (different_names (λ (field : Field). field.name) def.fields)))))
 
 countable : {A : Type 0} (things : List A) → Decided (IsCountable things)
 countable things = below (length things) 4294967296
@@ -211,11 +221,13 @@ four p q r s = by_part (λ it. (it.0, it.1.0, it.1.1.0, it.1.1.1)) (λ it. (it.0
 
 five : {P Q R S T : Type 0} → Decided P → Decided Q → Decided R → Decided S → Decided T → Decided (P × Q × R × S × T)
 five p q r s t =
-    by_part (λ it. (it.0, it.1.0, it.1.1.0, it.1.1.1.0, it.1.1.1.1)) (λ it. (it.0, (it.1, (it.2, (it.3, it.4))))) (both p (both q (both r (both s t))))
+    by_part (λ it. (it.0, it.1.0, it.1.1.0, it.1.1.1.0, it.1.1.1.1)) (λ it. (it.0, (it.1, (it.2, (it.3, it.4)))))
+    (both p (both q (both r (both s t))))
 
 command : (structs : List StructDef) (slots nodes : ℕ) (it : Cmd) → Decided (IsCmd structs slots nodes it)
 command structs slots nodes (cmd.Copy to from next) = three (below to slots) (operand slots from) (below next nodes)
-command structs slots nodes (cmd.Arith to op left right next) = four (below to slots) (operand slots left) (operand slots right) (below next nodes)
+command structs slots nodes (cmd.Arith to op left right next) =
+    four (below to slots) (operand slots left) (operand slots right) (below next nodes)
 command structs slots nodes (cmd.Any to kind next) = three (below to slots) (below next nodes) (ty kind)
 command structs slots nodes (cmd.Load to base kind field next) =
     four (below to slots) (below base slots) (field_known structs kind field) (below next nodes)
@@ -256,7 +268,8 @@ flow structs it =
       nodes = p.1.1.1.1.1.1.1.1;
     })
     (λ is. (is.name, (is.params, (is.param_slots, (is.slots, (is.types, (is.ret, (is.entry, (is.countable, is.nodes)))))))))
-    (both (c_name it.name) (both (are_params it.params) (both (at_most (length it.params) (length it.slots)) (both (at_most (length it.slots) 32768)
+    (both (c_name it.name)
+    (both (are_params it.params) (both (at_most (length it.params) (length it.slots)) (both (at_most (length it.slots) 32768)
     (both (all_of IsTy ty it.slots) (both (ty it.ret) (both (below 0 (length it.nodes)) (both (countable it.nodes)
     (all_of (IsNode structs (length it.slots) (length it.nodes)) (node structs (length it.slots) (length it.nodes)) it.nodes)))))))))
 
@@ -278,7 +291,8 @@ fact params (Ne left right) = both (exp params left) (exp params right)
 
 atom : (structs : List StructDef) (params : ℕ) (it : Atom) → Decided (IsAtom storable structs params it)
 atom structs params (Points at kind fields) =
-    three (exp params at) (some_and (λ (def : StructDef). length fields ≡ length def.fields) (λ def. same_number (length fields) (length def.fields))
+    three (exp params at)
+    (some_and (λ (def : StructDef). length fields ≡ length def.fields) (λ def. same_number (length fields) (length def.fields))
     (struct_named structs kind)) (all_of (IsExp storable params) (exp params) fields)
 atom structs params (Seg kind link from to) = three (field_known structs kind link) (exp params from) (exp params to)
 atom structs params Junk = holds tt
@@ -309,9 +323,11 @@ callee structs it =
 callees : (structs : List StructDef) (all : List Callee) → Decided (AreCallees storable structs all)
 callees structs all =
     by_part (λ p. record { countable = p.0; each = p.1.0; different = p.1.1 }) (λ is. (is.countable, (is.each, is.different)))
-    (both (countable all) (both (all_of (IsCallee storable structs) (callee structs) all) (different_names (λ (one : Callee). one.name) all)))
+    (both (countable all)
+    (both (all_of (IsCallee storable structs) (callee structs) all) (different_names (λ (one : Callee). one.name) all)))
 
-fits_call : {A : Type 0} (name_of : A → List ℕ) (params_of : A → List (List ℕ)) (listed : List A) (it : Cmd) → Decided (FitsCall name_of params_of listed it)
+fits_call : {A : Type 0} (name_of : A → List ℕ) (params_of : A → List (List ℕ)) (listed : List A) (it : Cmd) →
+    Decided (FitsCall name_of params_of listed it)
 fits_call name_of params_of listed (cmd.Call to called args next) =
     all_of (λ one. name_of one ≡ called → length (params_of one) ≡ length args)
     (λ one. implied (same_bytes (name_of one) called) (same_number (length (params_of one)) (length args))) listed
@@ -325,7 +341,8 @@ fits_call name_of params_of listed (cmd.Free base kind next) = holds tt
 fits_call name_of params_of listed (cmd.Branch op pointers left right on_true on_false) = holds tt
 fits_call name_of params_of listed (cmd.Return value) = holds tt
 
-fit_calls : {A : Type 0} (name_of : A → List ℕ) (params_of : A → List (List ℕ)) (listed : List A) (it : Flow) → Decided (FitCalls name_of params_of listed it)
+fit_calls : {A : Type 0} (name_of : A → List ℕ) (params_of : A → List (List ℕ)) (listed : List A) (it : Flow) →
+    Decided (FitCalls name_of params_of listed it)
 fit_calls name_of params_of listed it =
     all_of (λ (one : Node). FitsCall name_of params_of listed one.cmd) (λ one. fits_call name_of params_of listed one.cmd) it.nodes
 
@@ -351,7 +368,8 @@ key_is key =
 state : (structs : List StructDef) (params slots : ℕ) (it : SymState) → Decided (IsState storable structs params slots it)
 state structs params slots it =
     by_part (λ p. record { one_each = p.0; locals = p.1.0; heap = p.1.1 }) (λ is. (is.one_each, (is.locals, is.heap)))
-    (both (same_number (length it.locals) slots) (both (all_of (IsExp storable params) (exp params) it.locals) (heap structs params it.heap)))
+    (both (same_number (length it.locals) slots)
+    (both (all_of (IsExp storable params) (exp params) it.locals) (heap structs params it.heap)))
 
 states : (structs : List StructDef) (params slots : ℕ) (all : List SymState) → Decided (AreStates storable structs params slots all)
 states structs params slots all =
@@ -360,10 +378,13 @@ states structs params slots all =
 
 cert : (structs : List StructDef) (it : Flow) (one : Cert) → Decided (IsCert storable structs it one)
 cert structs it one =
-    by_part (λ p. record { one_each = p.0; nodes = p.1.0; few = p.1.1.0; exits = p.1.1.1 }) (λ is. (is.one_each, (is.nodes, (is.few, is.exits))))
+    by_part (λ p. record { one_each = p.0; nodes = p.1.0; few = p.1.1.0; exits = p.1.1.1 })
+    (λ is. (is.one_each, (is.nodes, (is.few, is.exits))))
     (both (same_number (length one.nodes) (length it.nodes))
-    (both (all_of (AreStates storable structs (length it.params) (length it.slots)) (states structs (length it.params) (length it.slots)) one.nodes)
-    (both (at_most (length one.exits) 16) (all_of (IsPost storable structs (length it.params)) (post structs (length it.params)) one.exits))))
+    (both (all_of (AreStates storable structs (length it.params) (length it.slots))
+    (states structs (length it.params) (length it.slots)) one.nodes)
+    (both (at_most (length one.exits) 16)
+    (all_of (IsPost storable structs (length it.params)) (post structs (length it.params)) one.exits))))
 
 summary : (structs : List StructDef) (it : Flow) (one : ProcSummary) → Decided (IsSummary storable structs it one)
 summary structs it one =
@@ -380,20 +401,23 @@ AreEach structs [] (one ∷ others) = ⊥
 AreEach structs (it ∷ flows) [] = ⊥
 AreEach structs (it ∷ flows) (one ∷ others) = IsSummary storable structs it one × AreEach structs flows others
 
-each_forth : (structs : List StructDef) (flows : List Flow) (all : List ProcSummary) → AreEach structs flows all → AreSummaries storable structs flows all
+each_forth : (structs : List StructDef) (flows : List Flow) (all : List ProcSummary) → AreEach structs flows all →
+    AreSummaries storable structs flows all
 each_forth structs [] [] are = record { one_each = refl; each = λ place it one within. absurd (omega (arith, within)) }
 each_forth structs [] (one ∷ others) are = absurd are
 each_forth structs (it ∷ flows) [] are = absurd are
 each_forth structs (it ∷ flows) (one ∷ others) are =
     let rest = each_forth structs flows others are.1 in record { one_each = ap suc rest.one_each; each = at rest.each }
   where
-    at : ((place : ℕ) (f : Flow) (s : ProcSummary) → place < length flows → IsSummary storable structs (slice_index_or flows place f) (slice_index_or others place s)) →
+    at : ((place : ℕ) (f : Flow) (s : ProcSummary) → place < length flows →
+        IsSummary storable structs (slice_index_or flows place f) (slice_index_or others place s)) →
         (place : ℕ) (f : Flow) (s : ProcSummary) → place < length (it ∷ flows) →
         IsSummary storable structs (slice_index_or (it ∷ flows) place f) (slice_index_or (one ∷ others) place s)
     at later zero f s within = are.0
     at later (suc place) f s within = later place f s (omega (arith, within))
 
-each_back : (structs : List StructDef) (flows : List Flow) (all : List ProcSummary) → AreSummaries storable structs flows all → AreEach structs flows all
+each_back : (structs : List StructDef) (flows : List Flow) (all : List ProcSummary) → AreSummaries storable structs flows all →
+    AreEach structs flows all
 each_back structs [] [] are = tt
 each_back structs [] (one ∷ others) are = let same = are.one_each in omega (arith, same)
 each_back structs (it ∷ flows) [] are = let same = are.one_each in omega (arith, same)

@@ -117,13 +117,15 @@ one_list ds es same =
 pub store_read : (d : Data) (ds : List Data) (found : Option (List Solution)) → AreValuesOf d (Some ds) → AreEntriesOf ds found →
     IsStoreOf d found
 store_read d ds (Some entries) values are = (are.0, ap store_object are.1 ∙ values)
-store_read d ds None values none = λ entries storable fits same. none entries storable fits (one_list (map entry_data entries) ds (same ∙ sym values))
+store_read d ds None values none =
+    λ entries storable fits same. none entries storable fits (one_list (map entry_data entries) ds (same ∙ sym values))
 
 pub no_store_read : (d : Data) → AreValuesOf d None → IsStoreOf d None
 no_store_read d none entries storable fits same = none (map entry_data entries) same
 
 -- ---- what is written of entries
 
-pub each_written : (entries : List Kept) → map entry_data (map solution_of entries) ≡ map (λ (kept : Kept). entry_data (solution_of kept)) entries
+pub each_written : (entries : List Kept) →
+    map entry_data (map solution_of entries) ≡ map (λ (kept : Kept). entry_data (solution_of kept)) entries
 each_written [] = refl
 each_written (kept ∷ entries) = ap (λ others. entry_data (solution_of kept) ∷ others) (each_written entries)

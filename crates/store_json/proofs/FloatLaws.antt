@@ -51,7 +51,8 @@ lists : {A : Type 0} (write : A → Data) → ((thing : A) → HasNoFloat (write
 lists write each [] = refl
 lists write each (thing ∷ things) = rw (each thing, lists write each things) refl
 
-options : {A : Type 0} (write : A → Data) → ((thing : A) → HasNoFloat (write thing)) → (thing : Option A) → HasNoFloat (option_data write thing)
+options : {A : Type 0} (write : A → Data) → ((thing : A) → HasNoFloat (write thing)) → (thing : Option A)
+    → HasNoFloat (option_data write thing)
 options write each None = refl
 options write each (Some thing) = each thing
 
@@ -168,7 +169,8 @@ summaries structs params summary = rw (
   lists (spec_data structs params) (specs structs params) summary.specs,
 ) refl
 
-each_summary : (structs : List StructDef) (flows : List Flow) (answers : List ProcSummary) → HasNoFloat (tuple (summaries_data structs flows answers))
+each_summary : (structs : List StructDef) (flows : List Flow) (answers : List ProcSummary)
+    → HasNoFloat (tuple (summaries_data structs flows answers))
 each_summary structs [] answers = refl
 each_summary structs (flow ∷ flows) [] = refl
 each_summary structs (flow ∷ flows) (summary ∷ answers) =

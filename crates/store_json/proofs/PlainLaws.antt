@@ -1,6 +1,7 @@
 -- The text that is written of a value reads as that value (RFC 8259), if the value is plain: its integers have 64 bits, its strings are
 -- UTF-8, the members of its objects stand in order, and it has few levels.
-use Rattle.std.specs.Prelude.{◌≡◌, ◌<◌, ◌≤◌, ◌^◌, ℕ, zero, suc, pos, negsuc, Bool, true, false, ◌&&◌, List, [], ◌∷◌, ◌++◌, option_and_then, option_map, IsUtf8}
+use Rattle.std.specs.Prelude.{◌≡◌, ◌<◌, ◌≤◌, ◌^◌, ℕ, zero, suc, pos, negsuc, Bool, true, false, ◌&&◌, List, [], ◌∷◌, ◌++◌, option_and_then}
+use Rattle.std.specs.Prelude.{option_map, IsUtf8}
 use Rattle.std.specs.Cmp.Lexicographic.{slice_cmp}
 use Rattle.std.specs.Ordering.{match_ordering, nat_cmp}
 use Rattle.std.specs.declared.cmp.Ordering.{Ordering}
@@ -17,7 +18,8 @@ use Rattle.json.proofs.Printed.Decimals.{IsNumber-decimal, IsNumber-signed_decim
 use Rattle.json.proofs.Printed.Tokens.{tokens-print}
 use Rattle.json.proofs.Printed.Trees.{ArePrintable-json_tokens, value-json_tokens}
 use Rattle.json.proofs.Printed.Utf8.{are_ascii, IsUtf8-are_ascii, IsUtf8-boolean, IsUtf8-quoted}
-use Rattle.serde_json.specs.Data.{Num, unsigned, negative, float, Data, null, boolean, number, string, array, object, Items, no_items, item, Members, no_members, member, put}
+use Rattle.serde_json.specs.Data.{Num, unsigned, negative, float, Data, null, boolean, number, string, array, object, Items, no_items, item}
+use Rattle.serde_json.specs.Data.{Members, no_members, member, put}
 use Rattle.serde_json.specs.Read.{max_depth, number_of, of_items, of_json, of_members, read}
 use Rattle.serde_json.specs.Written.{comma_if, compact_text, items_outline, items_text, members_outline, members_text, number_text, outline}
 use Rattle.serde_json.proofs.Numbers.{number_of-decimal, number_of-negative}
@@ -220,7 +222,8 @@ text_is_utf8 d levels is = value_is_utf8 d levels is
 pub text_is_read : (d : Data) → IsPlain d max_depth → read (compact_text d) ≡ Some d
 text_is_read d is =
     let printed : tokens (compact_text d) ≡ tree.json_tokens (outline d) =
-    ap tokens (sym (print-outline d)) ∙ tokens-print (tree.json_tokens (outline d)) (ArePrintable-json_tokens (outline d) (numbers d max_depth is)) in
+    ap tokens (sym (print-outline d))
+    ∙ tokens-print (tree.json_tokens (outline d)) (ArePrintable-json_tokens (outline d) (numbers d max_depth is)) in
     let all : json.value max_depth (tokens (compact_text d)) ≡ Some (outline d, []) =
     ap (json.value max_depth) (printed ∙ sym (append-nil (tree.json_tokens (outline d))))
     ∙ value-json_tokens (outline d) max_depth [] (few_levels d max_depth is) in

@@ -27,7 +27,8 @@ one_text bytes one other is so =
     let first = length-with_trailer one bytes is in
     let second = length-with_trailer other bytes so in
     let same : length other ≡ length one = omega (arith, first, second) in
-    sym (take_at one (trailer_of one) (length one) refl) ∙ ap (take (length one)) (is ∙ sym so) ∙ take_at other (trailer_of other) (length one) same
+    sym (take_at one (trailer_of one) (length one) refl) ∙ ap (take (length one)) (is ∙ sym so)
+    ∙ take_at other (trailer_of other) (length one) same
 
 one_json : (text : List ℕ) (d e : Data) → IsJson text d → IsJson text e → d ≡ e
 one_json text d e is so = some_is d e (sym is.1 ∙ so.1)
@@ -37,14 +38,17 @@ one_json text d e is so = some_is d e (sym is.1 ∙ so.1)
 abbrev solution_with : Key → Bool → List ProcSummary → Solution
 solution_with key stored procs = record { key = key; answer = record { stored = stored; procs = procs } }
 
-solution : (one other : Solution) → one.key ≡ other.key → one.answer.stored ≡ other.answer.stored → one.answer.procs ≡ other.answer.procs → one ≡ other
+solution : (one other : Solution) → one.key ≡ other.key → one.answer.stored ≡ other.answer.stored → one.answer.procs ≡ other.answer.procs →
+    one ≡ other
 solution one other key stored procs =
     ap (λ k. solution_with k one.answer.stored one.answer.procs) key ∙ ap (λ mark. solution_with other.key mark one.answer.procs) stored
     ∙ ap (λ all. solution_with other.key other.answer.stored all) procs
 
-one_entry : OneKey → OneAnswer → (one other : Solution) → IsReadEntry one → IsReadEntry other → entry_data one ≡ entry_data other → one ≡ other
+one_entry : OneKey → OneAnswer → (one other : Solution) → IsReadEntry one → IsReadEntry other → entry_data one ≡ entry_data other →
+    one ≡ other
 one_entry one_key one_answer one other is so same =
-    let parts = answer_there (answer_data one.key one.answer) (key_data other.key) (key_data one.key) (answer_data other.key other.answer) same in
+    let parts =
+    answer_there (answer_data one.key one.answer) (key_data other.key) (key_data one.key) (answer_data other.key other.answer) same in
     let key : one.key ≡ other.key =
     one_key one.key other.key is.fits.key so.fits.key is.storable.key so.storable.key parts.1 in
     let answer : answer_data one.key one.answer ≡ answer_data one.key other.answer =

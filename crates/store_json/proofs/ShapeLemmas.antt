@@ -86,7 +86,8 @@ no_format_there d none ds same = no_some _ (ap (get (codes "format")) same ∙ n
 pub no_number_there : (d format : Data) → get (codes "format") d ≡ Some format → option_and_then as_u64 (as_number format) ≡ None →
     AreValuesOf d None
 no_number_there d format is none ds same =
-    no_some _ (ap (λ one. option_and_then as_u64 (as_number one)) (some_is (count_data 1) format (ap (get (codes "format")) same ∙ is)) ∙ none)
+    no_some _ (ap (λ one. option_and_then as_u64 (as_number one)) (some_is (count_data 1) format (ap (get (codes "format")) same ∙ is))
+    ∙ none)
 
 pub other_format : (d format : Data) (n : ℕ) → get (codes "format") d ≡ Some format → option_and_then as_u64 (as_number format) ≡ Some n →
     (n ≡ 1 → ⊥) → AreValuesOf d None

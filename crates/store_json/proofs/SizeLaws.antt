@@ -13,7 +13,8 @@ use Rattle.json.specs.Lex.{token, comma, colon, between, in_word, in_string, in_
 use Rattle.json.specs.Lex as class
 use Rattle.json.specs.Json as json
 use Rattle.json.proofs.Grammar.{after_end_array-shorter, read_key-shorter}
-use Rattle.serde_json.specs.Data.{Data, null, boolean, number, string, array, object, Items, no_items, item, Members, no_members, member, put}
+use Rattle.serde_json.specs.Data.{Data, null, boolean, number, string, array, object, Items, no_items, item, Members, no_members, member}
+use Rattle.serde_json.specs.Data.{put}
 use Rattle.serde_json.specs.Read.{max_depth, number_of, of_items, of_json, of_members, read}
 use Rattle.serde_json.specs.View.{items_of}
 use Rattle.claim_core.specs.Views.{Solution}
@@ -46,7 +47,8 @@ unfolding lex
 few_lexemes mode [] = omega arith
 few_lexemes mode (x ∷ xs) = lex_turn (length xs) mode (class.class x) x xs (λ next. lex next xs) (λ next. few_lexemes next xs)
 
-allowed : (n : ℕ) (b : Bool) (t : Token) (k : Place → List Token) (next : Place) → length (k next) ≤ n → length (if_allowed b t k next) ≤ suc n
+allowed : (n : ℕ) (b : Bool) (t : Token) (k : Place → List Token) (next : Place) → length (k next) ≤ n →
+    length (if_allowed b t k next) ≤ suc n
 allowed n true t k next few = omega arith
 allowed n false t k next few = omega arith
 
@@ -70,10 +72,14 @@ few_tokens_from fresh [] = omega arith
 few_tokens_from after_value [] = omega arith
 few_tokens_from after_comma [] = omega arith
 few_tokens_from after_key [] = omega arith
-few_tokens_from fresh (token t ∷ ls) = placed (suc (length ls)) fresh t (begins_colon ls) (λ next. punctuate next ls) (λ next. few_tokens_from next ls)
-few_tokens_from after_value (token t ∷ ls) = placed (suc (length ls)) after_value t (begins_colon ls) (λ next. punctuate next ls) (λ next. few_tokens_from next ls)
-few_tokens_from after_comma (token t ∷ ls) = placed (suc (length ls)) after_comma t (begins_colon ls) (λ next. punctuate next ls) (λ next. few_tokens_from next ls)
-few_tokens_from after_key (token t ∷ ls) = placed (suc (length ls)) after_key t (begins_colon ls) (λ next. punctuate next ls) (λ next. few_tokens_from next ls)
+few_tokens_from fresh (token t ∷ ls) =
+    placed (suc (length ls)) fresh t (begins_colon ls) (λ next. punctuate next ls) (λ next. few_tokens_from next ls)
+few_tokens_from after_value (token t ∷ ls) =
+    placed (suc (length ls)) after_value t (begins_colon ls) (λ next. punctuate next ls) (λ next. few_tokens_from next ls)
+few_tokens_from after_comma (token t ∷ ls) =
+    placed (suc (length ls)) after_comma t (begins_colon ls) (λ next. punctuate next ls) (λ next. few_tokens_from next ls)
+few_tokens_from after_key (token t ∷ ls) =
+    placed (suc (length ls)) after_key t (begins_colon ls) (λ next. punctuate next ls) (λ next. few_tokens_from next ls)
 few_tokens_from fresh (comma ∷ ls) = omega arith
 few_tokens_from after_value (comma ∷ ls) = let it = few_tokens_from after_comma ls in omega (arith, it)
 few_tokens_from after_comma (comma ∷ ls) = omega arith
@@ -114,7 +120,8 @@ abbrev Takes : {A : Type 0} → (A → ℕ) → json.Parse A → Type 0
 Takes f p = (ts : List Token) → AtMost f ts (p ts)
 
 mapped : {A B : Type 0} (f : A → ℕ) (g : B → ℕ) (ts us : List Token) (h : A → B) →
-    ((a : A) (n : ℕ) → f a + n ≤ length ts → g (h a) + n ≤ length us) → (o : Option (A × List Token)) → AtMost f ts o → AtMost g us (json.parse_map h o)
+    ((a : A) (n : ℕ) → f a + n ≤ length ts → g (h a) + n ≤ length us) → (o : Option (A × List Token)) → AtMost f ts o →
+    AtMost g us (json.parse_map h o)
 mapped f g ts us h k None x = tt
 mapped f g ts us h k (Some p) x = k p.0 (length p.1) x
 
@@ -221,7 +228,8 @@ put_weight : (k : List ℕ) (d : Data) (ms : Members) → members_weight (put k 
 put_weight k d no_members = omega arith
 put_weight k d (member l e ms) =
     let further = put_weight k d ms in
-    either_weight (slice_cmp nat_cmp k l) (member k d (member l e ms)) (member l d ms) (member l e (put k d ms)) (weight d + (weight e + members_weight ms))
+    either_weight (slice_cmp nat_cmp k l) (member k d (member l e ms)) (member l d ms) (member l e (put k d ms))
+    (weight d + (weight e + members_weight ms))
     (omega arith) (omega arith) (omega (arith, further))
 
 mutual
@@ -231,10 +239,12 @@ mutual
   value_weight (json.number s) = by_map (λ _. 0) (λ d. suc (weight d)) 0 1 number (λ a x. omega arith) (number_of s) (flat (number_of s))
   value_weight (json.string s) = omega arith
   value_weight (json.array js) =
-      by_map (λ ds. suc (items_weight ds)) (λ d. suc (weight d)) (items_size js) (suc (items_size js)) array (λ ds x. omega (arith, x)) (of_items js)
+      by_map (λ ds. suc (items_weight ds)) (λ d. suc (weight d)) (items_size js) (suc (items_size js)) array (λ ds x. omega (arith, x))
+      (of_items js)
       (items_weights js)
   value_weight (json.object ms) =
-      by_map members_weight (λ d. suc (weight d)) (members_size ms) (suc (members_size ms)) object (λ all x. omega (arith, x)) (of_members ms no_members)
+      by_map members_weight (λ d. suc (weight d)) (members_size ms) (suc (members_size ms)) object (λ all x. omega (arith, x))
+      (of_members ms no_members)
       (members_weights ms no_members (members_size ms) (omega arith))
 
   items_weights : (js : json.Items) → Below (λ ds. suc (items_weight ds)) (items_size js) (of_items js)
@@ -249,7 +259,8 @@ mutual
   members_weights json.no_members found n fits = omega (arith, fits)
   members_weights (json.member k j ms) found n fits =
       by_then (λ d. suc (weight d)) members_weight (size j) n (λ d. of_members ms (put k d found))
-      (λ d x. members_weights ms (put k d found) n (let more = put_weight k d found in omega (arith, x, fits, more))) (of_json j) (value_weight j)
+      (λ d x. members_weights ms (put k d found) n (let more = put_weight k d found in omega (arith, x, fits, more))) (of_json j)
+      (value_weight j)
 
 -- ---- what is read of a text
 
@@ -266,7 +277,8 @@ last_weight text (Some (j, t ∷ ts)) x = tt
 
 read_weight : (text : List ℕ) (d : Data) → read text ≡ Some d → weight d ≤ length text
 read_weight text d is =
-    subst (Below (λ d. weight d) (length text)) is (last_weight text (json.value max_depth (tokens text)) (takes_value max_depth (tokens text)))
+    subst (Below (λ d. weight d) (length text)) is
+    (last_weight text (json.value max_depth (tokens text)) (takes_value max_depth (tokens text)))
 
 each_weighs : (entries : List Solution) → length entries ≤ items_weight (items_of (map entry_data entries))
 each_weighs [] = omega arith

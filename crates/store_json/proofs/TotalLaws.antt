@@ -48,7 +48,11 @@ some_text bytes = by_length (cases_lt (length bytes) 66)
   where
     by_trailer : Decided (drop (length bytes - 66) bytes ≡ trailer_of (take (length bytes - 66) bytes)) → OneOrNone (IsTextOf bytes)
     by_trailer (holds right) =
-        inl (take (length bytes - 66) bytes, text_found bytes (take (length bytes - 66) bytes) (drop (length bytes - 66) bytes) (length bytes - 66) refl refl right)
+        inl (
+          take (length bytes - 66) bytes,
+          text_found bytes (take (length bytes - 66) bytes) (drop (length bytes - 66) bytes)
+              (length bytes - 66) refl refl right,
+        )
     by_trailer (fails wrong) = inr (no_text_found bytes (take (length bytes - 66) bytes) (drop (length bytes - 66) bytes) refl refl wrong)
 
     by_length : (length bytes < 66) ⊎ (66 ≤ length bytes) → OneOrNone (IsTextOf bytes)
@@ -58,7 +62,8 @@ some_text bytes = by_length (cases_lt (length bytes) 66)
 some_json : (text : List ℕ) → ((d : Data) × IsJson text d) ⊎ ((d : Data) → IsJson text d → ⊥)
 some_json text = by_test (test (is_utf8 text)) (read text) refl
   where
-    by_test : Decided (is_utf8 text ≡ true) → (o : Option Data) → read text ≡ o → ((d : Data) × IsJson text d) ⊎ ((d : Data) → IsJson text d → ⊥)
+    by_test : Decided (is_utf8 text ≡ true) → (o : Option Data) → read text ≡ o →
+        ((d : Data) × IsJson text d) ⊎ ((d : Data) → IsJson text d → ⊥)
     by_test (holds good) (Some d) is = inl (d, (IsUtf8-from_is_utf8 text good, is))
     by_test (holds good) None is = inr (λ d json. no_some d (sym is ∙ json.1))
     by_test (fails bad) o is = inr (λ d json. bad (is_utf8-from_IsUtf8 text json.0))
@@ -68,7 +73,8 @@ some_json text = by_test (test (is_utf8 text)) (read text) refl
 some_answer : (key : Key) (x : Data) → IsStorableKey key → KeyFits key → OneOrNone (IsEntryOf (entry_object x (key_data key)))
 some_answer key x formed fits = by_found (read_answer key x) refl
   where
-    by_form : (answer : Answer) → read_answer key x ≡ Some answer → Decided (IsStorableAnswer key answer) → OneOrNone (IsEntryOf (entry_object x (key_data key)))
+    by_form : (answer : Answer) → read_answer key x ≡ Some answer → Decided (IsStorableAnswer key answer) →
+        OneOrNone (IsEntryOf (entry_object x (key_data key)))
     by_form answer is (holds good) =
         inl (record { key = key; answer = answer }, answer_read key x answer fits (answer_found key x answer formed is good))
     by_form answer is (fails bad) = inr (no_answer_read one_key key x formed fits (answer_not_formed key x answer is bad))
@@ -143,11 +149,13 @@ some_values x y = by_number (option_and_then as_u64 (as_number y)) refl
         inl (found.0, ap₂ (λ (all number : Data). two_members (codes "entries") (codes "format") all number) found.1 (sym one))
     by_list one (inr none) = inr (λ ds same. none ds (first_of_two ds x y same))
 
-    by_format : (n : ℕ) → option_and_then as_u64 (as_number y) ≡ Some n → Decided (n ≡ 1) → OneOrNone (AreValuesOf (two_members (codes "entries") (codes "format") x y))
+    by_format : (n : ℕ) → option_and_then as_u64 (as_number y) ≡ Some n → Decided (n ≡ 1) →
+        OneOrNone (AreValuesOf (two_members (codes "entries") (codes "format") x y))
     by_format n is (holds one) = by_list (count_of y n is ∙ ap count_data one) (some_list x)
     by_format n is (fails other) = inr (other_format (two_members (codes "entries") (codes "format") x y) y n refl is other)
 
-    by_number : (o : Option ℕ) → option_and_then as_u64 (as_number y) ≡ o → OneOrNone (AreValuesOf (two_members (codes "entries") (codes "format") x y))
+    by_number : (o : Option ℕ) → option_and_then as_u64 (as_number y) ≡ o →
+        OneOrNone (AreValuesOf (two_members (codes "entries") (codes "format") x y))
     by_number None is = inr (no_number_there (two_members (codes "entries") (codes "format") x y) y refl is)
     by_number (Some n) is = by_format n is (same_number n 1)
 

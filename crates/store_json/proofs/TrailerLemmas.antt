@@ -41,4 +41,5 @@ no_text_found bytes text trailer front back wrong other is =
     let at : length other ≡ length bytes - 66 = omega (arith, whole) in
     let same : text ≡ other =
     front ∙ ap (take (length bytes - 66)) (sym is) ∙ take_at other (trailer_of other) (length bytes - 66) at in
-    wrong (back ∙ ap (drop (length bytes - 66)) (sym is) ∙ drop_at other (trailer_of other) (length bytes - 66) at ∙ ap trailer_of (sym same))
+    wrong (back ∙ ap (drop (length bytes - 66)) (sym is) ∙ drop_at other (trailer_of other) (length bytes - 66) at
+    ∙ ap trailer_of (sym same))

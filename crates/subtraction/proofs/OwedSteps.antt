@@ -35,10 +35,14 @@ same-bound m k (Var x) f is = record { used = ap (λ (n : Matching). n.used) is;
 same-bound m k (Const n) f is = Same-refl m k is
 
 module _ (rules : Rules) where
-  same-missed : (number : ℕ) (left right : Exp) (m k : Matching) (mode : Mode) → miss_equation rules number left right m mode ≡ On k → Same m k
+  same-missed : (number : ℕ) (left right : Exp) (m k : Matching) (mode : Mode) → miss_equation rules number left right m mode ≡ On k
+      → Same m k
   same-missed number left right m k Subtract h = cc
   same-missed number left right m k Abduce h =
-      let goes : miss_fact rules number (Eq left right) m ≡ On k = on_then (is_logical left && is_logical right && not (differs (whole rules m) left right)) (miss_fact rules number (Eq left right) m) number k h in
+      let goes : miss_fact rules number (Eq left right) m
+      ≡ On k =
+      on_then (is_logical left && is_logical right && not (differs (whole rules m) left right))
+      (miss_fact rules number (Eq left right) m) number k h in
       let is : k ≡ with_missing_fact m (Eq left right) = missed_fact rules number (Eq left right) m k (sym goes) in
       record { used = ap (λ (n : Matching). n.used) is; next = ap (λ (n : Matching). n.next) is }
 
@@ -63,12 +67,15 @@ module _ (rules : Rules) where
   same-all [] m n h = let same : n ≡ m = cc in Same-refl m n same
   same-all (one ∷ owed) m n h = by_turn (want_owed rules one m) refl h (λ k. same-all owed k n)
     where
-      by_turn : (r : Turned) → want_owed rules one m ≡ r → and_then (want_all_owed rules owed) r ≡ On n → ((k : Matching) → want_all_owed rules owed k ≡ On n → Same k n) → Same m n
+      by_turn : (r : Turned) → want_owed rules one m ≡ r → and_then (want_all_owed rules owed) r ≡ On n
+          → ((k : Matching) → want_all_owed rules owed k ≡ On n → Same k n) → Same m n
       by_turn (On k) e f later = Same-trans m k n (same-one one m k e) (later k f)
       by_turn (Stuck number) e f later = cc
 
-  pub owed_room : (owed : List Owed) (m n : Matching) (count : ℕ) → want_all_owed rules owed m ≡ On n → HasRoom count m.used → HasRoom count n.used
+  pub owed_room : (owed : List Owed) (m n : Matching) (count : ℕ) → want_all_owed rules owed m ≡ On n → HasRoom count m.used
+      → HasRoom count n.used
   owed_room owed m n count goes room = subst (HasRoom count) (sym (same-all owed m n goes).used) room
 
-  pub owed_names : (owed : List Owed) (m n : Matching) (count : ℕ) → want_all_owed rules owed m ≡ On n → m.next + count < 4294967296 → n.next + count < 4294967296
+  pub owed_names : (owed : List Owed) (m n : Matching) (count : ℕ) → want_all_owed rules owed m ≡ On n → m.next + count < 4294967296
+      → n.next + count < 4294967296
   owed_names owed m n count goes few = let is : n.next ≡ m.next = (same-all owed m n goes).next in omega arith

@@ -33,28 +33,35 @@ variables-few a names one is =
 -- the wanted state, renamed apart, is within the sizes, with as many locals
 apart-within : (a b : SymState) → IsStateWithinSizes a → IsStateWithinSizes b → IsWithinSizes (apart_from a b).heap
 apart-within a b one other =
-    let room : length (with_state [] a) + length (existentials b) < 2147418112 = state_room (with_state [] a) (existentials b) b (variables-few a (with_state [] a) one refl) other.few other.heap refl in
-    mapped_is_within_sizes (renamed (number_apart (with_state [] a) (existentials b))) b.heap (small_renamed (with_state [] a) (existentials b) room) other.heap
+    let room : length (with_state [] a) + length (existentials b) < 2147418112 =
+    state_room (with_state [] a) (existentials b) b (variables-few a (with_state [] a) one refl) other.few other.heap refl in
+    mapped_is_within_sizes (renamed (number_apart (with_state [] a) (existentials b))) b.heap
+    (small_renamed (with_state [] a) (existentials b) room) other.heap
 
 apart-slots : (a b : SymState) → length (apart_from a b).locals ≡ length b.locals
 apart-slots a b = length-map b.locals (renamed (number_apart (with_state [] a) (existentials b)))
 
-pub covering-room : (a b apart : SymState) → IsStateWithinSizes a → IsStateWithinSizes b → apart ≡ apart_from a b → HasRoom (fields_of_all apart.heap.spatial) (with_state (with_state [] a) apart)
+pub covering-room : (a b apart : SymState) → IsStateWithinSizes a → IsStateWithinSizes b → apart ≡ apart_from a b
+    → HasRoom (fields_of_all apart.heap.spatial) (with_state (with_state [] a) apart)
 covering-room a b apart one other is =
     let within : IsWithinSizes (apart_from a b).heap = apart-within a b one other in
     let slots : length (apart_from a b).locals ≡ length b.locals = apart-slots a b in
     let low : length b.locals ≤ 32768 = other.few in
     let fields : fields_of_all (apart_from a b).heap.spatial ≤ 131072000 = few_fields (apart_from a b).heap within in
     let first : length (with_state [] a) ≤ 131108768 = few-variables a one in
-    let both : length (with_state (with_state [] a) (apart_from a b)) ≤ length (with_state [] a) + length (apart_from a b).locals + 131076000 = few_state_variables (with_state [] a) (apart_from a b) within in
+    let both : length (with_state (with_state [] a) (apart_from a b))
+    ≤ length (with_state [] a) + length (apart_from a b).locals + 131076000 =
+    few_state_variables (with_state [] a) (apart_from a b) within in
     rw is (room_of_few (fields_of_all (apart_from a b).heap.spatial) (with_state (with_state [] a) (apart_from a b)) (omega arith))
 
-pub covering-few : (a b apart : SymState) → IsStateWithinSizes a → IsStateWithinSizes b → apart ≡ apart_from a b → length apart.heap.spatial + length apart.heap.pure < 4294967296
+pub covering-few : (a b apart : SymState) → IsStateWithinSizes a → IsStateWithinSizes b → apart ≡ apart_from a b
+    → length apart.heap.spatial + length apart.heap.pure < 4294967296
 covering-few a b apart one other is =
     let parts : length (apart_from a b).heap.pure + length (apart_from a b).heap.spatial ≤ 4000 = (apart-within a b one other).parts in
     rw is (omega arith)
 
-pub covering-names : (a b apart : SymState) → IsStateWithinSizes a → IsStateWithinSizes b → apart ≡ apart_from a b → names_of_all apart.heap.spatial < 4294967296
+pub covering-names : (a b apart : SymState) → IsStateWithinSizes a → IsStateWithinSizes b → apart ≡ apart_from a b
+    → names_of_all apart.heap.spatial < 4294967296
 covering-names a b apart one other is =
     let names : names_of_all (apart_from a b).heap.spatial ≤ 131076000 = names_within (apart_from a b).heap (apart-within a b one other) in
     rw is (omega arith)
@@ -64,7 +71,12 @@ covering-names a b apart one other is =
 pub state_within : WellFormedStateIsWithinSizes
 state_within structs params slots state are few is =
     let same : length state.locals ≡ slots = is.one_each in
-    record { locals = All-weaker (IsExp widest params) IsSmall (small params) state.locals is.locals; few = omega arith; heap = well_formed_is_within_sizes structs params state.heap are is.heap }
+    record {
+      locals = All-weaker (IsExp widest params) IsSmall (small params) state.locals is.locals;
+      few = omega arith;
+      heap = well_formed_is_within_sizes structs params state.heap are is.heap;
+    }
 
 pub post_within : WellFormedPostIsWithinSizes
-post_within structs params post are is = record { ret = small params post.ret is.ret; heap = well_formed_is_within_sizes structs params post.heap are is.heap }
+post_within structs params post are is =
+    record { ret = small params post.ret is.ret; heap = well_formed_is_within_sizes structs params post.heap are is.heap }

@@ -1,5 +1,6 @@
 -- A claim that is answered.
-use Rattle.std.proofs.Common.{◌≡◌, ℕ, ◌+◌, ◌<◌, Bool, true, false, IfSome, is_some, List, length, get_or, Some, None, Option, refl, sym, ap, ◌∙◌, subst, arith}
+use Rattle.std.proofs.Common.{◌≡◌, ℕ, ◌+◌, ◌<◌, Bool, true, false, IfSome, is_some, List, length, get_or, Some, None, Option, refl, sym, ap}
+use Rattle.std.proofs.Common.{◌∙◌, subst, arith}
 use Rattle.std.specs.Global.{Vec}
 use Rattle.std.specs.List.{remove}
 use Rattle.std.specs.Vec.{vec_len, vec_capacity}
@@ -34,8 +35,10 @@ use Rattle.summary_book.proofs.Events.{may_publish_at, own_found, replay_told}
 use Rattle.summary_book.proofs.Here.{place_is}
 use Rattle.summary_book.proofs.Marking.{due_exact, due_place, due_settles, due_unsettled, unsettled_unmarked}
 
-module _ (solves : Key → Answer → Type 0) (log : Vec Told) (parts : Parts) (slots : Vec (Option SlotRow)) (marks : Vec Bool) (out : Vec OutRow) (revision made : ℕ) (book : IsBook solves log parts slots marks out revision made)
-    (claim : Claimed) (at : ℕ) (own : is_own (replay (events_of log.items)) claim ≡ true) (place : IsPlaceOf claim.number out.items at) where
+module _ (solves : Key → Answer → Type 0) (log : Vec Told) (parts : Parts) (slots : Vec (Option SlotRow)) (marks : Vec Bool)
+    (out : Vec OutRow) (revision made : ℕ) (book : IsBook solves log parts slots marks out revision made)
+    (claim : Claimed) (at : ℕ) (own : is_own (replay (events_of log.items)) claim ≡ true)
+    (place : IsPlaceOf claim.number out.items at) where
   abbrev pub world : World
   world = replay (events_of log.items)
 
@@ -51,13 +54,16 @@ module _ (solves : Key → Answer → Type 0) (log : Vec Told) (parts : Parts) (
 
   module _ (row : OutRow) (row_is : row ≡ get_or out.items at row) where
     pub own_row : IsOutRow log.items world.program row end.out
-    own_row = subst (λ r. IsOutRow log.items world.program r end.out) (sym (row_is ∙ get_or_from_slice_get out.items at end.row row end.row_at)) end.row_is
+    own_row =
+        subst (λ r. IsOutRow log.items world.program r end.out)
+        (sym (row_is ∙ get_or_from_slice_get out.items at end.row row end.row_at)) end.row_is
 
     pub own_row_here : IsOutRow log.items parts.program.value row end.out
     own_row_here = subst (λ p. IsOutRow log.items p row end.out) (sym book.rows_are.program_is) own_row
 
     -- its component is one of the components
-    here_in : (o : Option ℕ) → o ≡ place_named (program_components world.program) (names_of end.out.key.procs) → IfSome o (λ here. here < length (program_components world.program))
+    here_in : (o : Option ℕ) → o ≡ place_named (program_components world.program) (names_of end.out.key.procs) →
+        IfSome o (λ here. here < length (program_components world.program))
     here_in None e = tt
     here_in (Some here) e =
         let there = place_is world.program (names_of end.out.key.procs) here (sym e) in
@@ -69,41 +75,54 @@ module _ (solves : Key → Answer → Type 0) (log : Vec Told) (parts : Parts) (
 
     pub here_within : IfSome row.here (λ here. here < length parts.components.items)
     here_within =
-        subst (λ n. IfSome row.here (λ here. here < n)) (sym (parts_count log.items parts slots.items (book_sight solves log parts slots marks out revision made book))) (here_in row.here own_row.here)
+        subst (λ n. IfSome row.here (λ here. here < n))
+        (sym (parts_count log.items parts slots.items (book_sight solves log parts slots marks out revision made book)))
+        (here_in row.here own_row.here)
 
     pub here_among : IfSome row.here (λ here. here < length slots.items)
     here_among = subst (λ n. IfSome row.here (λ here. here < n)) (sym book.rows_are.slots_are.lengths) (here_in row.here own_row.here)
 
-    module _ (others : Vec Bool) (others_are : AreMarks world others.items) (published : Published) (tells : (one : Out) → IsOutRow log.items parts.program.value row one → published ≡ outcome world one) where
+    module _ (others : Vec Bool) (others_are : AreMarks world others.items) (published : Published)
+        (tells : (one : Out) → IsOutRow log.items parts.program.value row one → published ≡ outcome world one) where
       published_is : published ≡ outcome world end.out
       published_is = tells end.out own_row_here
 
       -- what became of the answer is by the order of cases
       pub published_by : (one : Out) → out_of world.out claim.number ≡ Some one → published ≡ outcome world one
-      published_by one is = published_is ∙ ap (outcome world) (some_same (sym (out_of_end log.items world.program out.items at claim end) ∙ is))
+      published_by one is = published_is
+          ∙ ap (outcome world) (some_same (sym (out_of_end log.items world.program out.items at claim end) ∙ is))
 
-      module _ (later : Vec Told) (told : Told) (longer : IsLonger log later told) (left : Vec OutRow) (left_is : left.items ≡ remove out.items at) (left_len : vec_len left + 1 ≡ vec_len out)
-          (capacity : vec_capacity later ≡ vec_capacity log) (number : ℕ) (number_is : number ≡ claim.number) (answer : Answer) (right : solves claim.key answer) (kept : Bool)
+      module _ (later : Vec Told) (told : Told) (longer : IsLonger log later told) (left : Vec OutRow)
+          (left_is : left.items ≡ remove out.items at) (left_len : vec_len left + 1 ≡ vec_len out)
+          (capacity : vec_capacity later ≡ vec_capacity log) (number : ℕ) (number_is : number ≡ claim.number) (answer : Answer)
+          (right : solves claim.key answer) (kept : Bool)
           (event_is : event_of told ≡ Event.Publish number answer kept) (kept_is : kept ≡ is_kept_outcome published) where
         is_kept_by : kept ≡ is_kept world end.out
         is_kept_by = kept_is ∙ ap is_kept_outcome published_is
 
         solved : IsSolved solves world (Event.Publish number answer kept)
-        solved = subst (λ n. IsSolved solves world (Event.Publish n answer kept)) (sym number_is) (end_solved solves log.items world.program out.items at claim answer kept end right)
+        solved =
+            subst (λ n. IsSolved solves world (Event.Publish n answer kept)) (sym number_is)
+            (end_solved solves log.items world.program out.items at claim answer kept end right)
 
         remarked : IsBook solves log parts slots others out revision made
         remarked = marked_book solves log log parts slots marks out revision made book others others_are
 
         pub stale_answer : kept ≡ false → IsBook solves later parts slots others left revision made
         stale_answer stale =
-            stale_book solves log later parts slots others out revision made remarked told longer left at number end.out answer (event_is ∙ ap (λ k. Event.Publish number answer k) stale) end.out_at (end.number_is ∙ sym number_is)
-            (sym is_kept_by ∙ stale) (subst (λ k. IsSolved solves world (Event.Publish number answer k)) stale solved) left_is left_len capacity
+            stale_book solves log later parts slots others out revision made remarked told longer left at number end.out answer
+            (event_is ∙ ap (λ k. Event.Publish number answer k) stale) end.out_at (end.number_is ∙ sym number_is)
+            (sym is_kept_by ∙ stale)
+            (subst (λ k. IsSolved solves world (Event.Publish number answer k)) stale solved) left_is left_len capacity
 
-        pub kept_answer : kept ≡ true → answer_in (Some told) ≡ Some answer → (more : Vec (Option SlotRow)) → more.items ≡ with_slot slots.items row (vec_len log) → IsBook solves later parts more others left revision made
+        pub kept_answer : kept ≡ true → answer_in (Some told) ≡ Some answer → (more : Vec (Option SlotRow)) →
+            more.items ≡ with_slot slots.items row (vec_len log) → IsBook solves later parts more others left revision made
         kept_answer yes_kept answer_is more more_is =
             let here = kept_here log.items world.program row end.out refl own_row (sym is_kept_by ∙ yes_kept) in
-            kept_book solves log later parts slots others out revision made remarked told longer left more at number here.0 row end.out answer (event_is ∙ ap (λ k. Event.Publish number answer k) yes_kept) answer_is end.out_at
-            (end.number_is ∙ sym number_is) (sym is_kept_by ∙ yes_kept) (subst (λ k. IsSolved solves world (Event.Publish number answer k)) yes_kept solved) own_row_here here.1
+            kept_book solves log later parts slots others out revision made remarked told longer left more at number here.0 row end.out
+            answer (event_is ∙ ap (λ k. Event.Publish number answer k) yes_kept) answer_is end.out_at
+            (end.number_is ∙ sym number_is) (sym is_kept_by ∙ yes_kept)
+            (subst (λ k. IsSolved solves world (Event.Publish number answer k)) yes_kept solved) own_row_here here.1
             (more_is ∙ ap (with_slot slots.items row) log.ok.0) left_is left_len capacity
 
         -- ---- marks
@@ -118,19 +137,25 @@ module _ (solves : Key → Answer → Type 0) (log : Vec Told) (parts : Parts) (
         later_world = replay (events_of later.items)
 
         later_is : later_world ≡ happened world (Event.Publish end.out.number answer kept)
-        later_is = ap (λ l. replay (events_of l)) longer.items_are ∙ replay_told log.items told (ap (may_happen world) event_same ∙ may) ∙ ap (happened world) event_same
+        later_is = ap (λ l. replay (events_of l)) longer.items_are ∙ replay_told log.items told (ap (may_happen world) event_same ∙ may)
+            ∙ ap (happened world) event_same
 
         same_program : later_world.program ≡ world.program
         same_program = ap (λ (w : World). w.program) later_is
 
         -- a component that is due the claim's key is marked where the answer is kept, and was not before
-        pub component_marked : (component : ℕ) → IsDueAt world component claim.key → published ≡ Kept → (last : List Bool) → AreExact world others.items component →
-            (IsExactAt later_world others.items component → is_some (settled_at later_world component) ≡ true → marked last component ≡ true) → IsMarkedAnew marks.items last component
+        pub component_marked : (component : ℕ) → IsDueAt world component claim.key → published ≡ Kept → (last : List Bool) →
+            AreExact world others.items component →
+            (IsExactAt later_world others.items component → is_some (settled_at later_world component) ≡ true →
+            marked last component ≡ true) → IsMarkedAnew marks.items last component
         component_marked component due is_published last exact found =
             let is_now : is_kept world end.out ≡ true = ap is_kept_outcome (sym published_is ∙ is_published) in
             let settled = subst (λ w. is_some (settled_at w component) ≡ true) (sym later_is)
-            (due_settles world end.out.number answer kept component end.out (own_found (events_of log.items) at end.out end.out_at) (own_due component due) may) in
+            (due_settles world end.out.number answer kept component end.out (own_found (events_of log.items) at end.out end.out_at)
+            (own_due component due) may) in
             record {
-              was = unsettled_unmarked world marks.items component book.rows_are.marks_are (due_unsettled world component end.out (own_due component due) is_now);
+              was =
+                  unsettled_unmarked world marks.items component book.rows_are.marks_are
+                  (due_unsettled world component end.out (own_due component due) is_now);
               is = found (due_exact world later_world others.items component claim.key due exact same_program) settled;
             }

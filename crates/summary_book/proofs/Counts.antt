@@ -25,11 +25,13 @@ module _ (log : List Told) (parts : Parts) (slots : List (Option SlotRow)) (sigh
   pub within_marks : (marks : List Bool) (place : ℕ) → AreMarks world marks → place < length parts.components.items → place < length marks
   within_marks marks place are lt = let one = are.lengths in let two = parts_count in omega (arith, one, two, lt)
 
-  pub seen_for : (aim : ℕ → Bool) (marks later : List Bool) (least its : Option ℕ) (count : ℕ) → AreSeen world aim marks least count → later ≡ marks → its ≡ least → AreSeen world aim later its count
+  pub seen_for : (aim : ℕ → Bool) (marks later : List Bool) (least its : Option ℕ) (count : ℕ) → AreSeen world aim marks least count →
+      later ≡ marks → its ≡ least → AreSeen world aim later its count
   seen_for aim marks later least its count are same_marks same_least =
       subst (λ m. AreSeen world aim m its count) (sym same_marks) (subst (λ o. AreSeen world aim marks o count) (sym same_least) are)
 
-  pub seen_end : (aim : ℕ → Bool) (marks : List Bool) (least its : Option ℕ) (count : ℕ) → AreSeen world aim marks least count → count ≡ length parts.components.items → least ≡ its →
+  pub seen_end : (aim : ℕ → Bool) (marks : List Bool) (least its : Option ℕ) (count : ℕ) → AreSeen world aim marks least count →
+      count ≡ length parts.components.items → least ≡ its →
       AreSeen world aim marks its (length (standings world))
   seen_end aim marks least its count are all same =
       subst (λ n. AreSeen world aim marks its n) (all ∙ sym standings_count) (subst (λ o. AreSeen world aim marks o count) same are)

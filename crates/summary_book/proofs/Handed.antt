@@ -37,7 +37,8 @@ use Rattle.summary_book.proofs.Events.{replay_told}
 use Rattle.summary_book.proofs.Sizes.{due_sizes}
 
 -- marks tell what the aim reaches
-pub aim_path : (world : World) (program : Program) (its : Aim) (marks given : List Bool) → program ≡ world.program → ((component : ℕ) → marked marks component ≡ aimed program its component) → given ≡ marks →
+pub aim_path : (world : World) (program : Program) (its : Aim) (marks given : List Bool) → program ≡ world.program →
+    ((component : ℕ) → marked marks component ≡ aimed program its component) → given ≡ marks →
     marked given ≡ aimed world.program its
 aim_path world program its marks given program_is tell given_is =
     let path : marked marks ≡ aimed program its = λ i component. tell component i in
@@ -48,13 +49,17 @@ aim_marks world its aim path = subst (IsAim world) (sym path) (aims_are world it
 
 -- a component is due one key
 pub due_once : (world : World) (component : ℕ) (key its : Key) → IsFree world component key → IsDueAt world component its → key ≡ its
-due_once world component key its free due = some_same (sym free.due ∙ ap (λ (s : Standing). s.due) (some_same (sym free.at ∙ due.at)) ∙ due.due)
+due_once world component key its free due =
+    some_same (sym free.due ∙ ap (λ (s : Standing). s.due) (some_same (sym free.at ∙ due.at)) ∙ due.due)
 
-pub free_due : (world : World) (aim : ℕ → Bool) (component : ℕ) (key its : Key) → IsFirstFree world aim component key → IsDueAt world component its → IsFirstFree world aim component its
-free_due world aim component key its first due = subst (IsFirstFree world aim component) (due_once world component key its first.free due) first
+pub free_due : (world : World) (aim : ℕ → Bool) (component : ℕ) (key its : Key) → IsFirstFree world aim component key →
+    IsDueAt world component its → IsFirstFree world aim component its
+free_due world aim component key its first due =
+    subst (IsFirstFree world aim component) (due_once world component key its first.free due) first
 
 -- it is one of the components
-pub free_within : (log : List Told) (parts : Parts) (slots : List (Option SlotRow)) → IsSight log parts slots → (component : ℕ) (key : Key) → IsFree (replay (events_of log)) component key → component < length parts.components.items
+pub free_within : (log : List Told) (parts : Parts) (slots : List (Option SlotRow)) → IsSight log parts slots →
+    (component : ℕ) (key : Key) → IsFree (replay (events_of log)) component key → component < length parts.components.items
 free_within log parts slots sight component key free =
     let lt = slice_get_within (standings (replay (events_of log))) component free.standing free.at in
     let same = standings_count log parts slots sight in
@@ -70,7 +75,8 @@ handed_own log told claim number worker component key event_is may number_is key
     let event : Event = Event.Claim number worker component key in
     let one : Out = record { number = number; worker = worker; component = component; revision = world.revision; key = key } in
     let same : is_claim claim one ≡ true =
-    ap (λ b. b && key_test.0 key claim.key) ((Decides-eqb number claim.number).1 (sym number_is)) ∙ (key_test.1 key claim.key).1 (sym key_is) in
+    ap (λ b. b && key_test.0 key claim.key) ((Decides-eqb number claim.number).1 (sym number_is))
+    ∙ (key_test.1 key claim.key).1 (sym key_is) in
     let next = replay_told log told (ap (may_happen world) event_is ∙ may) ∙ ap (happened world) event_is in
     ap (λ w. is_own w claim) next ∙
     any_passes (is_claim claim) (world.out ++ one ∷ []) (length world.out) one (at_end world.out one) same
@@ -86,4 +92,7 @@ due_job solves log parts slots marks out revision made book within component key
     let formed = subst IsProgram rows.program_is rows.parts_are.formed in
     let sizes = subst HasProgramSizes rows.program_is rows.parts_are.sizes in
     let world_is = book_storable solves log parts slots marks out revision made book within in
-    record { storable = due_keys world component due.standing key world_is due.at due.due; sizes = due_sizes world formed sizes component key due }
+    record {
+      storable = due_keys world component due.standing key world_is due.at due.due;
+      sizes = due_sizes world formed sizes component key due;
+    }

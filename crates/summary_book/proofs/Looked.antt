@@ -1,5 +1,6 @@
 -- Outstanding claims looked at row by row, and what a component's turn is by them.
-use Rattle.std.proofs.Common.{◌≡◌, ℕ, suc, ◌+◌, ◌<◌, ◌==◌, Bool, cond, true, false, ◌&&◌, ◌||◌, not, List, [], ◌∷◌, length, slice_get, is_some, Some, None, Option, refl, sym, ap, ◌∙◌, subst, ⊎_elim, find, option_map, arith, IfSome}
+use Rattle.std.proofs.Common.{◌≡◌, ℕ, suc, ◌+◌, ◌<◌, ◌==◌, Bool, cond, true, false, ◌&&◌, ◌||◌, not, List, [], ◌∷◌, length, slice_get}
+use Rattle.std.proofs.Common.{is_some, Some, None, Option, refl, sym, ap, ◌∙◌, subst, ⊎_elim, find, option_map, arith, IfSome}
 use Rattle.std.specs.List.{list_any}
 use Rattle.std.proofs.lemmas.Bool.{cases_lt}
 use Rattle.std.proofs.lemmas.Bool.Decides.{Decides-eqb}
@@ -37,7 +38,8 @@ not_false false e = cc
 
 pub same_keys : (one other : Key) → key_test.0 one other ≡ key_test.0 other one
 same_keys one other =
-    same_answers (key_test.0 one other) (key_test.0 other one) (λ t. (key_test.1 other one).1 (sym ((key_test.1 one other).0 t))) (λ t. (key_test.1 one other).1 (sym ((key_test.1 other one).0 t)))
+    same_answers (key_test.0 one other) (key_test.0 other one) (λ t. (key_test.1 other one).1 (sym ((key_test.1 one other).0 t)))
+    (λ t. (key_test.1 one other).1 (sym ((key_test.1 other one).0 t)))
 
 pub any_none : {X : Type 0} (p : X → Bool) (xs : List X) → ((k : ℕ) (x : X) → slice_get xs k ≡ Some x → p x ≡ false) → list_any p xs ≡ false
 any_none p [] fails = refl
@@ -47,18 +49,21 @@ pub none_any : {X : Type 0} (p : X → Bool) (xs : List X) → find p xs ≡ Non
 none_any p [] none = refl
 none_any p (first ∷ xs) none = by_test (p first) none (none_any p xs)
   where
-    by_test : (b : Bool) → cond b (Some first) (find p xs) ≡ None → (find p xs ≡ None → list_any p xs ≡ false) → (b || list_any p xs) ≡ false
+    by_test : (b : Bool) → cond b (Some first) (find p xs) ≡ None → (find p xs ≡ None → list_any p xs ≡ false) →
+        (b || list_any p xs) ≡ false
     by_test true e again = not_none (sym e)
     by_test false e again = again e
 
-module _ (log : List Told) (program : Program) (rows : List OutRow) (out : List Out) (are : AreOut log program rows out) (p : Out → Bool) (i : ℕ) (row : OutRow) (at : slice_get rows i ≡ Some row) where
+module _ (log : List Told) (program : Program) (rows : List OutRow) (out : List Out) (are : AreOut log program rows out) (p : Out → Bool)
+    (i : ℕ) (row : OutRow) (at : slice_get rows i ≡ Some row) where
   abbrev NoneBefore : ℕ → Type 0
   NoneBefore count = (k : ℕ) (claim : Out) → k < count → slice_get out k ≡ Some claim → p claim ≡ false
 
   own : (claim : Out) × (slice_get out i ≡ Some claim) × IsOutRow log program row claim
   own = own_claim log program rows out i row are at
 
-  pub first_found : NoneBefore i → ((claim : Out) → IsOutRow log program row claim → p claim ≡ true) → Some row.number ≡ option_map (λ (claim : Out). claim.number) (find p out)
+  pub first_found : NoneBefore i → ((claim : Out) → IsOutRow log program row claim → p claim ≡ true) →
+      Some row.number ≡ option_map (λ (claim : Out). claim.number) (find p out)
   first_found before passes =
       ap (λ n. Some n) own.2.number ∙
       sym
@@ -77,23 +82,32 @@ module _ (log : List Told) (program : Program) (rows : List OutRow) (out : List 
       subst (λ (c : Out). p c ≡ false) it (fails own.0 own.2)) (cases_lt k i)
 
 -- none at all
-pub none_found : (log : List Told) (program : Program) (rows : List OutRow) (out : List Out) → AreOut log program rows out → (p : Out → Bool) →
-    ((k : ℕ) (claim : Out) → k < length rows → slice_get out k ≡ Some claim → p claim ≡ false) → None ≡ option_map (λ (claim : Out). claim.number) (find p out)
+pub none_found : (log : List Told) (program : Program) (rows : List OutRow) (out : List Out) → AreOut log program rows out →
+    (p : Out → Bool) →
+    ((k : ℕ) (claim : Out) → k < length rows → slice_get out k ≡ Some claim → p claim ≡ false) →
+    None ≡ option_map (λ (claim : Out). claim.number) (find p out)
 none_found log program rows out are p fails =
     sym
     (ap (option_map (λ (claim : Out). claim.number))
-    (find_none p out (λ k claim at. fails k claim (let lt = slice_get_within out k claim at in let e = zipped_length (IsOutRow log program) rows out are in omega (arith, lt, e)) at)))
+    (find_none p out
+    (λ k claim at. fails k claim
+    (let lt = slice_get_within out k claim at in let e = zipped_length (IsOutRow log program) rows out are in omega (arith, lt, e)) at)))
 
-pub none_any_found : (log : List Told) (program : Program) (rows : List OutRow) (out : List Out) → AreOut log program rows out → (p : Out → Bool) →
+pub none_any_found : (log : List Told) (program : Program) (rows : List OutRow) (out : List Out) → AreOut log program rows out →
+    (p : Out → Bool) →
     ((k : ℕ) (claim : Out) → k < length rows → slice_get out k ≡ Some claim → p claim ≡ false) → false ≡ list_any p out
 none_any_found log program rows out are p fails =
-    sym (any_none p out (λ k claim at. fails k claim (let lt = slice_get_within out k claim at in let e = zipped_length (IsOutRow log program) rows out are in omega (arith, lt, e)) at))
+    sym (any_none p out
+    (λ k claim at. fails k claim
+    (let lt = slice_get_within out k claim at in let e = zipped_length (IsOutRow log program) rows out are in omega (arith, lt, e)) at))
 
 -- ---- the claim of a number and a key
 
-pub claim_test : (claim : Claimed) (out : Out) (b : Bool) (key : Key) → out.number ≡ claim.number → out.key ≡ key → (b ≡ true → key ≡ claim.key) → (key ≡ claim.key → b ≡ true) → b ≡ is_claim claim out
+pub claim_test : (claim : Claimed) (out : Out) (b : Bool) (key : Key) → out.number ≡ claim.number → out.key ≡ key →
+    (b ≡ true → key ≡ claim.key) → (key ≡ claim.key → b ≡ true) → b ≡ is_claim claim out
 claim_test claim out b key number key_is there back =
-    same_answers b (key_test.0 out.key claim.key) (λ t. (key_test.1 out.key claim.key).1 (key_is ∙ there t)) (λ t. back (sym key_is ∙ (key_test.1 out.key claim.key).0 t)) ∙
+    same_answers b (key_test.0 out.key claim.key) (λ t. (key_test.1 out.key claim.key).1 (key_is ∙ there t))
+    (λ t. back (sym key_is ∙ (key_test.1 out.key claim.key).0 t)) ∙
     ap (λ c. c && key_test.0 out.key claim.key) (sym ((Decides-eqb out.number claim.number).1 number))
 
 pub other_number : (claim : Claimed) (out : Out) → (out.number ≡ claim.number → ⊥) → is_claim claim out ≡ false
@@ -105,12 +119,14 @@ other_number claim out other = by_test (out.number == claim.number) refl
 
 -- ---- turns
 
-pub some_from : (o : Option Slot) (r : Option ℕ) → IfSome r (λ n. option_map (λ (slot : Slot). slot.claim) o ≡ Some n) → is_some r ≡ true → is_some o ≡ true
+pub some_from : (o : Option Slot) (r : Option ℕ) → IfSome r (λ n. option_map (λ (slot : Slot). slot.claim) o ≡ Some n) → is_some r ≡ true →
+    is_some o ≡ true
 some_from o None sound e = cc
 some_from None (Some n) sound e = not_none sound
 some_from (Some slot) (Some n) sound e = refl
 
-pub none_from : (o : Option Slot) (r : Option ℕ) → r ≡ option_map (λ (slot : Slot). slot.claim) o → is_some r ≡ false → option_map (λ (slot : Slot). slot.claim) o ≡ None
+pub none_from : (o : Option Slot) (r : Option ℕ) → r ≡ option_map (λ (slot : Slot). slot.claim) o → is_some r ≡ false →
+    option_map (λ (slot : Slot). slot.claim) o ≡ None
 none_from o None exact e = sym exact
 none_from o (Some n) exact e = cc
 
@@ -118,7 +134,8 @@ pub none_settled : (o : Option Slot) → option_map (λ (slot : Slot). slot.clai
 none_settled None e = refl
 none_settled (Some slot) e = cc
 
-module _ (log : List Told) (parts : Parts) (slots : List (Option SlotRow)) (sight : IsSight log parts slots) (place : ℕ) (row : ComponentRow) (at_row : slice_get parts.components.items place ≡ Some row) where
+module _ (log : List Told) (parts : Parts) (slots : List (Option SlotRow)) (sight : IsSight log parts slots) (place : ℕ)
+    (row : ComponentRow) (at_row : slice_get parts.components.items place ≡ Some row) where
   abbrev world : World
   world = replay (events_of log)
 
@@ -128,10 +145,13 @@ module _ (log : List Told) (parts : Parts) (slots : List (Option SlotRow)) (sigh
       let own = stands log parts slots sight place row at_row in
       (_, record { standing = own.standing; at = own.at; due = known.1 })
 
-  pub turn_out : (key : Key) → IsDueAt world place key → option_map (λ (slot : Slot). slot.claim) (settled_at world place) ≡ None → (number : ℕ) →
-      Some number ≡ option_map (λ (claim : Out). claim.number) (find (λ (claim : Out). key_test.0 claim.key key) world.out) → IsOutBy world place number
+  pub turn_out : (key : Key) → IsDueAt world place key → option_map (λ (slot : Slot). slot.claim) (settled_at world place) ≡ None →
+      (number : ℕ) →
+      Some number ≡ option_map (λ (claim : Out). claim.number) (find (λ (claim : Out). key_test.0 claim.key key) world.out) →
+      IsOutBy world place number
   turn_out key due none number is =
-      let claim = mapped_some (λ (claim : Out). claim.number) (find (λ (claim : Out). key_test.0 claim.key key) world.out) number (sym is) in
+      let claim =
+      mapped_some (λ (claim : Out). claim.number) (find (λ (claim : Out). key_test.0 claim.key key) world.out) number (sym is) in
       let there = found (λ (one : Out). key_test.0 one.key key) world.out claim.0 claim.1 in
       record {
         out = record {
@@ -147,7 +167,8 @@ module _ (log : List Told) (parts : Parts) (slots : List (Option SlotRow)) (sigh
       }
 
   pub turn_free : (key : Key) → IsDueAt world place key → option_map (λ (slot : Slot). slot.claim) (settled_at world place) ≡ None →
-      None ≡ option_map (λ (claim : Out). claim.number) (find (λ (claim : Out). key_test.0 claim.key key) world.out) → IsFree world place key
+      None ≡ option_map (λ (claim : Out). claim.number) (find (λ (claim : Out). key_test.0 claim.key key) world.out) →
+      IsFree world place key
   turn_free key due none is = record {
     standing = due.standing;
     at = due.at;
@@ -156,6 +177,7 @@ module _ (log : List Told) (parts : Parts) (slots : List (Option SlotRow)) (sigh
     held = unfound (find (λ (claim : Out). key_test.0 claim.key key) world.out) refl is;
   }
     where
-      unfound : (o : Option Out) → find (λ (claim : Out). key_test.0 claim.key key) world.out ≡ o → None ≡ option_map (λ (claim : Out). claim.number) o → list_any (λ (claim : Out). key_test.0 claim.key key) world.out ≡ false
+      unfound : (o : Option Out) → find (λ (claim : Out). key_test.0 claim.key key) world.out ≡ o →
+          None ≡ option_map (λ (claim : Out). claim.number) o → list_any (λ (claim : Out). key_test.0 claim.key key) world.out ≡ false
       unfound None e f = none_any (λ (claim : Out). key_test.0 claim.key key) world.out e
       unfound (Some claim) e f = not_none f

@@ -37,7 +37,11 @@ pub first_rows : (parts : Parts) → parts.program.value ≡ empty_program → A
 first_rows parts program_is are = record {
   program_is = program_is;
   parts_are = are;
-  slots_are = record { lengths = ap length (sym no_components); each = λ place part at. not_none (ap (λ (l : List Component). slice_get l place) (sym no_components) ∙ at) };
+  slots_are =
+      record {
+        lengths = ap length (sym no_components);
+        each = λ place part at. not_none (ap (λ (l : List Component). slice_get l place) (sym no_components) ∙ at);
+      };
   marks_are = record { lengths = ap length (sym no_components); settled = λ place mark. not_both mark refl };
   out_are = tt;
   revision_is = refl;

@@ -1,5 +1,6 @@
 -- Claims given back one after the other, the least number first.
-use Rattle.std.proofs.Common.{◌≡◌, ℕ, zero, suc, ◌+◌, ◌<◌, ◌==◌, true, false, List, [], ◌∷◌, ◌++◌, map, length, slice_get, Some, refl, sym, ap, ◌∙◌, arith}
+use Rattle.std.proofs.Common.{◌≡◌, ℕ, zero, suc, ◌+◌, ◌<◌, ◌==◌, true, false, List, [], ◌∷◌, ◌++◌, map, length, slice_get, Some, refl, sym}
+use Rattle.std.proofs.Common.{ap, ◌∙◌, arith}
 use Rattle.std.specs.Global.{Vec}
 use Rattle.std.specs.List.{remove}
 use Rattle.std.specs.Vec.{vec_len, vec_capacity}
@@ -33,7 +34,8 @@ abbrev pub ends_of : List Out → List Event
 ends_of out = map (λ (claim : Out). Event.GiveBack claim.number) out
 
 -- what is done with what is still to do is what was to do at first
-pub record IsSweeping (solves : Key → Answer → Type 0) (first : Contents) (log : Vec Told) (parts : Parts) (slots : Vec (Option SlotRow)) (marks : Vec Bool) (out : Vec OutRow) (revision made : ℕ) : Type 0 where
+pub record IsSweeping (solves : Key → Answer → Type 0) (first : Contents) (log : Vec Told) (parts : Parts) (slots : Vec (Option SlotRow))
+    (marks : Vec Bool) (out : Vec OutRow) (revision made : ℕ) : Type 0 where
   pub book : IsBook solves log parts slots marks out revision made
   pub log_is : events_of log.items ++ ends_of (replay (events_of log.items)).out ≡ first.log ++ ends_of (replay first.log).out
   pub marks_are : marks.items ≡ first.marks
@@ -42,9 +44,12 @@ first_left : (out : List Out) (claim : Out) → slice_get out 0 ≡ Some claim �
 first_left [] claim e = not_none e
 first_left (first ∷ rest) claim e = ap (λ c. c ∷ rest) (some_same e)
 
-module _ (solves : Key → Answer → Type 0) (first : Contents) (log later : Vec Told) (parts : Parts) (slots : Vec (Option SlotRow)) (marks : Vec Bool) (out left : Vec OutRow) (revision made : ℕ)
-    (sweeping : IsSweeping solves first log parts slots marks out revision made) (row : OutRow) (row_at : slice_get out.items 0 ≡ Some row) (longer : IsLonger log later (told.GiveBack row.number))
-    (left_is : left.items ≡ remove out.items 0) (left_len : vec_len left + 1 ≡ vec_len out) (capacity : vec_capacity later ≡ vec_capacity log) where
+module _ (solves : Key → Answer → Type 0) (first : Contents) (log later : Vec Told) (parts : Parts) (slots : Vec (Option SlotRow))
+    (marks : Vec Bool) (out left : Vec OutRow) (revision made : ℕ)
+    (sweeping : IsSweeping solves first log parts slots marks out revision made) (row : OutRow) (row_at : slice_get out.items 0 ≡ Some row)
+    (longer : IsLonger log later (told.GiveBack row.number))
+    (left_is : left.items ≡ remove out.items 0) (left_len : vec_len left + 1 ≡ vec_len out)
+    (capacity : vec_capacity later ≡ vec_capacity log) where
   abbrev world : World
   world = replay (events_of log.items)
 
@@ -59,12 +64,15 @@ module _ (solves : Key → Answer → Type 0) (first : Contents) (log later : Ve
 
   out_left : (replay (events_of later.items)).out ≡ remove world.out 0
   out_left =
-      ap (λ l. (replay (events_of l)).out) longer.items_are ∙ ap (λ (w : World). w.out) (replay_told log.items (told.GiveBack row.number) may) ∙ ap (without world.out) (sym number_same) ∙
+      ap (λ l. (replay (events_of l)).out) longer.items_are
+      ∙ ap (λ (w : World). w.out) (replay_told log.items (told.GiveBack row.number) may) ∙ ap (without world.out) (sym number_same) ∙
       others_stay (events_of log.items) 0 own.0 own.1
 
   pub swept_more : IsSweeping solves first later parts slots marks left revision made
   swept_more = record {
-    book = given_book solves log later parts slots marks out revision made sweeping.book (told.GiveBack row.number) longer left 0 row.number own.0 refl own.1 number_same left_is left_len capacity;
+    book =
+        given_book solves log later parts slots marks out revision made sweeping.book
+        (told.GiveBack row.number) longer left 0 row.number own.0 refl own.1 number_same left_is left_len capacity;
     log_is =
         ap (λ o. events_of later.items ++ ends_of o) out_left ∙ ap (λ l. events_of l ++ ends_of (remove world.out 0)) longer.items_are ∙
         ap (λ l. l ++ ends_of (remove world.out 0)) (told_events log.items (told.GiveBack row.number)) ∙
@@ -75,12 +83,14 @@ module _ (solves : Key → Answer → Type 0) (first : Contents) (log later : Ve
   }
 
 -- when none is left
-module _ (solves : Key → Answer → Type 0) (first : Contents) (log : Vec Told) (parts : Parts) (slots : Vec (Option SlotRow)) (marks : Vec Bool) (out : Vec OutRow) (revision made : ℕ)
+module _ (solves : Key → Answer → Type 0) (first : Contents) (log : Vec Told) (parts : Parts) (slots : Vec (Option SlotRow))
+    (marks : Vec Bool) (out : Vec OutRow) (revision made : ℕ)
     (sweeping : IsSweeping solves first log parts slots marks out revision made) (none : vec_len out ≡ 0) where
   pub none_out : (replay (events_of log.items)).out ≡ []
   none_out =
       empty (replay (events_of log.items)).out
-      (let same = zipped_length (IsOutRow log.items (replay (events_of log.items)).program) out.items (replay (events_of log.items)).out sweeping.book.rows_are.out_are in let f = out.ok.0 in omega (arith, same, f, none))
+      (let same = zipped_length (IsOutRow log.items (replay (events_of log.items)).program) out.items
+      (replay (events_of log.items)).out sweeping.book.rows_are.out_are in let f = out.ok.0 in omega (arith, same, f, none))
     where
       empty : (xs : List Out) → length xs ≡ 0 → xs ≡ []
       empty [] e = refl

@@ -51,7 +51,8 @@ more_taken all i entry within at =
 
 pub turn_keeps : (all before after : List Kept) (i dropped : ℕ) (entry one : Kept) → i < length all → entry ≡ get_or all i entry →
     solution_of one ≡ solution_of entry → after ≡ before ++ one ∷ [] → IsInductive (solution_of entry) →
-    AreContents (map solution_of (take i all)) (contents before dropped) → AreContents (map solution_of (take (i + 1) all)) (contents after dropped)
+    AreContents (map solution_of (take i all)) (contents before dropped) →
+    AreContents (map solution_of (take (i + 1) all)) (contents after dropped)
 turn_keeps all before after i dropped entry one within at same new is so_far =
     let found : map solution_of after ≡ map solution_of before ++ solution_of entry ∷ [] =
     ap (map solution_of) new ∙ map-append solution_of before (one ∷ []) ∙ ap (λ last. map solution_of before ++ last ∷ []) same in
@@ -60,7 +61,8 @@ turn_keeps all before after i dropped entry one within at same new is so_far =
 
 pub turn_drops : (all left : List Kept) (i before after : ℕ) (entry : Kept) → i < length all → entry ≡ get_or all i entry →
     after ≡ before + 1 → (IsInductive (solution_of entry) → ⊥) →
-    AreContents (map solution_of (take i all)) (contents left before) → AreContents (map solution_of (take (i + 1) all)) (contents left after)
+    AreContents (map solution_of (take i all)) (contents left before) →
+    AreContents (map solution_of (take (i + 1) all)) (contents left after)
 turn_drops all left i before after entry within at new is so_far =
     let next : after ≡ suc before = omega (arith, new) in
     rw (more_taken all i entry within at, next)

@@ -17,7 +17,8 @@ use Rattle.store_json.specs.Laws.{OneReading, SomeReading, StoresAreReadBack}
 use Rattle.store_json.specs.Reading.{IsRead}
 use Rattle.store_json.specs.declared.reading.Unread.{Unread}
 use Rattle.summary_store.specs.Laws.{IsValidEntry, LoadedAreInductive, LoadedAreValid, OneLoading, SomeLoading, StoresAreLoadedBack}
-use Rattle.summary_store.specs.Loading.{no_entry, with_inductive, with_other, contents_of, entries_in, AreContents, AreLoaded, Contents, IsInductive, IsLeftOf, IsLoaded, IsLoadedEntry}
+use Rattle.summary_store.specs.Loading.{no_entry, with_inductive, with_other, contents_of, entries_in, AreContents, AreLoaded, Contents}
+use Rattle.summary_store.specs.Loading.{IsInductive, IsLeftOf, IsLoaded, IsLoadedEntry}
 use Rattle.summary_store.specs.declared.loading.Loaded.{Loaded}
 use Rattle.summary_store.specs.declared.loading.Loaded.TheVariants as loaded
 use Rattle.summary_store.proofs.CheckLaws.{all_are_left, left_is_loaded, one_checking}
@@ -94,7 +95,8 @@ loaded_are_inductive bytes (Err why) is = All-nil _
 
 pub loaded_are_valid : InductiveIsValid → LoadedAreValid
 loaded_are_valid valid bytes found is =
-    All-weaker IsLoadedEntry IsValidEntry (λ entry it program stands. valid program entry.key entry.answer stands it.inductive) (entries_in found)
+    All-weaker IsLoadedEntry IsValidEntry (λ entry it program stands. valid program entry.key entry.answer stands it.inductive)
+    (entries_in found)
     (loaded_are_inductive bytes found is)
 
 -- the mark plays no part
@@ -121,10 +123,12 @@ pub left_is_all : (bytes : List ℕ) (all : List Solution) (found : Result Conte
 left_is_all bytes all (Ok contents) read left = (all, read, left)
 left_is_all bytes all (Err why) read left = absurd left
 
-each_loaded : (entries : List Kept) → All IsLoadedEntry (map solution_of entries) → All (λ (kept : Kept). IsLoadedEntry (solution_of kept)) entries
+each_loaded : (entries : List Kept) → All IsLoadedEntry (map solution_of entries) →
+    All (λ (kept : Kept). IsLoadedEntry (solution_of kept)) entries
 each_loaded [] are = All-nil (λ (kept : Kept). IsLoadedEntry (solution_of kept))
 each_loaded (kept ∷ entries) are =
-    All-cons (λ (kept : Kept). IsLoadedEntry (solution_of kept)) kept entries (All-head IsLoadedEntry (solution_of kept) (map solution_of entries) are)
+    All-cons (λ (kept : Kept). IsLoadedEntry (solution_of kept)) kept entries
+    (All-head IsLoadedEntry (solution_of kept) (map solution_of entries) are)
     (each_loaded entries (All-tail IsLoadedEntry (solution_of kept) (map solution_of entries) are))
 
 pub left_is_good : (bytes : List ℕ) (all : List Solution) (found : Loaded) → IsRead bytes (Ok all) → IsLeftOf all (contents_of found) →
@@ -134,10 +138,12 @@ left_is_good bytes all (loaded.Entries entries dropped) read left =
     each_loaded entries (loaded_are_inductive bytes found (left_is_all bytes all found read left))
 left_is_good bytes all (loaded.Unread why) read left = tt
 
-each_read : (entries : List Kept) → All IsReadEntry (map solution_of entries) → All (λ (kept : Kept). IsReadEntry (solution_of kept)) entries
+each_read : (entries : List Kept) → All IsReadEntry (map solution_of entries) →
+    All (λ (kept : Kept). IsReadEntry (solution_of kept)) entries
 each_read [] are = All-nil (λ (kept : Kept). IsReadEntry (solution_of kept))
 each_read (kept ∷ entries) are =
-    All-cons (λ (kept : Kept). IsReadEntry (solution_of kept)) kept entries (All-head IsReadEntry (solution_of kept) (map solution_of entries) are)
+    All-cons (λ (kept : Kept). IsReadEntry (solution_of kept)) kept entries
+    (All-head IsReadEntry (solution_of kept) (map solution_of entries) are)
     (each_read entries (All-tail IsReadEntry (solution_of kept) (map solution_of entries) are))
 
 pub entries_are_read : (bytes : List ℕ) (entries : List Kept) → IsRead bytes (Ok (map solution_of entries)) →

@@ -26,22 +26,30 @@ next-is list i x low is = let on : suc i ≡ i + 1 = omega arith in drop-cons li
 
 -- a turn of a loop over a list, each element of which stands for some expressions
 module _ {A : Type 0} (one : A → List Exp) (all : List A → List Exp) (each : (x : A) (xs : List A) → all (x ∷ xs) ≡ one x ++ all xs) where
-  counted-next : (start now next last : Times) (x : A) (left rest whole : List A) → left ≡ x ∷ rest → (Adds now last (all left) → Adds start last (all whole)) → Adds now next (one x) → Adds next last (all rest) → Adds start last (all whole)
-  counted-next start now next last x left rest whole is before step later = before (rw (is, each x rest) (adds-both now next last (one x) (all rest) step later))
+  counted-next : (start now next last : Times) (x : A) (left rest whole : List A) → left ≡ x ∷ rest →
+      (Adds now last (all left) → Adds start last (all whole)) → Adds now next (one x) → Adds next last (all rest) →
+      Adds start last (all whole)
+  counted-next start now next last x left rest whole is before step later =
+      before (rw (is, each x rest) (adds-both now next last (one x) (all rest) step later))
 
-  pub counted-item : (start now next : Times) (list : List A) (i : ℕ) (x : A) → i < length list → x ≡ get_or list i x → ((last : Times) → Adds now last (all (drop i list)) → Adds start last (all list)) → Adds now next (one x) →
+  pub counted-item : (start now next : Times) (list : List A) (i : ℕ) (x : A) → i < length list → x ≡ get_or list i x →
+      ((last : Times) → Adds now last (all (drop i list)) → Adds start last (all list)) → Adds now next (one x) →
       (last : Times) → Adds next last (all (drop (i + 1) list)) → Adds start last (all list)
-  counted-item start now next list i x low is before step last later = counted-next start now next last x (drop i list) (drop (i + 1) list) list (next-is list i x low is) (before last) step later
+  counted-item start now next list i x low is before step last later =
+      counted-next start now next last x (drop i list) (drop (i + 1) list) list (next-is list i x low is) (before last) step later
 
-  pub counted-place : (start now next : Times) (list : List A) (i : ℕ) (d : A) → i < length list → ((last : Times) → Adds now last (all (drop i list)) → Adds start last (all list)) → Adds now next (one (get_or list i d)) →
+  pub counted-place : (start now next : Times) (list : List A) (i : ℕ) (d : A) → i < length list →
+      ((last : Times) → Adds now last (all (drop i list)) → Adds start last (all list)) → Adds now next (one (get_or list i d)) →
       (last : Times) → Adds next last (all (drop (i + 1) list)) → Adds start last (all list)
   counted-place start now next list i d low before step last later =
-      counted-next start now next last (get_or list i d) (drop i list) (drop (i + 1) list) list (rw add-one (drop-cons list i d low)) (before last) step later
+      counted-next start now next last (get_or list i d) (drop i list) (drop (i + 1) list) list (rw add-one (drop-cons list i d low))
+      (before last) step later
 
 -- counted from nothing
 pub counts-all : (empty counts : Times) (es : List Exp) → ((x : ℕ) → counted empty x ≡ 0) → Adds empty counts es → Counts counts es
 counts-all empty counts es none h =
-    λ x. let zero : counted empty x ≡ 0 = none x in let told : counted counts x ≡ min 3 (0 + times_in (Var x) es) = h.adds x 0 (omega (arith, zero)) in omega (arith, told)
+    λ x. let zero : counted empty x ≡ 0 =
+    none x in let told : counted counts x ≡ min 3 (0 + times_in (Var x) es) = h.adds x 0 (omega (arith, zero)) in omega (arith, told)
 
 -- an empty map counts nothing
 pub empty-counts : (counts : Times) → counts.entries ≡ [] → (x : ℕ) → counted counts x ≡ 0

@@ -1,5 +1,6 @@
 -- What is asked of the counts is what the definitions ask of the list.
-use Rattle.std.specs.Prelude.{◌≡◌, ℕ, ◌+◌, ◌<◌, ◌≤◌, min, Bool, true, false, cond, not, ◌==◌, ◌&&◌, ◌||◌, if◌then◌else◌, leb, ltb, List, [], ◌∷◌, filter}
+use Rattle.std.specs.Prelude.{◌≡◌, ℕ, ◌+◌, ◌<◌, ◌≤◌, min, Bool, true, false, cond, not, ◌==◌, ◌&&◌, ◌||◌, if◌then◌else◌, leb, ltb, List, []}
+use Rattle.std.specs.Prelude.{◌∷◌, filter}
 use Rattle.std.specs.List.{list_all}
 use Rattle.std.proofs.Common.{refl, sym, ap, ap₂, ◌∙◌, arith}
 use Rattle.std.proofs.lemmas.Bool.{eq-eqb, eqb-true, eqb-false, le-leb, leb-true, leb-false, ltb-true, ltb-false, lt-leb, ne_eqb}
@@ -16,7 +17,8 @@ use Rattle.abstraction_laws.specs.Losing.{is_disequality_of, is_lost_among, with
 use Rattle.abstraction_laws.specs.Occurrences.{exps_of_heap, times_in}
 use Rattle.abstraction_laws.specs.Pairs.{is_further, is_lost_equation, made_existential}
 use Rattle.abstraction_laws.specs.Reaching.{is_kept, is_reached}
-use Rattle.sym_abstract.specs.Counted.{Counts, Times, counted, is_kept_by, is_lost_by, is_lost_equation_by, is_reached_by, made_existential_by}
+use Rattle.sym_abstract.specs.Counted.{Counts, Times, counted, is_kept_by, is_lost_by, is_lost_equation_by, is_reached_by}
+use Rattle.sym_abstract.specs.Counted.{made_existential_by}
 
 -- an expression stands in the list where it stands there once or more
 among-step : (b d : Bool) (m n : ℕ) → n ≡ cond b 1 0 + m → d ≡ leb 1 m → (b || d) ≡ leb 1 n
@@ -25,7 +27,9 @@ among-step false d m n e k = let same : n ≡ m = omega (arith, e) in rw same k
 
 times-among : (e : Exp) (es : List Exp) → is_among e es ≡ leb 1 (times_in e es)
 times-among e [] = refl
-times-among e (f ∷ fs) = among-step (same_exp e f) (is_among e fs) (times_in e fs) (times_in e (f ∷ fs)) (sum_by-cons (λ g. cond (same_exp e g) 1 0) f fs) (times-among e fs)
+times-among e (f ∷ fs) =
+    among-step (same_exp e f) (is_among e fs) (times_in e fs) (times_in e (f ∷ fs)) (sum_by-cons (λ g. cond (same_exp e g) 1 0) f fs)
+    (times-among e fs)
 
 least : (n : ℕ) → leb 1 (min 3 n) ≡ leb 1 n
 least n = by_test (leb 1 n) refl
@@ -68,15 +72,18 @@ module _ (counts : Times) (es : List Exp) (are : Counts counts es) where
 -- tests that agree
 pub filter-alike : {A : Type 0} (test other : A → Bool) → ((x : A) → test x ≡ other x) → (xs : List A) → filter test xs ≡ filter other xs
 filter-alike test other agree [] = refl
-filter-alike {A} test other agree (x ∷ xs) = ap₂ (λ (b : Bool) (rest : List A). cond b (x ∷ rest) rest) (agree x) (filter-alike test other agree xs)
+filter-alike {A} test other agree (x ∷ xs) =
+    ap₂ (λ (b : Bool) (rest : List A). cond b (x ∷ rest) rest) (agree x) (filter-alike test other agree xs)
 
 pub all-alike : {A : Type 0} (test other : A → Bool) → ((x : A) → test x ≡ other x) → (xs : List A) → list_all test xs ≡ list_all other xs
 all-alike test other agree [] = refl
 all-alike test other agree (x ∷ xs) = ap₂ (λ b d. b && d) (agree x) (all-alike test other agree xs)
 
-pub without-same : (counts : Times) (es : List Exp) → Counts counts es → (low : ℕ) (facts : List Fact) → without_disequalities (is_lost_by counts low) facts ≡ without_disequalities (is_lost_among low es) facts
+pub without-same : (counts : Times) (es : List Exp) → Counts counts es → (low : ℕ) (facts : List Fact)
+    → without_disequalities (is_lost_by counts low) facts ≡ without_disequalities (is_lost_among low es) facts
 without-same counts es are low facts =
-    filter-alike (λ fact. not (is_disequality_of (is_lost_by counts low) fact)) (λ fact. not (is_disequality_of (is_lost_among low es) fact)) (λ fact. ap not (lost_fact-same counts es are low fact)) facts
+    filter-alike (λ fact. not (is_disequality_of (is_lost_by counts low) fact))
+    (λ fact. not (is_disequality_of (is_lost_among low es) fact)) (λ fact. ap not (lost_fact-same counts es are low fact)) facts
 
 -- ---- pairs
 
@@ -93,13 +100,19 @@ de-morgan false d = refl
 
 module _ (params : ℕ) (counts : Times) (missing : SymHeap) (are : Counts counts (exps_of_heap missing)) where
   equation-same : (fact : Fact) → is_lost_equation_by params counts fact ≡ is_lost_equation params missing fact
-  equation-same (Eq (Var x) right) = ap₂ (λ b d. b && not d) (not-ltb x params) (counted-among counts (exps_of_heap missing) are x) ∙ de-morgan (ltb x params) (is_among (Var x) (exps_of_heap missing))
+  equation-same (Eq (Var x) right) = ap₂ (λ b d. b && not d) (not-ltb x params) (counted-among counts (exps_of_heap missing) are x)
+      ∙ de-morgan (ltb x params) (is_among (Var x) (exps_of_heap missing))
   equation-same (Eq (Const n) right) = refl
   equation-same (Ne left right) = refl
 
-  pub equations-same : (facts : List Fact) → filter (λ fact. not (is_lost_equation_by params counts fact)) facts ≡ filter (λ fact. not (is_lost_equation params missing fact)) facts
-  equations-same facts = filter-alike (λ fact. not (is_lost_equation_by params counts fact)) (λ fact. not (is_lost_equation params missing fact)) (λ fact. ap not (equation-same fact)) facts
+  pub equations-same : (facts : List Fact)
+      → filter (λ fact. not (is_lost_equation_by params counts fact)) facts
+      ≡ filter (λ fact. not (is_lost_equation params missing fact)) facts
+  equations-same facts =
+      filter-alike (λ fact. not (is_lost_equation_by params counts fact)) (λ fact. not (is_lost_equation params missing fact))
+      (λ fact. ap not (equation-same fact)) facts
 
   pub existential-same : (first : ℕ) (e : Exp) → made_existential_by params first counts e ≡ made_existential params first missing e
-  existential-same first (Var x) = ap (λ (b : Bool). if is_further params x && not b then Var (first + x) else Var x) (counted-among counts (exps_of_heap missing) are x)
+  existential-same first (Var x) =
+      ap (λ (b : Bool). if is_further params x && not b then Var (first + x) else Var x) (counted-among counts (exps_of_heap missing) are x)
   existential-same first (Const n) = refl

@@ -14,7 +14,8 @@ none-mapped None h = refl
 none-mapped (Some join) h = cc
 
 -- where there is none at a place, the search goes on behind it
-pub search-on : (find : ℕ → Option Join) (whole : Option Join) (count place : ℕ) → place < count → whole ≡ first_join find place (count - place) → None ≡ option_map place_of (find place) →
+pub search-on : (find : ℕ → Option Join) (whole : Option Join) (count place : ℕ) → place < count →
+    whole ≡ first_join find place (count - place) → None ≡ option_map place_of (find place) →
     whole ≡ first_join find (place + 1) (count - (place + 1))
 search-on find whole count place low before none =
     let turns : count - place ≡ suc (count - (place + 1)) = omega (arith, low) in
@@ -22,7 +23,8 @@ search-on find whole count place low before none =
     before ∙ (ap (first_join find place) turns ∙ ap (λ o. or_else o (first_join find (place + 1) (count - (place + 1)))) here)
 
 -- what holds of each join that is at the place holds of the one that was found
-pub found-goes : (may : ℕ → Bool) (atoms : List Atom) (place : Place) (R : Option Join → Type 0) → ((join : Join) → IsJoin atoms join → place ≡ place_of join → R (Some join)) → Some place ≡ option_map place_of (find_join may atoms) →
+pub found-goes : (may : ℕ → Bool) (atoms : List Atom) (place : Place) (R : Option Join → Type 0) →
+    ((join : Join) → IsJoin atoms join → place ≡ place_of join → R (Some join)) → Some place ≡ option_map place_of (find_join may atoms) →
     R (find_join may atoms)
 found-goes may atoms place R each there = by_found (find_join may atoms) refl there
   where

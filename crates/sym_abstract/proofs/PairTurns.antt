@@ -22,21 +22,27 @@ use Rattle.sym_abstract.proofs.JoinTurns.{some-mapped}
 
 module _ (counts : Times) (atoms : List Atom) (are : Counts counts (exps_of_atoms atoms)) (x : ℕ) where
   pub absent : (b : Bool) → b ≡ leb 1 (counted counts x) → b ≡ false → true ≡ is_absent_or_joint atoms x
-  absent b is none = sym (ap (λ d. not d || is_some (find_join (λ y. y == x) atoms)) (sym (is ∙ counted-among counts (exps_of_atoms atoms) are x) ∙ none))
+  absent b is none =
+      sym (ap (λ d. not d || is_some (find_join (λ y. y == x) atoms)) (sym (is ∙ counted-among counts (exps_of_atoms atoms) are x) ∙ none))
 
-  pub joint : (b d : Bool) → b ≡ leb 1 (counted counts x) → b ≡ true → (found : Option Place) → found ≡ option_map place_of (find_join (λ y. y == x) atoms) → d ≡ is_some found → d ≡ is_absent_or_joint atoms x
+  pub joint : (b d : Bool) → b ≡ leb 1 (counted counts x) → b ≡ true → (found : Option Place) →
+      found ≡ option_map place_of (find_join (λ y. y == x) atoms) → d ≡ is_some found → d ≡ is_absent_or_joint atoms x
   joint b d is some found there answer =
       answer ∙ (ap is_some there ∙ (some-mapped (find_join (λ y. y == x) atoms)
-      ∙ sym (ap (λ c. not c || is_some (find_join (λ y. y == x) atoms)) (sym (is ∙ counted-among counts (exps_of_atoms atoms) are x) ∙ some))))
+      ∙ sym (ap (λ c. not c || is_some (find_join (λ y. y == x) atoms))
+      (sym (is ∙ counted-among counts (exps_of_atoms atoms) are x) ∙ some))))
 
 -- the state with variables made existential
-pub existential-state : (params : ℕ) (counts : Times) (missing : SymHeap) (are : Counts counts (exps_of_heap missing)) (first : ℕ) (state : SymState) →
+pub existential-state : (params : ℕ) (counts : Times) (missing : SymHeap) (are : Counts counts (exps_of_heap missing)) (first : ℕ)
+    (state : SymState) →
     on_state (made_existential_by params first counts) state ≡ on_state (made_existential params first missing) state
-existential-state params counts missing are first state = ap (λ f. on_state f state) (λ i e. existential-same params counts missing are first e i)
+existential-state params counts missing are first state =
+    ap (λ f. on_state f state) (λ i e. existential-same params counts missing are first e i)
 
 exps-append : (xs ys : List Atom) → exps_of_atoms (xs ++ ys) ≡ exps_of_atoms xs ++ exps_of_atoms ys
 exps-append [] ys = refl
-exps-append (x ∷ xs) ys = ap (λ rest. exps_of x ++ rest) (exps-append xs ys) ∙ sym (append_assoc (exps_of x) (exps_of_atoms xs) (exps_of_atoms ys))
+exps-append (x ∷ xs) ys = ap (λ rest. exps_of x ++ rest) (exps-append xs ys)
+    ∙ sym (append_assoc (exps_of x) (exps_of_atoms xs) (exps_of_atoms ys))
 
 -- one list more is counted
 pub counts-more : (old new : Times) (xs ys : List Exp) → Counts old xs → Adds old new ys → Counts new (xs ++ ys)
@@ -45,10 +51,12 @@ counts-more old new xs ys are adds = λ x.
     let parts : times_in (Var x) (xs ++ ys) ≡ times_in (Var x) xs + times_in (Var x) ys = times-append (Var x) xs ys in
     omega (arith, told, parts)
 
-pub beside-facts : (pair : Pair) (old new : Times) → Counts old (pair.state.locals ++ exps_of_atoms pair.state.heap.spatial) → Adds old new (exps_of_atoms pair.missing.spatial) → Counts new (exps_beside_facts pair)
+pub beside-facts : (pair : Pair) (old new : Times) → Counts old (pair.state.locals ++ exps_of_atoms pair.state.heap.spatial) →
+    Adds old new (exps_of_atoms pair.missing.spatial) → Counts new (exps_beside_facts pair)
 beside-facts pair old new are adds =
     subst (λ es. Counts new es)
-    (append_assoc pair.state.locals (exps_of_atoms pair.state.heap.spatial) (exps_of_atoms pair.missing.spatial) ∙ ap (λ rest. pair.state.locals ++ rest) (sym (exps-append pair.state.heap.spatial pair.missing.spatial)))
+    (append_assoc pair.state.locals (exps_of_atoms pair.state.heap.spatial) (exps_of_atoms pair.missing.spatial)
+    ∙ ap (λ rest. pair.state.locals ++ rest) (sym (exps-append pair.state.heap.spatial pair.missing.spatial)))
     (counts-more old new (pair.state.locals ++ exps_of_atoms pair.state.heap.spatial) (exps_of_atoms pair.missing.spatial) are adds)
 
 pub from_not : (b : Bool) → not b ≡ false → b ≡ true

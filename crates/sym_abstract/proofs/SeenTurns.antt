@@ -20,7 +20,8 @@ left-all : (seen : List Exp) (left : List Atom) → filter (is_kept seen) left �
 left-all seen [] none = refl
 left-all seen (atom ∷ left) none = by_test (is_kept seen atom) refl (λ rest. left-all seen left rest)
   where
-    by_test : (b : Bool) → is_kept seen atom ≡ b → (filter (is_kept seen) left ≡ [] → filter (is_left seen) left ≡ left) → filter (is_left seen) (atom ∷ left) ≡ atom ∷ left
+    by_test : (b : Bool) → is_kept seen atom ≡ b → (filter (is_kept seen) left ≡ [] → filter (is_left seen) left ≡ left) →
+        filter (is_left seen) (atom ∷ left) ≡ atom ∷ left
     by_test true e go_on = let some : atom ∷ filter (is_kept seen) left ≡ [] = rw e at none in cc
     by_test false e go_on = let rest : filter (is_kept seen) left ≡ [] = rw e at none in rw e (ap (λ xs. atom ∷ xs) (go_on rest))
 
@@ -43,11 +44,13 @@ pub record HasSeen (whole : List Exp) (turns : ℕ) (counts : Times) (left : Lis
   pub same : whole ≡ see_from turns es left
 
 -- at first
-pub seen-first : (counts : Times) (locals : List Exp) (atoms : List Atom) → Counts counts locals → HasSeen (seen_from locals atoms) (length atoms) counts atoms
+pub seen-first : (counts : Times) (locals : List Exp) (atoms : List Atom) → Counts counts locals →
+    HasSeen (seen_from locals atoms) (length atoms) counts atoms
 seen-first counts locals atoms are = record { es = locals; are = are; same = refl }
 
 -- where a turn keeps none, all is seen
-pub seen-last : (whole : List Exp) (turns : ℕ) (counts : Times) (left kept : List Atom) → HasSeen whole turns counts left → kept ≡ filter (is_kept_by counts) left → kept ≡ [] → Counts counts whole
+pub seen-last : (whole : List Exp) (turns : ℕ) (counts : Times) (left kept : List Atom) → HasSeen whole turns counts left →
+    kept ≡ filter (is_kept_by counts) left → kept ≡ [] → Counts counts whole
 seen-last whole turns counts left kept has is none =
     let nothing : filter (is_kept has.es) left ≡ [] = sym (kept-alike counts has.es has.are left) ∙ (sym is ∙ none) in
     subst (λ es. Counts counts es) (sym (has.same ∙ see-stays turns has.es left nothing)) has.are
@@ -57,7 +60,8 @@ pub seen-out : (whole : List Exp) (counts : Times) (left : List Atom) → HasSee
 seen-out whole counts left has = subst (λ es. Counts counts es) (sym has.same) has.are
 
 -- a turn
-pub seen-turn : (whole : List Exp) (turns : ℕ) (counts next : Times) (left kept others : List Atom) → HasSeen whole (suc turns) counts left → kept ≡ filter (is_kept_by counts) left →
+pub seen-turn : (whole : List Exp) (turns : ℕ) (counts next : Times) (left kept others : List Atom) →
+    HasSeen whole (suc turns) counts left → kept ≡ filter (is_kept_by counts) left →
     others ≡ filter (λ atom. not (is_kept_by counts atom)) left → Adds counts next (all_lead_to kept) → HasSeen whole turns next others
 seen-turn whole turns counts next left kept others has is rest adds =
     let same_kept : kept ≡ filter (is_kept has.es) left = is ∙ kept-alike counts has.es has.are left in
@@ -65,8 +69,10 @@ seen-turn whole turns counts next left kept others has is rest adds =
     record {
       es = has.es ++ all_lead_to kept;
       are = λ x.
-          let told : counted next x ≡ min 3 (times_in (Var x) has.es + times_in (Var x) (all_lead_to kept)) = adds.adds x (times_in (Var x) has.es) (has.are x) in
-          let parts : times_in (Var x) (has.es ++ all_lead_to kept) ≡ times_in (Var x) has.es + times_in (Var x) (all_lead_to kept) = times-append (Var x) has.es (all_lead_to kept) in
+          let told : counted next x ≡ min 3 (times_in (Var x) has.es + times_in (Var x) (all_lead_to kept)) =
+          adds.adds x (times_in (Var x) has.es) (has.are x) in
+          let parts : times_in (Var x) (has.es ++ all_lead_to kept) ≡ times_in (Var x) has.es + times_in (Var x) (all_lead_to kept) =
+          times-append (Var x) has.es (all_lead_to kept) in
           omega (arith, told, parts);
       same = has.same ∙ ap₂ (λ ks ls. see_from turns (has.es ++ all_lead_to ks) ls) (sym same_kept) (sym same_left);
     }
@@ -74,11 +80,16 @@ seen-turn whole turns counts next left kept others has is rest adds =
 -- what is kept in the end
 module _ (locals : List Exp) (atoms : List Atom) (counts : Times) (are : Counts counts (seen_from locals atoms)) where
   pub kept-all : list_all (is_kept_by counts) atoms ≡ true → atoms ≡ keep_reached locals atoms
-  kept-all all = let told : list_all (is_kept (seen_from locals atoms)) atoms ≡ true = sym (all-alike (is_kept_by counts) (is_kept (seen_from locals atoms)) (kept-same counts (seen_from locals atoms) are) atoms) ∙ all in rw told refl
+  kept-all all = let told : list_all (is_kept (seen_from locals atoms)) atoms
+      ≡ true = sym (all-alike (is_kept_by counts) (is_kept (seen_from locals atoms)) (kept-same counts (seen_from locals atoms) are) atoms)
+      ∙ all in rw told refl
 
-  pub kept-some : (kept made : List Atom) → list_all (is_kept_by counts) atoms ≡ false → kept ≡ filter (is_kept_by counts) atoms → made ≡ kept ++ Junk ∷ [] → made ≡ keep_reached locals atoms
+  pub kept-some : (kept made : List Atom) → list_all (is_kept_by counts) atoms ≡ false → kept ≡ filter (is_kept_by counts) atoms →
+      made ≡ kept ++ Junk ∷ [] → made ≡ keep_reached locals atoms
   kept-some kept made some is step =
-      let told : list_all (is_kept (seen_from locals atoms)) atoms ≡ false = sym (all-alike (is_kept_by counts) (is_kept (seen_from locals atoms)) (kept-same counts (seen_from locals atoms) are) atoms) ∙ some in
+      let told : list_all (is_kept (seen_from locals atoms)) atoms ≡ false =
+      sym (all-alike (is_kept_by counts) (is_kept (seen_from locals atoms)) (kept-same counts (seen_from locals atoms) are) atoms)
+      ∙ some in
       rw told (step ∙ ap (λ xs. xs ++ Junk ∷ []) (is ∙ kept-alike counts (seen_from locals atoms) are atoms))
 
 -- no elements

@@ -27,7 +27,8 @@ module _ (t : ℕ → ℤ) where
   with-to fact [] h k = (h, tt)
   with-to fact (first ∷ facts) h k = by_test (is_fact_before fact first) refl (with-to fact facts h k.1)
     where
-      by_test : (b : Bool) → is_fact_before fact first ≡ b → AreTrueFacts t (with_fact fact facts) → AreTrueFacts t (with_fact fact (first ∷ facts))
+      by_test : (b : Bool) → is_fact_before fact first ≡ b → AreTrueFacts t (with_fact fact facts) →
+          AreTrueFacts t (with_fact fact (first ∷ facts))
       by_test true e later = rw e (h, k)
       by_test false e later = rw e (k.0, later)
 
@@ -35,7 +36,8 @@ module _ (t : ℕ → ℤ) where
   with-from fact [] h = h
   with-from fact (first ∷ facts) h = by_test (is_fact_before fact first) refl h (λ k. with-from fact facts k)
     where
-      by_test : (b : Bool) → is_fact_before fact first ≡ b → AreTrueFacts t (with_fact fact (first ∷ facts)) → (AreTrueFacts t (with_fact fact facts) → IsTrueFact t fact × AreTrueFacts t facts) →
+      by_test : (b : Bool) → is_fact_before fact first ≡ b → AreTrueFacts t (with_fact fact (first ∷ facts)) →
+          (AreTrueFacts t (with_fact fact facts) → IsTrueFact t fact × AreTrueFacts t facts) →
           IsTrueFact t fact × AreTrueFacts t (first ∷ facts)
       by_test true e k go_on = rw e at k
       by_test false e k go_on =
@@ -45,12 +47,14 @@ module _ (t : ℕ → ℤ) where
 
   among-to : (facts sorted : List Fact) → AreTrueFacts t facts → AreTrueFacts t sorted → AreTrueFacts t (sorted_among facts sorted)
   among-to [] sorted h k = k
-  among-to (fact ∷ facts) sorted h k = among-to facts (with_fact (with_sides_in_order fact) sorted) h.1 (with-to (with_sides_in_order fact) sorted (sides-to fact h.0) k)
+  among-to (fact ∷ facts) sorted h k =
+      among-to facts (with_fact (with_sides_in_order fact) sorted) h.1 (with-to (with_sides_in_order fact) sorted (sides-to fact h.0) k)
 
   among-from : (facts sorted : List Fact) → AreTrueFacts t (sorted_among facts sorted) → AreTrueFacts t facts × AreTrueFacts t sorted
   among-from [] sorted h = (tt, h)
   among-from (fact ∷ facts) sorted h =
-      let rest : AreTrueFacts t facts × AreTrueFacts t (with_fact (with_sides_in_order fact) sorted) = among-from facts (with_fact (with_sides_in_order fact) sorted) h in
+      let rest : AreTrueFacts t facts × AreTrueFacts t (with_fact (with_sides_in_order fact) sorted) =
+      among-from facts (with_fact (with_sides_in_order fact) sorted) h in
       let parts : IsTrueFact t (with_sides_in_order fact) × AreTrueFacts t sorted = with-from (with_sides_in_order fact) sorted rest.1 in
       ((sides-from fact parts.0, rest.0), parts.1)
 

@@ -1,6 +1,7 @@
 -- Numbers brought to the front, one after the other: an exchange of all numbers, which gives the first number to the first
 -- that is brought there, the next to the next, and so on, and leaves the numbers below the first as they are.
-use Rattle.std.specs.Prelude.{◌≡◌, ◌≢◌, ℕ, zero, suc, ◌+◌, ◌-◌, ◌<◌, ◌≤◌, Bool, true, false, if◌then◌else◌, ◌==◌, not, ltb, List, [], ◌∷◌, length, All}
+use Rattle.std.specs.Prelude.{◌≡◌, ◌≢◌, ℕ, zero, suc, ◌+◌, ◌-◌, ◌<◌, ◌≤◌, Bool, true, false, if◌then◌else◌, ◌==◌, not, ltb, List, [], ◌∷◌}
+use Rattle.std.specs.Prelude.{length, All}
 use Rattle.std.specs.List.{position_or_len}
 use Rattle.std.proofs.Common.{refl, sym, ap, ◌∙◌, arith}
 use Rattle.std.proofs.lemmas.Bool.{eqb-true, eqb-false, eq-eqb, ne_eqb, lt-ltb, ltb-true, ltb-false, le-ltb, and_parts, or_parts, not-true}
@@ -23,10 +24,12 @@ module _ (first there : ℕ) (low : first ≤ there) where
   moved-below x h = let other : (x == there) ≡ false = ne_eqb x there (λ e. omega arith) in rw (other, lt-ltb x first h) refl
 
   moved-up : (x : ℕ) → first ≤ x → x < there → moved first there x ≡ suc x
-  moved-up x h k = let other : (x == there) ≡ false = ne_eqb x there (λ e. omega arith) in rw (other, le-ltb x first h, lt-ltb x there k) refl
+  moved-up x h k = let other : (x == there)
+      ≡ false = ne_eqb x there (λ e. omega arith) in rw (other, le-ltb x first h, lt-ltb x there k) refl
 
   moved-above : (x : ℕ) → there < x → moved first there x ≡ x
-  moved-above x h = let other : (x == there) ≡ false = ne_eqb x there (λ e. omega arith) in rw (other, le-ltb x first (omega arith), le-ltb x there (omega arith)) refl
+  moved-above x h = let other : (x == there)
+      ≡ false = ne_eqb x there (λ e. omega arith) in rw (other, le-ltb x first (omega arith), le-ltb x there (omega arith)) refl
 
   back-first : moved_back first there first ≡ there
   back-first = rw (eq-eqb first first refl) refl
@@ -35,10 +38,12 @@ module _ (first there : ℕ) (low : first ≤ there) where
   back-below y h = let other : (y == first) ≡ false = ne_eqb y first (λ e. omega arith) in rw (other, lt-ltb y first h) refl
 
   back-down : (y : ℕ) → first < y → y ≤ there → moved_back first there y ≡ y - 1
-  back-down y h k = let other : (y == first) ≡ false = ne_eqb y first (λ e. omega arith) in rw (other, le-ltb y first (omega arith), le-ltb there y k) refl
+  back-down y h k = let other : (y == first)
+      ≡ false = ne_eqb y first (λ e. omega arith) in rw (other, le-ltb y first (omega arith), le-ltb there y k) refl
 
   back-above : (y : ℕ) → there < y → moved_back first there y ≡ y
-  back-above y h = let other : (y == first) ≡ false = ne_eqb y first (λ e. omega arith) in rw (other, le-ltb y first (omega arith), lt-ltb there y h) refl
+  back-above y h = let other : (y == first)
+      ≡ false = ne_eqb y first (λ e. omega arith) in rw (other, le-ltb y first (omega arith), lt-ltb there y h) refl
 
   moved-at_least : (x : ℕ) → first ≤ x → first ≤ moved first there x
   moved-at_least x h = by_there (x == there) refl
@@ -134,7 +139,8 @@ module _ (first : ℕ) where
   front-at_least [] from x h = h
   front-at_least (y ∷ seen) from x h =
       let rest = All-tail (λ y. first ≤ y) y seen from in
-      moved-at_least first (to_front first seen y) (front-at_least seen rest y (All-head (λ y. first ≤ y) y seen from)) (to_front first seen x) (front-at_least seen rest x h)
+      moved-at_least first (to_front first seen y) (front-at_least seen rest y (All-head (λ y. first ≤ y) y seen from))
+      (to_front first seen x) (front-at_least seen rest x h)
 
   -- where the first of the list goes before it is moved
   there-low : (y : ℕ) (seen : List ℕ) → AreFrom first (y ∷ seen) → first ≤ to_front first seen y
@@ -149,12 +155,14 @@ module _ (first : ℕ) where
   pub front-undone : (seen : List ℕ) → AreFrom first seen → (x : ℕ) → from_front first seen (to_front first seen x) ≡ x
   front-undone [] from x = refl
   front-undone (y ∷ seen) from x =
-      ap (from_front first seen) (moved-undone first (to_front first seen y) (there-low y seen from) (to_front first seen x)) ∙ front-undone seen (All-tail (λ y. first ≤ y) y seen from) x
+      ap (from_front first seen) (moved-undone first (to_front first seen y) (there-low y seen from) (to_front first seen x))
+      ∙ front-undone seen (All-tail (λ y. first ≤ y) y seen from) x
 
   pub front-redone : (seen : List ℕ) → AreFrom first seen → (y : ℕ) → to_front first seen (from_front first seen y) ≡ y
   front-redone [] from x = refl
   front-redone (y ∷ seen) from x =
-      ap (moved first (to_front first seen y)) (front-redone seen (All-tail (λ y. first ≤ y) y seen from) (moved_back first (to_front first seen y) x))
+      ap (moved first (to_front first seen y))
+      (front-redone seen (All-tail (λ y. first ≤ y) y seen from) (moved_back first (to_front first seen y) x))
       ∙ moved-redone first (to_front first seen y) (there-low y seen from) x
 
   -- below a limit
@@ -164,7 +172,8 @@ module _ (first : ℕ) where
     front-under (y ∷ seen) from under x h =
         let rest = All-tail (λ y. first ≤ y) y seen from in
         let few = All-tail (λ y. y < limit) y seen under in
-        moved-under first (to_front first seen y) (there-low y seen from) limit (to_front first seen x) (front-under seen rest few y (All-head (λ y. y < limit) y seen under)) (front-under seen rest few x h)
+        moved-under first (to_front first seen y) (there-low y seen from) limit (to_front first seen x)
+        (front-under seen rest few y (All-head (λ y. y < limit) y seen under)) (front-under seen rest few x h)
 
     pub front-over : (seen : List ℕ) → AreFrom first seen → All (λ y. y < limit) seen → (x : ℕ) → limit ≤ x → to_front first seen x ≡ x
     front-over [] from under x h = refl
@@ -176,52 +185,66 @@ module _ (first : ℕ) where
         rw same (moved-above first (to_front first seen y) (there-low y seen from) x (omega arith))
 
   -- a number that is not in the list goes behind all that are
-  pub front-unseen : (seen : List ℕ) → AreFrom first seen → (x : ℕ) → first ≤ x → is_one_of seen x ≡ false → are_different seen ≡ true → first + length seen ≤ to_front first seen x
+  pub front-unseen : (seen : List ℕ) → AreFrom first seen → (x : ℕ) → first ≤ x → is_one_of seen x ≡ false → are_different seen ≡ true →
+      first + length seen ≤ to_front first seen x
   front-unseen [] from x h new different = omega arith
   front-unseen (y ∷ seen) from x h new different =
       let rest = All-tail (λ y. first ≤ y) y seen from in
       let parts = or_parts (x == y) (is_one_of seen x) new in
       let apart = and_parts (not (is_one_of seen y)) (are_different seen) different in
-      let there : first + length seen ≤ to_front first seen y = front-unseen seen rest y (All-head (λ y. first ≤ y) y seen from) (not-true (is_one_of seen y) apart.0) apart.1 in
+      let there : first + length seen ≤ to_front first seen y =
+      front-unseen seen rest y (All-head (λ y. first ≤ y) y seen from) (not-true (is_one_of seen y) apart.0) apart.1 in
       let here : first + length seen ≤ to_front first seen x = front-unseen seen rest x h parts.1 apart.1 in
-      let other : to_front first seen x ≢ to_front first seen y = λ same. eqb-false x y parts.0 (sym (front-undone seen rest x) ∙ (ap (from_front first seen) same ∙ front-undone seen rest y)) in
+      let other : to_front first seen x ≢ to_front first seen y =
+      λ same. eqb-false x y parts.0 (sym (front-undone seen rest x) ∙ (ap (from_front first seen) same ∙ front-undone seen rest y)) in
       by_place (ltb (to_front first seen x) (to_front first seen y)) refl there here other (there-low y seen from)
     where
-      by_place : (b : Bool) → ltb (to_front first seen x) (to_front first seen y) ≡ b → first + length seen ≤ to_front first seen y → first + length seen ≤ to_front first seen x →
-          to_front first seen x ≢ to_front first seen y → first ≤ to_front first seen y → first + length (y ∷ seen) ≤ to_front first (y ∷ seen) x
-      by_place true e there here other low = rw (moved-up first (to_front first seen y) low (to_front first seen x) (omega arith) (ltb-true (to_front first seen x) (to_front first seen y) e)) (omega arith)
+      by_place : (b : Bool) → ltb (to_front first seen x) (to_front first seen y) ≡ b → first + length seen ≤ to_front first seen y →
+          first + length seen ≤ to_front first seen x →
+          to_front first seen x ≢ to_front first seen y → first ≤ to_front first seen y →
+          first + length (y ∷ seen) ≤ to_front first (y ∷ seen) x
+      by_place true e there here other low =
+          rw (moved-up first (to_front first seen y) low (to_front first seen x) (omega arith)
+          (ltb-true (to_front first seen x) (to_front first seen y) e)) (omega arith)
       by_place false e there here other low =
           let past : to_front first seen y ≤ to_front first seen x = ltb-false (to_front first seen x) (to_front first seen y) e in
           let above : to_front first seen y < to_front first seen x = omega arith in
           rw (moved-above first (to_front first seen y) low (to_front first seen x) above) (omega arith)
 
   -- different numbers from the first up to a limit are at most so many
-  pub front-fit : (limit : ℕ) → first ≤ limit → (seen : List ℕ) → AreFrom first seen → All (λ y. y < limit) seen → are_different seen ≡ true → first + length seen ≤ limit
+  pub front-fit : (limit : ℕ) → first ≤ limit → (seen : List ℕ) → AreFrom first seen → All (λ y. y < limit) seen →
+      are_different seen ≡ true → first + length seen ≤ limit
   front-fit limit inside [] from under different = omega arith
   front-fit limit inside (y ∷ seen) from under different =
       let rest = All-tail (λ y. first ≤ y) y seen from in
       let few = All-tail (λ y. y < limit) y seen under in
       let apart = and_parts (not (is_one_of seen y)) (are_different seen) different in
-      let there : first + length seen ≤ to_front first seen y = front-unseen seen rest y (All-head (λ y. first ≤ y) y seen from) (not-true (is_one_of seen y) apart.0) apart.1 in
+      let there : first + length seen ≤ to_front first seen y =
+      front-unseen seen rest y (All-head (λ y. first ≤ y) y seen from) (not-true (is_one_of seen y) apart.0) apart.1 in
       let under_limit : to_front first seen y < limit = front-under limit seen rest few y (All-head (λ y. y < limit) y seen under) in
       omega arith
 
   -- a number of the list has the number of its place
-  pub front-place : (seen : List ℕ) → AreFrom first seen → are_different seen ≡ true → (x place : ℕ) → position_or_len (λ y. x == y) seen ≡ place → place < length seen → to_front first seen x ≡ first + place
+  pub front-place : (seen : List ℕ) → AreFrom first seen → are_different seen ≡ true → (x place : ℕ) →
+      position_or_len (λ y. x == y) seen ≡ place → place < length seen → to_front first seen x ≡ first + place
   front-place [] from different x place is inside = absurd (omega arith)
   front-place (y ∷ seen) from different x place is inside =
       let rest = All-tail (λ y. first ≤ y) y seen from in
       let apart = and_parts (not (is_one_of seen y)) (are_different seen) different in
-      let there : first + length seen ≤ to_front first seen y = front-unseen seen rest y (All-head (λ y. first ≤ y) y seen from) (not-true (is_one_of seen y) apart.0) apart.1 in
+      let there : first + length seen ≤ to_front first seen y =
+      front-unseen seen rest y (All-head (λ y. first ≤ y) y seen from) (not-true (is_one_of seen y) apart.0) apart.1 in
       by_test (x == y) refl place is inside there (there-low y seen from) (λ k e l. front-place seen rest apart.1 x k e l)
     where
-      by_test : (b : Bool) → (x == y) ≡ b → (place : ℕ) → position_or_len (λ z. x == z) (y ∷ seen) ≡ place → place < length (y ∷ seen) → first + length seen ≤ to_front first seen y → first ≤ to_front first seen y →
-          ((k : ℕ) → position_or_len (λ z. x == z) seen ≡ k → k < length seen → to_front first seen x ≡ first + k) → to_front first (y ∷ seen) x ≡ first + place
+      by_test : (b : Bool) → (x == y) ≡ b → (place : ℕ) → position_or_len (λ z. x == z) (y ∷ seen) ≡ place → place < length (y ∷ seen) →
+          first + length seen ≤ to_front first seen y → first ≤ to_front first seen y →
+          ((k : ℕ) → position_or_len (λ z. x == z) seen ≡ k → k < length seen → to_front first seen x ≡ first + k) →
+          to_front first (y ∷ seen) x ≡ first + place
       by_test true e place is inside there low go_on =
           let zero_place : 0 ≡ place = rw e at is in
           let same : to_front first seen x ≡ to_front first seen y = ap (to_front first seen) (eqb-true x y e) in
           moved-there first (to_front first seen y) low (to_front first seen x) same ∙ omega arith
-      by_test false e zero is inside there low go_on = let wrong : 1 + position_or_len (λ z. x == z) seen ≡ zero = rw e at is in absurd (omega arith)
+      by_test false e zero is inside there low go_on =
+          let wrong : 1 + position_or_len (λ z. x == z) seen ≡ zero = rw e at is in absurd (omega arith)
       by_test false e (suc k) is inside there low go_on =
           let next : 1 + position_or_len (λ z. x == z) seen ≡ suc k = rw e at is in
           let here : to_front first seen x ≡ first + k = go_on k (omega arith) (omega arith) in

@@ -2,7 +2,8 @@
 use Rattle.std.specs.Prelude.{◌≡◌, ℕ, ◌<◌, ℤ, pos, negsuc, int_lt, Bool, true, false, not, ◌&&◌, ltb, List, [], ◌∷◌}
 use Rattle.std.specs.List.{list_all}
 use Rattle.std.proofs.Common.{refl, sym, subst, arith, inl, inr}
-use Rattle.std.proofs.lemmas.Bool.{lt-ltb, ltb-true, and_parts, and_from, or_cases, or_left, or_right, not_from_false, not-true, false_from_ne_true}
+use Rattle.std.proofs.lemmas.Bool.{lt-ltb, ltb-true, and_parts, and_from, or_cases, or_left, or_right, not_from_false, not-true}
+use Rattle.std.proofs.lemmas.Bool.{false_from_ne_true}
 use Rattle.shape_data.specs.declared.symbolic.Exp.{Exp}
 use Rattle.shape_data.specs.declared.symbolic.Exp.TheVariants.{Var, Const}
 use Rattle.shape_data.specs.declared.symbolic.Fact.{Fact}
@@ -47,11 +48,13 @@ sides-trans a b c d e f h k = elim (or_cases (is_before a c) (same_exp a c && is
   | inr same ↦
       let first = and_parts (same_exp a c) (is_before b d) same in
       elim (or_cases (is_before c e) (same_exp c e && is_before d f) k) [
-        | inl lower ↦ or_left (is_before a e) (same_exp a e && is_before b f) (subst (λ x. is_before x e ≡ true) (sym (same_exp-equal a c first.0)) lower)
+        | inl lower ↦ or_left (is_before a e) (same_exp a e && is_before b f)
+            (subst (λ x. is_before x e ≡ true) (sym (same_exp-equal a c first.0)) lower)
         | inr again ↦
             let second = and_parts (same_exp c e) (is_before d f) again in
             or_right (is_before a e) (same_exp a e && is_before b f)
-            (and_from (same_exp a e) (is_before b f) (subst (λ x. same_exp a x ≡ true) (same_exp-equal c e second.0) first.0) (exp-trans b d f first.1 second.1))
+            (and_from (same_exp a e) (is_before b f) (subst (λ x. same_exp a x ≡ true) (same_exp-equal c e second.0) first.0)
+            (exp-trans b d f first.1 second.1))
       ]
 ]
 
@@ -80,27 +83,33 @@ fact-irreflexive (Eq a b) h = sides-irreflexive a b h
 fact-irreflexive (Ne a b) h = sides-irreflexive a b h
 
 -- what comes before a fact that comes before another does not stand behind that one
-not-later : (fact first later : Fact) → is_fact_before fact first ≡ true → not (is_fact_before later first) ≡ true → not (is_fact_before later fact) ≡ true
+not-later : (fact first later : Fact) → is_fact_before fact first ≡ true → not (is_fact_before later first) ≡ true
+    → not (is_fact_before later fact) ≡ true
 not-later fact first later h k =
     not_from_false (is_fact_before later fact) (false_from_ne_true (is_fact_before later fact) (λ wrong.
     let told : is_fact_before later first ≡ false = not-true (is_fact_before later first) k in
     let both : is_fact_before later first ≡ true = fact-trans later fact first wrong h in
     cc))
 
-all-not-later : (fact first : Fact) (facts : List Fact) → is_fact_before fact first ≡ true → list_all (λ later. not (is_fact_before later first)) facts ≡ true → list_all (λ later. not (is_fact_before later fact)) facts ≡ true
+all-not-later : (fact first : Fact) (facts : List Fact) → is_fact_before fact first ≡ true
+    → list_all (λ later. not (is_fact_before later first)) facts ≡ true → list_all (λ later. not (is_fact_before later fact)) facts ≡ true
 all-not-later fact first [] h k = refl
 all-not-later fact first (later ∷ facts) h k =
     let parts = and_parts (not (is_fact_before later first)) (list_all (λ x. not (is_fact_before x first)) facts) k in
-    and_from (not (is_fact_before later fact)) (list_all (λ x. not (is_fact_before x fact)) facts) (not-later fact first later h parts.0) (all-not-later fact first facts h parts.1)
+    and_from (not (is_fact_before later fact)) (list_all (λ x. not (is_fact_before x fact)) facts) (not-later fact first later h parts.0)
+    (all-not-later fact first facts h parts.1)
 
 -- a test that the fact and all others pass is passed by all with the fact among them
-with-all : (test : Fact → Bool) (fact : Fact) (facts : List Fact) → test fact ≡ true → list_all test facts ≡ true → list_all test (with_fact fact facts) ≡ true
+with-all : (test : Fact → Bool) (fact : Fact) (facts : List Fact) → test fact ≡ true → list_all test facts ≡ true
+    → list_all test (with_fact fact facts) ≡ true
 with-all test fact [] h k = and_from (test fact) true h refl
 with-all test fact (first ∷ facts) h k =
     let parts = and_parts (test first) (list_all test facts) k in
-    by_test (is_fact_before fact first) refl (and_from (test first) (list_all test (with_fact fact facts)) parts.0 (with-all test fact facts h parts.1))
+    by_test (is_fact_before fact first) refl
+    (and_from (test first) (list_all test (with_fact fact facts)) parts.0 (with-all test fact facts h parts.1))
   where
-    by_test : (b : Bool) → is_fact_before fact first ≡ b → (test first && list_all test (with_fact fact facts)) ≡ true → list_all test (with_fact fact (first ∷ facts)) ≡ true
+    by_test : (b : Bool) → is_fact_before fact first ≡ b → (test first && list_all test (with_fact fact facts)) ≡ true
+        → list_all test (with_fact fact (first ∷ facts)) ≡ true
     by_test true e later = rw e (and_from (test fact) (test first && list_all test facts) h k)
     by_test false e later = rw e later
 
@@ -110,18 +119,25 @@ with-order fact (first ∷ facts) h =
     let parts = and_parts (list_all (λ later. not (is_fact_before later first)) facts) (are_in_order facts) h in
     by_test (is_fact_before fact first) refl parts.0 (with-order fact facts parts.1)
   where
-    by_test : (b : Bool) → is_fact_before fact first ≡ b → list_all (λ later. not (is_fact_before later first)) facts ≡ true → are_in_order (with_fact fact facts) ≡ true → are_in_order (with_fact fact (first ∷ facts)) ≡ true
+    by_test : (b : Bool) → is_fact_before fact first ≡ b → list_all (λ later. not (is_fact_before later first)) facts ≡ true
+        → are_in_order (with_fact fact facts) ≡ true → are_in_order (with_fact fact (first ∷ facts)) ≡ true
     by_test true e behind rest =
-        let back : not (is_fact_before first fact) ≡ true = not_from_false (is_fact_before first fact) (false_from_ne_true (is_fact_before first fact) (λ wrong. fact-irreflexive fact (fact-trans fact first fact e wrong))) in
-        rw e (and_from (not (is_fact_before first fact) && list_all (λ later. not (is_fact_before later fact)) facts) (are_in_order (first ∷ facts))
-        (and_from (not (is_fact_before first fact)) (list_all (λ later. not (is_fact_before later fact)) facts) back (all-not-later fact first facts e behind)) h)
+        let back : not (is_fact_before first fact)
+        ≡ true =
+        not_from_false (is_fact_before first fact)
+        (false_from_ne_true (is_fact_before first fact) (λ wrong. fact-irreflexive fact (fact-trans fact first fact e wrong))) in
+        rw e (and_from (not (is_fact_before first fact) && list_all (λ later. not (is_fact_before later fact)) facts)
+        (are_in_order (first ∷ facts))
+        (and_from (not (is_fact_before first fact)) (list_all (λ later. not (is_fact_before later fact)) facts) back
+        (all-not-later fact first facts e behind)) h)
     by_test false e behind rest =
         rw e (and_from (list_all (λ later. not (is_fact_before later first)) (with_fact fact facts)) (are_in_order (with_fact fact facts))
         (with-all (λ later. not (is_fact_before later first)) fact facts (not_from_false (is_fact_before fact first) e) behind) rest)
 
 among-order : (facts sorted : List Fact) → are_in_order sorted ≡ true → are_in_order (sorted_among facts sorted) ≡ true
 among-order [] sorted h = h
-among-order (fact ∷ facts) sorted h = among-order facts (with_fact (with_sides_in_order fact) sorted) (with-order (with_sides_in_order fact) sorted h)
+among-order (fact ∷ facts) sorted h =
+    among-order facts (with_fact (with_sides_in_order fact) sorted) (with-order (with_sides_in_order fact) sorted h)
 
 pub facts_are_in_order : FactsAreInOrder
 facts_are_in_order facts = among-order facts [] refl

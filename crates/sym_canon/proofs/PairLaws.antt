@@ -22,7 +22,8 @@ use Rattle.sym_canon.proofs.NumberLaws.{seen-from, further-under, state-numbered
 use Rattle.sym_canon.proofs.SightLaws.{AreSeen, Known, none-seen, state-seen, state-known, state-stays, kept-state}
 
 -- the numbers brought to the front are a renumbering
-front-renumbering : (params : ℕ) (seen : List ℕ) → AreSeen (Further params) seen → IsRenumbering params (to_front params seen) (from_front params seen)
+front-renumbering : (params : ℕ) (seen : List ℕ) → AreSeen (Further params) seen →
+    IsRenumbering params (to_front params seen) (from_front params seen)
 front-renumbering params seen are = record {
   undone = front-undone params seen from;
   redone = front-redone params seen from;
@@ -82,13 +83,20 @@ module _ (structs : List StructDef) (s : ℕ → ℤ) (heap : List Cell) (shape 
 
 -- a part whose variables are all among those that were seen
 module _ (params : ℕ) (seen : List ℕ) (are : AreSeen (Further params) seen) where
-  part-meets : (part : SymState) → EachInState (Known (Further params) seen) (arranged params part) → (structs : List StructDef) (s : ℕ → ℤ) (locals : List ℤ) (heap : List Cell) →
-      MeetsState structs (λ x. s (to_front params seen x)) locals heap part ↔ MeetsState structs s locals heap (state_with_facts_sorted (on_state (with_number params seen) (arranged params part)))
+  part-meets : (part : SymState) → EachInState (Known (Further params) seen) (arranged params part) →
+      (structs : List StructDef) (s : ℕ → ℤ) (locals : List ℤ) (heap : List Cell) →
+      MeetsState structs (λ x. s (to_front params seen x)) locals heap part
+      ↔ MeetsState structs s locals heap (state_with_facts_sorted (on_state (with_number params seen) (arranged params part)))
   part-meets part each structs s locals heap =
-      let same : on_state (with_number params seen) (arranged params part) ≡ on_state (renamed (to_front params seen)) (arranged params part) = state-numbered (Further params) seen are (arranged params part) each in
-      let P : SymState → Type 0 = λ made. MeetsState structs (λ x. s (to_front params seen x)) locals heap (arranged params part) ↔ MeetsState structs s locals heap made in
+      let same : on_state (with_number params seen) (arranged params part)
+      ≡ on_state (renamed (to_front params seen)) (arranged params part) =
+      state-numbered (Further params) seen are (arranged params part) each in
+      let P : SymState → Type 0 = λ made. MeetsState structs (λ x. s (to_front params seen x)) locals heap (arranged params part)
+      ↔ MeetsState structs s locals heap made in
       both-trans (arranged-meets structs (λ x. s (to_front params seen x)) locals heap params part)
-      (both-trans (subst P (sym same) (renumbered-meets params (to_front params seen) (from_front params seen) (front-renumbering params seen are) structs s locals heap (arranged params part)))
+      (both-trans (subst P (sym same)
+      (renumbered-meets params (to_front params seen) (from_front params seen) (front-renumbering params seen are) structs s locals heap
+      (arranged params part)))
       (sorted-meets structs s locals heap (on_state (with_number params seen) (arranged params part))))
 
 pub canon_pair_keeps_meaning : CanonPairKeepsMeaning
@@ -97,8 +105,10 @@ canon_pair_keeps_meaning missing state params = record {
   back = from_front params seen;
   renumbers = front-renumbering params seen are;
   missing = λ structs s heap. (
-    λ m. state-heap structs s heap (canon_pair missing state params).missing ((missing_meets structs s [] heap).0 (heap-state structs (λ x. s (to_front params seen x)) heap missing m)),
-    λ m. state-heap structs (λ x. s (to_front params seen x)) heap missing ((missing_meets structs s [] heap).1 (heap-state structs s heap (canon_pair missing state params).missing m)),
+    λ m. state-heap structs s heap (canon_pair missing state params).missing
+        ((missing_meets structs s [] heap).0 (heap-state structs (λ x. s (to_front params seen x)) heap missing m)),
+    λ m. state-heap structs (λ x. s (to_front params seen x)) heap missing
+        ((missing_meets structs s [] heap).1 (heap-state structs s heap (canon_pair missing state params).missing m)),
   );
   state = λ structs s locals heap. part-meets params seen are state (state-known (Further params) second before) structs s locals heap;
 }
@@ -119,8 +129,10 @@ canon_pair_keeps_meaning missing state params = record {
     are = state-seen (Further params) second before (state-seen (Further params) first [] (none-seen (Further params)))
 
     missing_known : EachInState (Known (Further params) seen) first
-    missing_known = state-stays (Further params) before seen (kept-state (Further params) second before) first (state-known (Further params) first [])
+    missing_known =
+        state-stays (Further params) before seen (kept-state (Further params) second before) first (state-known (Further params) first [])
 
     missing_meets : (structs : List StructDef) (s : ℕ → ℤ) (locals : List ℤ) (heap : List Cell) →
-        MeetsState structs (λ x. s (to_front params seen x)) locals heap (without_locals missing) ↔ MeetsState structs s locals heap (state_with_facts_sorted (on_state (with_number params seen) first))
+        MeetsState structs (λ x. s (to_front params seen x)) locals heap (without_locals missing)
+        ↔ MeetsState structs s locals heap (state_with_facts_sorted (on_state (with_number params seen) first))
     missing_meets = part-meets params seen are (without_locals missing) missing_known

@@ -34,7 +34,8 @@ module _ (which : Variables) (K : List ℕ → Type 0) (step : (seen : List ℕ)
 
   pub state-keeps : (state : SymState) (seen : List ℕ) → K seen → K (sight_state which state seen)
   state-keeps state seen h =
-      facts-keep state.heap.pure (sight_atoms which state.heap.spatial (sight which state.locals seen)) (atoms-keep state.heap.spatial (sight which state.locals seen) (sight-keeps state.locals seen h))
+      facts-keep state.heap.pure (sight_atoms which state.heap.spatial (sight which state.locals seen))
+      (atoms-keep state.heap.spatial (sight which state.locals seen) (sight-keeps state.locals seen h))
 
 -- ---- different variables of the kind
 
@@ -45,8 +46,10 @@ different-push (y ∷ seen) x different new =
     let parts = or_parts (x == y) (is_one_of seen x) new in
     let apart = and_parts (not (is_one_of seen y)) (are_different seen) different in
     let turned : (y == x) ≡ false = ne_eqb y x (λ same. eqb-false x y parts.0 (sym same)) in
-    let none : is_one_of (seen ++ x ∷ []) y ≡ false = rw (list_any-append (λ name. y == name) seen (x ∷ []), not-true (is_one_of seen y) apart.0, turned) refl in
-    and_from (not (is_one_of (seen ++ x ∷ []) y)) (are_different (seen ++ x ∷ [])) (not_from_false (is_one_of (seen ++ x ∷ []) y) none) (different-push seen x apart.1 parts.1)
+    let none : is_one_of (seen ++ x ∷ []) y ≡ false =
+    rw (list_any-append (λ name. y == name) seen (x ∷ []), not-true (is_one_of seen y) apart.0, turned) refl in
+    and_from (not (is_one_of (seen ++ x ∷ []) y)) (are_different (seen ++ x ∷ [])) (not_from_false (is_one_of (seen ++ x ∷ []) y) none)
+    (different-push seen x apart.1 parts.1)
 
 -- different variables of the kind
 pub record AreSeen (which : Variables) (seen : List ℕ) : Type 0 where
@@ -64,7 +67,9 @@ seen-step which seen (Var x) h = by_kind (is_numbered which x) refl
     by_seen true e is = rw (is, e) h
     by_seen false e is = rw (is, e) (record {
       different = different-push seen x h.different e;
-      kind = All-append (λ y. is_numbered which y ≡ true) seen (x ∷ []) h.kind (All-cons (λ y. is_numbered which y ≡ true) x [] is (All-nil (λ y. is_numbered which y ≡ true)));
+      kind =
+          All-append (λ y. is_numbered which y ≡ true) seen (x ∷ []) h.kind
+          (All-cons (λ y. is_numbered which y ≡ true) x [] is (All-nil (λ y. is_numbered which y ≡ true)));
     })
 
     by_kind : (b : Bool) → is_numbered which x ≡ b → AreSeen which (with_sight which seen (Var x))
@@ -94,7 +99,8 @@ known-step which seen (Var y) (Var x) h = by_test (is_numbered which y && not (i
     more k = rw (list_any-append (λ name. x == name) seen (y ∷ []), k) refl
 
     by_kind : (b : Bool) → is_numbered which x ≡ b → (not (is_numbered which x) || is_one_of (seen ++ y ∷ []) x) ≡ true
-    by_kind true e = let told : is_one_of seen x ≡ true = rw e at h in or_right (not (is_numbered which x)) (is_one_of (seen ++ y ∷ []) x) (more told)
+    by_kind true e = let told : is_one_of seen x
+        ≡ true = rw e at h in or_right (not (is_numbered which x)) (is_one_of (seen ++ y ∷ []) x) (more told)
     by_kind false e = rw e refl
 
     by_test : (b : Bool) → (is_numbered which y && not (is_one_of seen y)) ≡ b → Known which (with_sight which seen (Var y)) (Var x)
@@ -121,24 +127,32 @@ module _ (which : Variables) where
   sight-known [] seen = All-nil (Known which seen)
   sight-known (e ∷ es) seen =
       All-cons (Known which (sight which es (with_sight which seen e))) e es
-      (sight-keeps which (λ later. Known which later e) (λ later f h. known-step which later f e h) es (with_sight which seen e) (known-here which seen e)) (sight-known es (with_sight which seen e))
+      (sight-keeps which (λ later. Known which later e) (λ later f h. known-step which later f e h) es (with_sight which seen e)
+      (known-here which seen e)) (sight-known es (with_sight which seen e))
 
   -- what is known stays known
-  atom-stays : (seen later : List ℕ) (stays : (e : Exp) → Known which seen e → Known which later e) (atom : Atom) → EachInAtom (Known which seen) atom → EachInAtom (Known which later) atom
+  atom-stays : (seen later : List ℕ) (stays : (e : Exp) → Known which seen e → Known which later e) (atom : Atom)
+      → EachInAtom (Known which seen) atom → EachInAtom (Known which later) atom
   atom-stays seen later stays (Points at kind fields) h = (stays at h.0, All-weaker (Known which seen) (Known which later) stays fields h.1)
   atom-stays seen later stays (Seg kind link from to) h = (stays from h.0, stays to h.1)
   atom-stays seen later stays Junk h = tt
 
-  fact-stays : (seen later : List ℕ) (stays : (e : Exp) → Known which seen e → Known which later e) (fact : Fact) → EachInFact (Known which seen) fact → EachInFact (Known which later) fact
+  fact-stays : (seen later : List ℕ) (stays : (e : Exp) → Known which seen e → Known which later e) (fact : Fact)
+      → EachInFact (Known which seen) fact → EachInFact (Known which later) fact
   fact-stays seen later stays (Eq left right) h = (stays left h.0, stays right h.1)
   fact-stays seen later stays (Ne left right) h = (stays left h.0, stays right h.1)
 
-  pub state-stays : (seen later : List ℕ) → ((e : Exp) → Known which seen e → Known which later e) → (state : SymState) → EachInState (Known which seen) state → EachInState (Known which later) state
+  pub state-stays : (seen later : List ℕ) → ((e : Exp) → Known which seen e → Known which later e) → (state : SymState)
+      → EachInState (Known which seen) state → EachInState (Known which later) state
   state-stays seen later stays state h = record {
     locals = All-weaker (Known which seen) (Known which later) stays state.locals h.locals;
     heap = record {
-      facts = All-weaker (EachInFact (Known which seen)) (EachInFact (Known which later)) (fact-stays seen later stays) state.heap.pure h.heap.facts;
-      atoms = All-weaker (EachInAtom (Known which seen)) (EachInAtom (Known which later)) (atom-stays seen later stays) state.heap.spatial h.heap.atoms;
+      facts =
+          All-weaker (EachInFact (Known which seen)) (EachInFact (Known which later))
+          (fact-stays seen later stays) state.heap.pure h.heap.facts;
+      atoms =
+          All-weaker (EachInAtom (Known which seen)) (EachInAtom (Known which later))
+          (atom-stays seen later stays) state.heap.spatial h.heap.atoms;
     };
   }
 
@@ -157,23 +171,35 @@ module _ (which : Variables) where
 
   atom-known : (atom : Atom) (seen : List ℕ) → EachInAtom (Known which (sight which (exps_of atom) seen)) atom
   atom-known (Points at kind fields) seen =
-      let all : All (Known which (sight which (at ∷ fields) seen)) (at ∷ fields) = sight-known (at ∷ fields) seen in
-      (All-head (Known which (sight which (at ∷ fields) seen)) at fields all, All-tail (Known which (sight which (at ∷ fields) seen)) at fields all)
+      let all : All (Known which (sight which (at ∷ fields) seen)) (at ∷ fields) = sight-known (at ∷ fields) seen in (
+        All-head (Known which (sight which (at ∷ fields) seen)) at fields all,
+        All-tail
+            (Known which (sight which (at ∷ fields) seen)) at fields all,
+      )
   atom-known (Seg kind link from to) seen =
       let all : All (Known which (sight which (from ∷ to ∷ []) seen)) (from ∷ to ∷ []) = sight-known (from ∷ to ∷ []) seen in
-      let rest = All-tail (Known which (sight which (from ∷ to ∷ []) seen)) from (to ∷ []) all in
-      (All-head (Known which (sight which (from ∷ to ∷ []) seen)) from (to ∷ []) all, All-head (Known which (sight which (from ∷ to ∷ []) seen)) to [] rest)
+      let rest = All-tail (Known which (sight which (from ∷ to ∷ []) seen)) from (to ∷ []) all in (
+        All-head (Known which (sight which (from ∷ to ∷ []) seen)) from (to ∷ []) all,
+        All-head
+            (Known which (sight which (from ∷ to ∷ []) seen)) to [] rest,
+      )
   atom-known Junk seen = tt
 
   fact-known : (fact : Fact) (seen : List ℕ) → EachInFact (Known which (sight which (sides fact) seen)) fact
   fact-known (Eq left right) seen =
       let all : All (Known which (sight which (left ∷ right ∷ []) seen)) (left ∷ right ∷ []) = sight-known (left ∷ right ∷ []) seen in
-      let rest = All-tail (Known which (sight which (left ∷ right ∷ []) seen)) left (right ∷ []) all in
-      (All-head (Known which (sight which (left ∷ right ∷ []) seen)) left (right ∷ []) all, All-head (Known which (sight which (left ∷ right ∷ []) seen)) right [] rest)
+      let rest = All-tail (Known which (sight which (left ∷ right ∷ []) seen)) left (right ∷ []) all in (
+        All-head (Known which (sight which (left ∷ right ∷ []) seen)) left (right ∷ []) all,
+        All-head
+            (Known which (sight which (left ∷ right ∷ []) seen)) right [] rest,
+      )
   fact-known (Ne left right) seen =
       let all : All (Known which (sight which (left ∷ right ∷ []) seen)) (left ∷ right ∷ []) = sight-known (left ∷ right ∷ []) seen in
-      let rest = All-tail (Known which (sight which (left ∷ right ∷ []) seen)) left (right ∷ []) all in
-      (All-head (Known which (sight which (left ∷ right ∷ []) seen)) left (right ∷ []) all, All-head (Known which (sight which (left ∷ right ∷ []) seen)) right [] rest)
+      let rest = All-tail (Known which (sight which (left ∷ right ∷ []) seen)) left (right ∷ []) all in (
+        All-head (Known which (sight which (left ∷ right ∷ []) seen)) left (right ∷ []) all,
+        All-head
+            (Known which (sight which (left ∷ right ∷ []) seen)) right [] rest,
+      )
 
   atoms-known : (atoms : List Atom) (seen : List ℕ) → All (EachInAtom (Known which (sight_atoms which atoms seen))) atoms
   atoms-known [] seen = All-nil (EachInAtom (Known which seen))
@@ -192,10 +218,14 @@ module _ (which : Variables) where
   -- each variable of the kind that is in a state is in the list of its variables
   pub state-known : (state : SymState) (seen : List ℕ) → EachInState (Known which (sight_state which state seen)) state
   state-known state seen = record {
-    locals = All-weaker (Known which first) (Known which last) (λ e h. kept-facts state.heap.pure second e (kept-atoms state.heap.spatial first e h)) state.locals (sight-known state.locals seen);
+    locals =
+        All-weaker (Known which first) (Known which last)
+        (λ e h. kept-facts state.heap.pure second e (kept-atoms state.heap.spatial first e h)) state.locals (sight-known state.locals seen);
     heap = record {
       facts = facts-known state.heap.pure second;
-      atoms = All-weaker (EachInAtom (Known which second)) (EachInAtom (Known which last)) (atom-stays second last (kept-facts state.heap.pure second)) state.heap.spatial (atoms-known state.heap.spatial first);
+      atoms =
+          All-weaker (EachInAtom (Known which second)) (EachInAtom (Known which last))
+          (atom-stays second last (kept-facts state.heap.pure second)) state.heap.spatial (atoms-known state.heap.spatial first);
     };
   }
     where

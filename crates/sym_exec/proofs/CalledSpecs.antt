@@ -46,7 +46,8 @@ use Rattle.exec_cells.proofs.LowVariables.{low_variables}
 
 -- ---- sizes
 
-module _ (setting : Setting) (caller : Caller) (is : IsCaller setting caller) (before : ℕ) (spec : Spec) (good : IsSpec widest setting.structs before spec) where
+module _ (setting : Setting) (caller : Caller) (is : IsCaller setting caller) (before : ℕ) (spec : Spec)
+    (good : IsSpec widest setting.structs before spec) where
   pub pre_within : IsWithinSizes spec.pre
   pre_within = well_formed_is_within_sizes setting.structs before spec.pre is.good.structs good.pre
 
@@ -60,20 +61,27 @@ module _ (setting : Setting) (caller : Caller) (is : IsCaller setting caller) (b
       (All-weaker (IsExp widest setting.params) IsSmall (small setting.params) caller.args.now is.args) pre_within)
 
   posts_within : All (λ (post : Post). IsWithinSizes post.heap) spec.posts
-  posts_within = All-weaker (IsPost widest setting.structs before) (λ (post : Post). IsWithinSizes post.heap) (λ post one. well_formed_is_within_sizes setting.structs before post.heap is.good.structs one.heap) spec.posts good.posts
+  posts_within =
+      All-weaker (IsPost widest setting.structs before) (λ (post : Post). IsWithinSizes post.heap)
+      (λ post one. well_formed_is_within_sizes setting.structs before post.heap is.good.structs one.heap) spec.posts good.posts
 
   -- a fit leaves room for its posts
-  pub subtracted_roomy : SubtractedFitsAreWithin → (fit : Fit) → Some (fit_in fit) ≡ subtracted caller.args.now caller.pair.now spec → fit.posts.now ≡ spec.posts → IsRoomy caller fit
+  pub subtracted_roomy : SubtractedFitsAreWithin → (fit : Fit) → Some (fit_in fit) ≡ subtracted caller.args.now caller.pair.now spec →
+      fit.posts.now ≡ spec.posts → IsRoomy caller fit
   subtracted_roomy law fit fits same =
       let within : IsFitWithin setting.structs setting.params 4000 8000 caller.pair.now (fit_in fit) =
-      law setting.structs caller.args.now caller.pair.now spec (fit_in fit) before setting.params (length caller.pair.now.state.locals) 4000 8000 4000 is.good.structs good is.few_args is.args is.given.slots
+      law setting.structs caller.args.now caller.pair.now spec (fit_in fit) before setting.params
+      (length caller.pair.now.state.locals) 4000 8000 4000 is.good.structs good is.few_args is.args is.given.slots
       (omega arith) (omega arith) (omega arith) (given_is_within setting caller.pair.now is.given) (sym fits) in
       record { used = within.used; binding = within.bindings; posts = rw same posts_within }
 
-  pub found_roomy : FoundFitsAreWithin → (fit : Fit) → Some (fit_in fit) ≡ found setting caller.args.now caller.pair.now spec → fit.posts.now ≡ spec.posts → IsRoomy caller fit
+  pub found_roomy : FoundFitsAreWithin → (fit : Fit) → Some (fit_in fit) ≡ found setting caller.args.now caller.pair.now spec →
+      fit.posts.now ≡ spec.posts → IsRoomy caller fit
   found_roomy law fit fits same =
-      let within : IsFitWithin setting.structs setting.params (4000 + may_miss Search 4000) (8000 + may_miss Search 4000) caller.pair.now (fit_in fit) =
-      law setting caller.args.now caller.pair.now spec (fit_in fit) before setting.params (length caller.pair.now.state.locals) 4000 8000 4000 is.good.structs good is.few_args is.args is.given.slots is.good.params
+      let within : IsFitWithin setting.structs setting.params (4000 + may_miss Search 4000) (8000 + may_miss Search 4000) caller.pair.now
+      (fit_in fit) =
+      law setting caller.args.now caller.pair.now spec (fit_in fit) before setting.params
+      (length caller.pair.now.state.locals) 4000 8000 4000 is.good.structs good is.few_args is.args is.given.slots is.good.params
       (omega arith) (omega arith) (omega arith) (given_is_within setting caller.pair.now is.given) (sym fits) in
       record { used = within.used; binding = within.bindings; posts = rw same posts_within }
 
@@ -83,30 +91,39 @@ module _ (setting : Setting) (caller : Caller) (is : IsCaller setting caller) (b
 abbrev made_fit : SymHeap → SymHeap → Numbers → List (ℕ × Exp) → List Post → calling.Fit
 made_fit missing frame apart binding posts = record { missing = missing; frame = frame; apart = apart; binding = binding; posts = posts }
 
-fit_same : (one other frame : SymHeap) (apart : Numbers) (binding : List (ℕ × Exp)) (posts more : List Post) → one ≡ other → posts ≡ more → Some (made_fit one frame apart binding posts) ≡ Some (made_fit other frame apart binding more)
+fit_same : (one other frame : SymHeap) (apart : Numbers) (binding : List (ℕ × Exp)) (posts more : List Post) → one ≡ other → posts ≡ more →
+    Some (made_fit one frame apart binding posts) ≡ Some (made_fit other frame apart binding more)
 fit_same one other frame apart binding posts more same all = rw (same, all) refl
 
-module _ (args : List Exp) (pair : Pair) (spec : Spec) (used : List ℕ) (called : CalledPre) (is_used : used ≡ pair_variables pair) (is_called : called ≡ called_with used args spec.pre) where
+module _ (args : List Exp) (pair : Pair) (spec : Spec) (used : List ℕ) (called : CalledPre) (is_used : used ≡ pair_variables pair)
+    (is_called : called ≡ called_with used args spec.pre) where
   module _ (answer : Sub) (is : answer ≡ subtract_avoiding pair.state.heap called.pre called.bound called.flexible used) where
     subtracted_is : fit_of_sub pair spec called.numbers answer ≡ subtracted args pair spec
     subtracted_is = rw (is, is_called, is_used) refl
 
-    pub subtracted_some : (frame missing : SymHeap) (binding : List (ℕ × Exp)) (posts : List Post) → answer ≡ sub.Match frame binding → missing ≡ pair.missing → posts ≡ spec.posts →
+    pub subtracted_some : (frame missing : SymHeap) (binding : List (ℕ × Exp)) (posts : List Post) → answer ≡ sub.Match frame binding →
+        missing ≡ pair.missing → posts ≡ spec.posts →
         Some (made_fit missing frame called.numbers binding posts) ≡ subtracted args pair spec
-    subtracted_some frame missing binding posts same copied all = fit_same missing pair.missing frame called.numbers binding posts spec.posts copied all ∙ (rw same at subtracted_is)
+    subtracted_some frame missing binding posts same copied all =
+        fit_same missing pair.missing frame called.numbers binding posts spec.posts copied all ∙ (rw same at subtracted_is)
 
-  module _ (setting : Setting) (first : ℕ) (is_first : first ≡ new_logical setting.params pair) (answer : Abd) (is : answer ≡ biabduce_avoiding pair.state.heap called.pre called.bound called.flexible first used) where
+  module _ (setting : Setting) (first : ℕ) (is_first : first ≡ new_logical setting.params pair) (answer : Abd)
+      (is : answer ≡ biabduce_avoiding pair.state.heap called.pre called.bound called.flexible first used) where
     found_is : fit_of_abd pair spec called.numbers answer ≡ found setting args pair spec
     found_is = rw (is, is_called, is_first, is_used) refl
 
-    pub found_clashes : (missing frame : SymHeap) (binding : List (ℕ × Exp)) → answer ≡ abd.Found missing frame binding → contradicts (beside pair.missing missing) ≡ true → None ≡ found setting args pair spec
-    found_clashes missing frame binding same clash = let there : fit_of_abd pair spec called.numbers (abd.Found missing frame binding) ≡ found setting args pair spec = rw same at found_is in rw clash at there
+    pub found_clashes : (missing frame : SymHeap) (binding : List (ℕ × Exp)) → answer ≡ abd.Found missing frame binding →
+        contradicts (beside pair.missing missing) ≡ true → None ≡ found setting args pair spec
+    found_clashes missing frame binding same clash = let there : fit_of_abd pair spec called.numbers (abd.Found missing frame binding)
+        ≡ found setting args pair spec = rw same at found_is in rw clash at there
 
-    pub found_some : (missing frame all : SymHeap) (binding : List (ℕ × Exp)) (posts : List Post) → answer ≡ abd.Found missing frame binding → contradicts (beside pair.missing missing) ≡ false → all ≡ beside pair.missing missing →
+    pub found_some : (missing frame all : SymHeap) (binding : List (ℕ × Exp)) (posts : List Post) →
+        answer ≡ abd.Found missing frame binding → contradicts (beside pair.missing missing) ≡ false → all ≡ beside pair.missing missing →
         posts ≡ spec.posts →
         Some (made_fit all frame called.numbers binding posts) ≡ found setting args pair spec
     found_some missing frame all binding posts same goes both listed =
-        let there : fit_of_abd pair spec called.numbers (abd.Found missing frame binding) ≡ found setting args pair spec = rw same at found_is in
+        let there : fit_of_abd pair spec called.numbers (abd.Found missing frame binding) ≡ found setting args pair spec =
+        rw same at found_is in
         fit_same all (beside pair.missing missing) frame called.numbers binding posts spec.posts both listed ∙ (rw goes at there)
 
 -- ---- lists of specs
@@ -115,18 +132,22 @@ module _ (args : List Exp) (pair : Pair) (spec : Spec) (used : List ℕ) (called
 pub at_place : {A : Type 0} (xs : List A) (i : ℕ) (x : A) → i < length xs → x ≡ get_or xs i x → drop i xs ≡ x ∷ drop (i + 1) xs
 at_place xs i x inside is = drop_more xs i x inside ∙ ap (λ y. y ∷ drop (i + 1) xs) (sym is)
 
-module _ (args : List Exp) (pair : Pair) (specs : List Spec) (i : ℕ) (spec : Spec) (whole : Option calling.Fit) (inside : i < length specs) (here : spec ≡ get_or specs i spec) (now : whole ≡ first_subtracted args pair (drop i specs)) where
+module _ (args : List Exp) (pair : Pair) (specs : List Spec) (i : ℕ) (spec : Spec) (whole : Option calling.Fit) (inside : i < length specs)
+    (here : spec ≡ get_or specs i spec) (now : whole ≡ first_subtracted args pair (drop i specs)) where
   pub first_some : (fit : calling.Fit) → Some fit ≡ subtracted args pair spec → Some fit ≡ whole
   first_some fit is = sym (now ∙ (rw (at_place specs i spec inside here, ← is) refl))
 
   pub first_none : None ≡ subtracted args pair spec → whole ≡ first_subtracted args pair (drop (i + 1) specs)
   first_none is = now ∙ (rw (at_place specs i spec inside here, ← is) refl)
 
-module _ (f : Spec → Option calling.Fit) (specs : List Spec) (i : ℕ) (spec : Spec) (fits : List Fit) (whole : List calling.Fit) (inside : i < length specs) (here : spec ≡ get_or specs i spec)
+module _ (f : Spec → Option calling.Fit) (specs : List Spec) (i : ℕ) (spec : Spec) (fits : List Fit) (whole : List calling.Fit)
+    (inside : i < length specs) (here : spec ≡ get_or specs i spec)
     (now : whole ≡ map fit_in fits ++ filter_map f (drop i specs)) where
-  pub all_more : (fit : Fit) (more : List Fit) → Some (fit_in fit) ≡ f spec → more ≡ fits ++ fit ∷ [] → whole ≡ map fit_in more ++ filter_map f (drop (i + 1) specs)
+  pub all_more : (fit : Fit) (more : List Fit) → Some (fit_in fit) ≡ f spec → more ≡ fits ++ fit ∷ [] →
+      whole ≡ map fit_in more ++ filter_map f (drop (i + 1) specs)
   all_more fit more is grown =
-      now ∙ (rw (at_place specs i spec inside here, ← is, grown, map-append fit_in fits (fit ∷ [])) (sym (append_assoc (map fit_in fits) (fit_in fit ∷ []) (filter_map f (drop (i + 1) specs)))))
+      now ∙ (rw (at_place specs i spec inside here, ← is, grown, map-append fit_in fits (fit ∷ []))
+      (sym (append_assoc (map fit_in fits) (fit_in fit ∷ []) (filter_map f (drop (i + 1) specs)))))
 
   pub all_passed : None ≡ f spec → whole ≡ map fit_in fits ++ filter_map f (drop (i + 1) specs)
   all_passed is = now ∙ (rw (at_place specs i spec inside here, ← is) refl)
@@ -137,11 +158,15 @@ found_one caller made fit is room = rw is at room
 
 -- ---- the caller
 
-pub caller_is : (setting : Setting) (caller : Caller) (operands : List Operand) → IsGood setting → IsGiven setting caller.pair.now → caller.args.now ≡ map (operand caller.pair.now) operands → length operands ≤ 32768 →
-    caller.used.now ≡ pair_variables caller.pair.now → caller.first ≡ above setting.params (filter (λ x. ltb x 65536) caller.used.now) → caller.first ≤ 65536 → IsCaller setting caller
+pub caller_is : (setting : Setting) (caller : Caller) (operands : List Operand) → IsGood setting → IsGiven setting caller.pair.now →
+    caller.args.now ≡ map (operand caller.pair.now) operands → length operands ≤ 32768 →
+    caller.used.now ≡ pair_variables caller.pair.now → caller.first ≡ above setting.params (filter (λ x. ltb x 65536) caller.used.now) →
+    caller.first ≤ 65536 → IsCaller setting caller
 caller_is setting caller operands good given args few used first low =
-    let low_pair : IsLowPair caller.pair.now = given_is_low setting.structs setting.params (length caller.pair.now.state.locals) caller.pair.now given.state given.missing in
-    let counted : length caller.args.now ≡ length operands = ap (λ list. length list) args ∙ length-map operands (operand caller.pair.now) in
+    let low_pair : IsLowPair caller.pair.now =
+    given_is_low setting.structs setting.params (length caller.pair.now.state.locals) caller.pair.now given.state given.missing in
+    let counted : length caller.args.now ≡ length operands =
+    ap (λ list. length list) args ∙ length-map operands (operand caller.pair.now) in
     let fewer : length (pair_variables caller.pair.now) ≤ 300000000 = given_is_few setting caller.pair.now good given in
     let same : length caller.used.now ≡ length (pair_variables caller.pair.now) = ap (λ list. length list) used in
     record {

@@ -36,7 +36,8 @@ low-fact params (Eq left right) is = (low-exp params left is.0, low-exp params r
 low-fact params (Ne left right) is = (low-exp params left is.0, low-exp params right is.1)
 
 low-atom : (structs : List StructDef) (params : ℕ) (atom : Atom) → IsAtom widest structs params atom → EachInAtom IsLow atom
-low-atom structs params (Points at kind fields) is = (low-exp params at is.0, All-weaker (IsExp widest params) IsLow (low-exp params) fields is.2)
+low-atom structs params (Points at kind fields) is =
+    (low-exp params at is.0, All-weaker (IsExp widest params) IsLow (low-exp params) fields is.2)
 low-atom structs params (Seg kind link from to) is = (low-exp params from is.1, low-exp params to is.2)
 low-atom structs params Junk is = tt
 
@@ -47,24 +48,33 @@ low-heap structs params heap is = record {
 }
 
 -- the variables of a well-formed pair are low
-pub given_is_low : (structs : List StructDef) (params slots : ℕ) (pair : Pair) → IsState widest structs params slots pair.state → IsSymHeap widest structs params pair.missing → IsLowPair pair
+pub given_is_low : (structs : List StructDef) (params slots : ℕ) (pair : Pair) → IsState widest structs params slots pair.state
+    → IsSymHeap widest structs params pair.missing → IsLowPair pair
 given_is_low structs params slots pair state missing = record {
   missing = low-heap structs params pair.missing missing;
-  state = record { locals = All-weaker (IsExp widest params) IsLow (low-exp params) pair.state.locals state.locals; heap = low-heap structs params pair.state.heap state.heap };
+  state =
+      record {
+        locals = All-weaker (IsExp widest params) IsLow (low-exp params) pair.state.locals state.locals;
+        heap = low-heap structs params pair.state.heap state.heap;
+      };
 }
 
 -- and they are few
 pub given_is_few : (setting : Setting) (pair : Pair) → IsGood setting → IsGiven setting pair → length (pair_variables pair) ≤ 300000000
 given_is_few setting pair good given =
     let locals : length pair.state.locals ≤ 32768 = given.slots in
-    let one : IsWithinSizes pair.state.heap = well_formed_is_within_sizes setting.structs setting.params pair.state.heap good.structs given.state.heap in
-    let other : IsWithinSizes pair.missing = well_formed_is_within_sizes setting.structs setting.params pair.missing good.structs given.missing in
+    let one : IsWithinSizes pair.state.heap =
+    well_formed_is_within_sizes setting.structs setting.params pair.state.heap good.structs given.state.heap in
+    let other : IsWithinSizes pair.missing =
+    well_formed_is_within_sizes setting.structs setting.params pair.missing good.structs given.missing in
     let first : length (with_state [] pair.state) ≤ 0 + length pair.state.locals + 131076000 = few_state_variables [] pair.state one in
-    let later : length (pair_variables pair) ≤ length (with_state [] pair.state) + 131076000 = few_heap_variables (with_state [] pair.state) pair.missing other in
+    let later : length (pair_variables pair) ≤ length (with_state [] pair.state) + 131076000 =
+    few_heap_variables (with_state [] pair.state) pair.missing other in
     omega arith
 
 -- a given pair is within the room of well-formed ones
-pub given_is_within : (setting : Setting) (pair : Pair) → IsGiven setting pair → IsPairWithin setting.structs setting.params (length pair.state.locals) 4000 8000 pair
+pub given_is_within : (setting : Setting) (pair : Pair) → IsGiven setting pair
+    → IsPairWithin setting.structs setting.params (length pair.state.locals) 4000 8000 pair
 given_is_within setting pair given =
     let parts : length pair.state.heap.pure + length pair.state.heap.spatial ≤ 4000 = given.state.heap.parts in
     let others : length pair.missing.pure + length pair.missing.spatial ≤ 4000 = given.missing.parts in
@@ -72,12 +82,16 @@ given_is_within setting pair given =
 
 -- what operands stand for is well formed
 operand-exp : (setting : Setting) (pair : Pair) → IsGiven setting pair → (from : Operand) → IsExp widest setting.params (operand pair from)
-operand-exp setting pair given (Slot slot) = All-or (IsExp widest setting.params) pair.state.locals slot (Const (pos 0)) tt given.state.locals
+operand-exp setting pair given (Slot slot) =
+    All-or (IsExp widest setting.params) pair.state.locals slot (Const (pos 0)) tt given.state.locals
 operand-exp setting pair given (Num n) = tt
 
-pub operands_are_exps : (setting : Setting) (pair : Pair) → IsGiven setting pair → (args : List Operand) → All (IsExp widest setting.params) (map (operand pair) args)
+pub operands_are_exps : (setting : Setting) (pair : Pair) → IsGiven setting pair → (args : List Operand)
+    → All (IsExp widest setting.params) (map (operand pair) args)
 operands_are_exps setting pair given args = each args
   where
     each : (some : List Operand) → All (IsExp widest setting.params) (map (operand pair) some)
     each [] = All-nil (IsExp widest setting.params)
-    each (arg ∷ others) = All-cons (IsExp widest setting.params) (operand pair arg) (map (operand pair) others) (operand-exp setting pair given arg) (each others)
+    each (arg ∷ others) =
+        All-cons (IsExp widest setting.params) (operand pair arg) (map (operand pair) others) (operand-exp setting pair given arg)
+        (each others)

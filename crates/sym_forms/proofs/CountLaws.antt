@@ -23,17 +23,20 @@ module _ {A : Type 0} (test : A → Bool) where
   count-append [] ys = omega arith
   count-append (x ∷ xs) ys = by_test (test x) refl (count-append xs ys)
     where
-      by_test : (b : Bool) → test x ≡ b → count test (xs ++ ys) ≡ count test xs + count test ys → count test (x ∷ xs ++ ys) ≡ count test (x ∷ xs) + count test ys
+      by_test : (b : Bool) → test x ≡ b → count test (xs ++ ys) ≡ count test xs + count test ys →
+          count test (x ∷ xs ++ ys) ≡ count test (x ∷ xs) + count test ys
       by_test true e k = rw e (omega (arith, k))
       by_test false e k = rw e k
 
   -- those that pass another test, and those that don't
-  pub count-parted : (other : A → Bool) (xs : List A) → count test (filter other xs) + count test (filter (λ x. not (other x)) xs) ≡ count test xs
+  pub count-parted : (other : A → Bool) (xs : List A) →
+      count test (filter other xs) + count test (filter (λ x. not (other x)) xs) ≡ count test xs
   count-parted other [] = omega arith
   count-parted other (x ∷ xs) = by_other (other x) refl (count-parted other xs)
     where
       by_both : (b : Bool) → test x ≡ b → count test (filter other xs) + count test (filter (λ y. not (other y)) xs) ≡ count test xs →
-          (count test (x ∷ filter other xs) + count test (filter (λ y. not (other y)) xs) ≡ count test (x ∷ xs)) × (count test (filter other xs) + count test (x ∷ filter (λ y. not (other y)) xs) ≡ count test (x ∷ xs))
+          (count test (x ∷ filter other xs) + count test (filter (λ y. not (other y)) xs) ≡ count test (x ∷ xs))
+          × (count test (filter other xs) + count test (x ∷ filter (λ y. not (other y)) xs) ≡ count test (x ∷ xs))
       by_both true e k = rw e (omega (arith, k), omega (arith, k))
       by_both false e k = rw e (k, k)
 
@@ -56,14 +59,17 @@ module _ {A : Type 0} (test : A → Bool) where
   none-count (x ∷ xs) h = let parts = or_parts (test x) (list_any test xs) h in rw parts.0 (none-count xs parts.1)
 
   pub count-none : (xs : List A) → count test xs ≡ 0 → list_any test xs ≡ false
-  count-none xs h = false_from_ne_true (list_any test xs) (λ some. let one : 1 ≤ count test xs = leb-true 1 (count test xs) (sym (any-count xs) ∙ some) in omega (arith, one, h))
+  count-none xs h =
+      false_from_ne_true (list_any test xs)
+      (λ some. let one : 1 ≤ count test xs = leb-true 1 (count test xs) (sym (any-count xs) ∙ some) in omega (arith, one, h))
 
   -- all pass where no one fails
   pub all-any : (xs : List A) → list_all test xs ≡ not (list_any (λ x. not (test x)) xs)
   all-any [] = refl
   all-any (x ∷ xs) = by_test (test x) refl (all-any xs)
     where
-      by_test : (b : Bool) → test x ≡ b → list_all test xs ≡ not (list_any (λ y. not (test y)) xs) → list_all test (x ∷ xs) ≡ not (list_any (λ y. not (test y)) (x ∷ xs))
+      by_test : (b : Bool) → test x ≡ b → list_all test xs ≡ not (list_any (λ y. not (test y)) xs) →
+          list_all test (x ∷ xs) ≡ not (list_any (λ y. not (test y)) (x ∷ xs))
       by_test true e k = rw e k
       by_test false e k = rw e refl
 
@@ -104,7 +110,8 @@ module _ {A : Type 0} (stands : A → Option Exp) where
   any-stands e [] = refl
   any-stands e (x ∷ xs) = by_option (stands x) refl (any-stands e xs)
     where
-      by_option : (o : Option Exp) → stands x ≡ o → is_among e (filter_map stands xs) ≡ list_any (λ y. holds e (stands y)) xs → is_among e (filter_map stands (x ∷ xs)) ≡ list_any (λ y. holds e (stands y)) (x ∷ xs)
+      by_option : (o : Option Exp) → stands x ≡ o → is_among e (filter_map stands xs) ≡ list_any (λ y. holds e (stands y)) xs →
+          is_among e (filter_map stands (x ∷ xs)) ≡ list_any (λ y. holds e (stands y)) (x ∷ xs)
       by_option None f k = rw f k
       by_option (Some g) f k = rw f (ap (λ b. same_exp e g || b) k)
 
@@ -112,7 +119,8 @@ module _ {A : Type 0} (stands : A → Option Exp) where
   count-stands e [] = refl
   count-stands e (x ∷ xs) = by_option (stands x) refl (count-stands e xs)
     where
-      by_option : (o : Option Exp) → stands x ≡ o → count (same_exp e) (filter_map stands xs) ≡ count (λ y. holds e (stands y)) xs → count (same_exp e) (filter_map stands (x ∷ xs)) ≡ count (λ y. holds e (stands y)) (x ∷ xs)
+      by_option : (o : Option Exp) → stands x ≡ o → count (same_exp e) (filter_map stands xs) ≡ count (λ y. holds e (stands y)) xs →
+          count (same_exp e) (filter_map stands (x ∷ xs)) ≡ count (λ y. holds e (stands y)) (x ∷ xs)
       by_option None f k = rw f k
       by_option (Some g) f k = rw f (ap (λ n. if same_exp e g then suc n else n) k)
 
@@ -124,7 +132,8 @@ AreSingle es = (e : Exp) → count (same_exp e) es ≤ 1
 
 pub single-from : (es : List Exp) → has_double es ≡ false → AreSingle es
 single-from [] h e = omega arith
-single-from (f ∷ fs) h e = let parts = or_parts (is_among f fs) (has_double fs) h in by_test (same_exp e f) refl parts.0 (single-from fs parts.1 e)
+single-from (f ∷ fs) h e =
+    let parts = or_parts (is_among f fs) (has_double fs) h in by_test (same_exp e f) refl parts.0 (single-from fs parts.1 e)
   where
     by_test : (b : Bool) → same_exp e f ≡ b → is_among f fs ≡ false → count (same_exp e) fs ≤ 1 → count (same_exp e) (f ∷ fs) ≤ 1
     by_test true g apart few =

@@ -18,7 +18,8 @@ use Rattle.sym_laws.specs.Junks.{is_junk}
 use Rattle.sym_laws.specs.Mapped.{on_atom, on_fact, on_heap, on_state, renamed}
 use Rattle.sym_pure.specs.Contradictions.{has_clash, has_same_sides}
 use Rattle.sym_pure.specs.Emptying.{is_empty, is_plain}
-use Rattle.sym_pure.specs.IsNormal.{are_in_order, are_normal_atoms, are_normal_facts, has_redundant, has_two_junk, is_below, is_disequality, is_normal, is_normal_heap, is_read, is_read_atom, is_read_fact, is_solved_in}
+use Rattle.sym_pure.specs.IsNormal.{are_in_order, are_normal_atoms, are_normal_facts, has_redundant, has_two_junk, is_below, is_disequality}
+use Rattle.sym_pure.specs.IsNormal.{is_normal, is_normal_heap, is_read, is_read_atom, is_read_fact, is_solved_in}
 use Rattle.sym_pure.specs.Redundancy.{are_constants, is_redundant}
 use Rattle.sym_pure.specs.Sources.{are_unequal_constants, do_ends_differ, is_written, source_of, sources}
 
@@ -28,11 +29,13 @@ on_some f None = None
 on_some f (Some e) = Some (f e)
 
 -- a test of mapped elements
-any-map : {A : Type 0} (f : A → A) (test other : A → Bool) → ((x : A) → test (f x) ≡ other x) → (xs : List A) → list_any test (map f xs) ≡ list_any other xs
+any-map : {A : Type 0} (f : A → A) (test other : A → Bool) → ((x : A) → test (f x) ≡ other x) → (xs : List A) →
+    list_any test (map f xs) ≡ list_any other xs
 any-map f test other agree [] = refl
 any-map f test other agree (x ∷ xs) = ap₂ (λ b d. b || d) (agree x) (any-map f test other agree xs)
 
-all-map : {A : Type 0} (f : A → A) (test other : A → Bool) → ((x : A) → test (f x) ≡ other x) → (xs : List A) → list_all test (map f xs) ≡ list_all other xs
+all-map : {A : Type 0} (f : A → A) (test other : A → Bool) → ((x : A) → test (f x) ≡ other x) → (xs : List A) →
+    list_all test (map f xs) ≡ list_all other xs
 all-map f test other agree [] = refl
 all-map f test other agree (x ∷ xs) = ap₂ (λ b d. b && d) (agree x) (all-map f test other agree xs)
 
@@ -80,32 +83,39 @@ module _ (number back : ℕ → ℕ) (undone : (x : ℕ) → back (number x) ≡
   constants-same (Const m) (Var y) = refl
   constants-same (Const m) (Const n) = refl
 
-  written-same : (facts : List Fact) (e g : Exp) → is_written (map (on_fact (renamed number)) facts) (renamed number e) (renamed number g) ≡ is_written facts e g
+  written-same : (facts : List Fact) (e g : Exp) →
+      is_written (map (on_fact (renamed number)) facts) (renamed number e) (renamed number g) ≡ is_written facts e g
   written-same [] e g = refl
   written-same (Eq left right ∷ facts) e g = written-same facts e g
   written-same (Ne left right ∷ facts) e g =
       ap₂ (λ b d. b || d) (ap₂ (λ b d. b && d) (exp-same left e) (exp-same right g))
       (ap₂ (λ b d. b || d) (ap₂ (λ b d. b && d) (exp-same left g) (exp-same right e)) (written-same facts e g))
 
-  differ-same : (facts : List Fact) (from to : Exp) → do_ends_differ (map (on_fact (renamed number)) facts) (renamed number from) (renamed number to) ≡ do_ends_differ facts from to
+  differ-same : (facts : List Fact) (from to : Exp) →
+      do_ends_differ (map (on_fact (renamed number)) facts) (renamed number from) (renamed number to) ≡ do_ends_differ facts from to
   differ-same facts from to = ap₂ (λ b d. b || d) (unequal-same from to) (written-same facts from to)
 
   if-some : (b : Bool) (e : Exp) → (if b then Some (renamed number e) else None) ≡ on_some (renamed number) (if b then Some e else None)
   if-some true e = refl
   if-some false e = refl
 
-  source-same : (facts : List Fact) (atom : Atom) → source_of (map (on_fact (renamed number)) facts) (on_atom (renamed number) atom) ≡ on_some (renamed number) (source_of facts atom)
+  source-same : (facts : List Fact) (atom : Atom) →
+      source_of (map (on_fact (renamed number)) facts) (on_atom (renamed number) atom) ≡ on_some (renamed number) (source_of facts atom)
   source-same facts (Points at kind fields) = refl
-  source-same facts (Seg kind link from to) = ap (λ (b : Bool). if b then Some (renamed number from) else None) (differ-same facts from to) ∙ if-some (do_ends_differ facts from to) from
+  source-same facts (Seg kind link from to) = ap (λ (b : Bool). if b then Some (renamed number from) else None) (differ-same facts from to)
+      ∙ if-some (do_ends_differ facts from to) from
   source-same facts Junk = refl
 
-  cons-same : (o : Option Exp) (es : List Exp) → cons_option (on_some (renamed number) o) (map (renamed number) es) ≡ map (renamed number) (cons_option o es)
+  cons-same : (o : Option Exp) (es : List Exp) →
+      cons_option (on_some (renamed number) o) (map (renamed number) es) ≡ map (renamed number) (cons_option o es)
   cons-same None es = refl
   cons-same (Some e) es = refl
 
-  sources-same : (facts : List Fact) (atoms : List Atom) → sources (map (on_fact (renamed number)) facts) (map (on_atom (renamed number)) atoms) ≡ map (renamed number) (sources facts atoms)
+  sources-same : (facts : List Fact) (atoms : List Atom) →
+      sources (map (on_fact (renamed number)) facts) (map (on_atom (renamed number)) atoms) ≡ map (renamed number) (sources facts atoms)
   sources-same facts [] = refl
-  sources-same facts (atom ∷ atoms) = ap₂ (λ o es. cons_option o es) (source-same facts atom) (sources-same facts atoms) ∙ cons-same (source_of facts atom) (sources facts atoms)
+  sources-same facts (atom ∷ atoms) = ap₂ (λ o es. cons_option o es) (source-same facts atom) (sources-same facts atoms)
+      ∙ cons-same (source_of facts atom) (sources facts atoms)
 
   address-same : (atom : Atom) → address_of (on_atom (renamed number) atom) ≡ on_some (renamed number) (address_of atom)
   address-same (Points at kind fields) = refl
@@ -114,33 +124,43 @@ module _ (number back : ℕ → ℕ) (undone : (x : ℕ) → back (number x) ≡
 
   addresses-same : (atoms : List Atom) → addresses (map (on_atom (renamed number)) atoms) ≡ map (renamed number) (addresses atoms)
   addresses-same [] = refl
-  addresses-same (atom ∷ atoms) = ap₂ (λ o es. cons_option o es) (address-same atom) (addresses-same atoms) ∙ cons-same (address_of atom) (addresses atoms)
+  addresses-same (atom ∷ atoms) =
+      ap₂ (λ o es. cons_option o es) (address-same atom) (addresses-same atoms) ∙ cons-same (address_of atom) (addresses atoms)
 
   same_sides-same : (facts : List Fact) → has_same_sides (map (on_fact (renamed number)) facts) ≡ has_same_sides facts
   same_sides-same [] = refl
   same_sides-same (Eq left right ∷ facts) = same_sides-same facts
   same_sides-same (Ne left right ∷ facts) = ap₂ (λ b d. b || d) (exp-same left right) (same_sides-same facts)
 
-  clash-same : (facts : List Fact) (atoms : List Atom) → has_clash (map (on_fact (renamed number)) facts) (map (on_atom (renamed number)) atoms) ≡ has_clash facts atoms
+  clash-same : (facts : List Fact) (atoms : List Atom) →
+      has_clash (map (on_fact (renamed number)) facts) (map (on_atom (renamed number)) atoms) ≡ has_clash facts atoms
   clash-same facts atoms =
       ap₂ (λ b d. b || d) (same_sides-same facts)
       (ap (λ es. is_among (Const (pos 0)) es || has_double es) (sources-same facts atoms)
       ∙ ap₂ (λ b d. b || d) (among-same (Const (pos 0)) (sources facts atoms)) (double-same (sources facts atoms)))
 
-  plain-same : (atoms : List Atom) (e : Exp) → is_plain (addresses (map (on_atom (renamed number)) atoms)) (renamed number e) ≡ is_plain (addresses atoms) e
-  plain-same atoms e = ap₂ (λ b d. b || d) (null-same e) (ap (λ es. is_among (renamed number e) es) (addresses-same atoms) ∙ among-same e (addresses atoms))
+  plain-same : (atoms : List Atom) (e : Exp) →
+      is_plain (addresses (map (on_atom (renamed number)) atoms)) (renamed number e) ≡ is_plain (addresses atoms) e
+  plain-same atoms e =
+      ap₂ (λ b d. b || d) (null-same e) (ap (λ es. is_among (renamed number e) es) (addresses-same atoms) ∙ among-same e (addresses atoms))
 
   redundant-same : (atoms : List Atom) (kept : List Fact) (left right : Exp) →
-      is_redundant (addresses (map (on_atom (renamed number)) atoms)) (map (on_fact (renamed number)) kept) (renamed number left) (renamed number right) ≡ is_redundant (addresses atoms) kept left right
+      is_redundant (addresses (map (on_atom (renamed number)) atoms)) (map (on_fact (renamed number)) kept) (renamed number left)
+      (renamed number right) ≡ is_redundant (addresses atoms) kept left right
   redundant-same atoms kept left right =
-      ap₂ (λ b d. b || d) (constants-same left right) (ap₂ (λ b d. b || d) (ap₂ (λ b d. b && d) (plain-same atoms left) (plain-same atoms right)) (written-same kept left right))
+      ap₂ (λ b d. b || d) (constants-same left right)
+      (ap₂ (λ b d. b || d) (ap₂ (λ b d. b && d) (plain-same atoms left) (plain-same atoms right)) (written-same kept left right))
 
-  has_redundant-same : (atoms : List Atom) (facts : List Fact) → has_redundant (addresses (map (on_atom (renamed number)) atoms)) (map (on_fact (renamed number)) facts) ≡ has_redundant (addresses atoms) facts
+  has_redundant-same : (atoms : List Atom) (facts : List Fact) →
+      has_redundant (addresses (map (on_atom (renamed number)) atoms)) (map (on_fact (renamed number)) facts)
+      ≡ has_redundant (addresses atoms) facts
   has_redundant-same atoms [] = refl
   has_redundant-same atoms (Eq left right ∷ facts) = has_redundant-same atoms facts
-  has_redundant-same atoms (Ne left right ∷ facts) = ap₂ (λ b d. b || d) (redundant-same atoms facts left right) (has_redundant-same atoms facts)
+  has_redundant-same atoms (Ne left right ∷ facts) =
+      ap₂ (λ b d. b || d) (redundant-same atoms facts left right) (has_redundant-same atoms facts)
 
-  empty-same : (atoms : List Atom) (atom : Atom) → is_empty [] (addresses (map (on_atom (renamed number)) atoms)) (on_atom (renamed number) atom) ≡ is_empty [] (addresses atoms) atom
+  empty-same : (atoms : List Atom) (atom : Atom) →
+      is_empty [] (addresses (map (on_atom (renamed number)) atoms)) (on_atom (renamed number) atom) ≡ is_empty [] (addresses atoms) atom
   empty-same atoms (Points at kind fields) = refl
   empty-same atoms (Seg kind link from to) = plain-same atoms from
   empty-same atoms Junk = refl
@@ -153,7 +173,8 @@ module _ (number back : ℕ → ℕ) (undone : (x : ℕ) → back (number x) ≡
   two_junk-same : (atoms : List Atom) → has_two_junk (map (on_atom (renamed number)) atoms) ≡ has_two_junk atoms
   two_junk-same [] = refl
   two_junk-same (atom ∷ atoms) =
-      ap₂ (λ b d. b || d) (ap₂ (λ b d. b && d) (junk-same atom) (any-map (on_atom (renamed number)) is_junk is_junk junk-same atoms)) (two_junk-same atoms)
+      ap₂ (λ b d. b || d) (ap₂ (λ b d. b && d) (junk-same atom) (any-map (on_atom (renamed number)) is_junk is_junk junk-same atoms))
+      (two_junk-same atoms)
 
   solved-same : (facts : List Fact) (x : ℕ) → is_solved_in (map (on_fact (renamed number)) facts) (number x) ≡ is_solved_in facts x
   solved-same [] x = refl
@@ -165,14 +186,17 @@ module _ (number back : ℕ → ℕ) (undone : (x : ℕ) → back (number x) ≡
   read-same facts (Var x) = ap not (solved-same facts x)
   read-same facts (Const n) = refl
 
-  reads-same : (facts : List Fact) (es : List Exp) → list_all (is_read (map (on_fact (renamed number)) facts)) (map (renamed number) es) ≡ list_all (is_read facts) es
+  reads-same : (facts : List Fact) (es : List Exp) →
+      list_all (is_read (map (on_fact (renamed number)) facts)) (map (renamed number) es) ≡ list_all (is_read facts) es
   reads-same facts es = all-map (renamed number) (is_read (map (on_fact (renamed number)) facts)) (is_read facts) (read-same facts) es
 
-  read_fact-same : (facts : List Fact) (fact : Fact) → is_read_fact (map (on_fact (renamed number)) facts) (on_fact (renamed number) fact) ≡ is_read_fact facts fact
+  read_fact-same : (facts : List Fact) (fact : Fact) →
+      is_read_fact (map (on_fact (renamed number)) facts) (on_fact (renamed number) fact) ≡ is_read_fact facts fact
   read_fact-same facts (Eq left right) = read-same facts right
   read_fact-same facts (Ne left right) = ap₂ (λ b d. b && d) (read-same facts left) (read-same facts right)
 
-  read_atom-same : (facts : List Fact) (atom : Atom) → is_read_atom (map (on_fact (renamed number)) facts) (on_atom (renamed number) atom) ≡ is_read_atom facts atom
+  read_atom-same : (facts : List Fact) (atom : Atom) →
+      is_read_atom (map (on_fact (renamed number)) facts) (on_atom (renamed number) atom) ≡ is_read_atom facts atom
   read_atom-same facts (Points at kind fields) = ap₂ (λ b d. b && d) (read-same facts at) (reads-same facts fields)
   read_atom-same facts (Seg kind link from to) = ap₂ (λ b d. b && d) (read-same facts from) (read-same facts to)
   read_atom-same facts Junk = refl
@@ -187,38 +211,52 @@ module _ (number back : ℕ → ℕ) (undone : (x : ℕ) → back (number x) ≡
     below-same x low (Var y) h = let under : y < x = ltb-true y x h in rw (keeps y (omega (arith, under, low))) h
     below-same x low (Const n) h = refl
 
-    order-same : (facts : List Fact) (low : ℕ) → AreOfLow limit facts → are_in_order low facts ≡ true → are_in_order low (map (on_fact (renamed number)) facts) ≡ true
+    order-same : (facts : List Fact) (low : ℕ) → AreOfLow limit facts → are_in_order low facts ≡ true →
+        are_in_order low (map (on_fact (renamed number)) facts) ≡ true
     order-same [] low are h = refl
     order-same (Eq (Var x) right ∷ facts) low are h =
         let outer = and_parts (leb low x && ltb x 65536 && is_below x right) (are_in_order (suc x) facts) h in
         let inner = and_parts (leb low x && ltb x 65536) (is_below x right) outer.0 in
         let first : (leb low (number x) && ltb (number x) 65536) ≡ true = rw (keeps x are.0) inner.0 in
         let below : is_below (number x) (renamed number right) ≡ true = rw (keeps x are.0) (below-same x are.0 right inner.1) in
-        let rest : are_in_order (suc (number x)) (map (on_fact (renamed number)) facts) ≡ true = rw (keeps x are.0) (order-same facts (suc x) are.1 outer.1) in
-        and_from (leb low (number x) && ltb (number x) 65536 && is_below (number x) (renamed number right)) (are_in_order (suc (number x)) (map (on_fact (renamed number)) facts))
+        let rest : are_in_order (suc (number x)) (map (on_fact (renamed number)) facts) ≡ true =
+        rw (keeps x are.0) (order-same facts (suc x) are.1 outer.1) in
+        and_from (leb low (number x) && ltb (number x) 65536 && is_below (number x) (renamed number right))
+        (are_in_order (suc (number x)) (map (on_fact (renamed number)) facts))
         (and_from (leb low (number x) && ltb (number x) 65536) (is_below (number x) (renamed number right)) first below) rest
     order-same (Eq (Const n) right ∷ facts) low are h = cc
     order-same (Ne left right ∷ facts) low are h = all-map (on_fact (renamed number)) is_disequality is_disequality diseq-same facts ∙ h
 
-    pub renamed-normal : (state : SymState) → AreOfLow limit state.heap.pure → is_normal state ≡ true → is_normal (on_state (renamed number) state) ≡ true
+    pub renamed-normal : (state : SymState) → AreOfLow limit state.heap.pure → is_normal state ≡ true →
+        is_normal (on_state (renamed number) state) ≡ true
     renamed-normal state are h =
         let parts = and_parts (is_normal_heap state.heap) (list_all (is_read state.heap.pure) state.locals) h in
         let heap = and_parts (facts && spatial) (not (has_clash state.heap.pure state.heap.spatial)) parts.0 in
         let both = and_parts facts spatial heap.0 in
-        let three = and_parts (are_in_order 0 state.heap.pure && list_all (is_read_fact state.heap.pure) state.heap.pure) (not (has_redundant (addresses state.heap.spatial) state.heap.pure)) both.0 in
+        let three =
+        and_parts (are_in_order 0 state.heap.pure && list_all (is_read_fact state.heap.pure) state.heap.pure)
+        (not (has_redundant (addresses state.heap.spatial) state.heap.pure)) both.0 in
         let two = and_parts (are_in_order 0 state.heap.pure) (list_all (is_read_fact state.heap.pure) state.heap.pure) three.0 in
         let new_facts : (are_in_order 0 pure && list_all (is_read_fact pure) pure && not (has_redundant (addresses atoms) pure)) ≡ true =
         and_from (are_in_order 0 pure && list_all (is_read_fact pure) pure) (not (has_redundant (addresses atoms) pure))
         (and_from (are_in_order 0 pure) (list_all (is_read_fact pure) pure) (order-same state.heap.pure 0 are two.0)
-        (all-map (on_fact (renamed number)) (is_read_fact pure) (is_read_fact state.heap.pure) (read_fact-same state.heap.pure) state.heap.pure ∙ two.1))
+        (all-map (on_fact (renamed number)) (is_read_fact pure) (is_read_fact state.heap.pure)
+        (read_fact-same state.heap.pure) state.heap.pure ∙ two.1))
         (ap not (has_redundant-same state.heap.spatial state.heap.pure) ∙ three.1) in
-        let new_atoms : (list_all (is_read_atom pure) atoms && not (list_any (is_empty [] (addresses atoms)) atoms) && not (has_two_junk atoms)) ≡ true =
+        let new_atoms : (list_all (is_read_atom pure) atoms && not (list_any (is_empty [] (addresses atoms)) atoms)
+        && not (has_two_junk atoms)) ≡ true =
         ap₂ (λ b d. b && not d)
-        (ap₂ (λ b d. b && not d) (all-map (on_atom (renamed number)) (is_read_atom pure) (is_read_atom state.heap.pure) (read_atom-same state.heap.pure) state.heap.spatial)
-        (any-map (on_atom (renamed number)) (is_empty [] (addresses atoms)) (is_empty [] (addresses state.heap.spatial)) (empty-same state.heap.spatial) state.heap.spatial)) (two_junk-same state.heap.spatial) ∙ both.1 in
+        (ap₂ (λ b d. b && not d)
+        (all-map (on_atom (renamed number)) (is_read_atom pure) (is_read_atom state.heap.pure)
+        (read_atom-same state.heap.pure) state.heap.spatial)
+        (any-map (on_atom (renamed number)) (is_empty [] (addresses atoms)) (is_empty [] (addresses state.heap.spatial))
+        (empty-same state.heap.spatial) state.heap.spatial)) (two_junk-same state.heap.spatial) ∙ both.1 in
         and_from (is_normal_heap (on_heap (renamed number) state.heap)) (list_all (is_read pure) (map (renamed number) state.locals))
-        (and_from (are_normal_facts (on_heap (renamed number) state.heap) && are_normal_atoms (on_heap (renamed number) state.heap)) (not (has_clash pure atoms))
-        (and_from (are_normal_facts (on_heap (renamed number) state.heap)) (are_normal_atoms (on_heap (renamed number) state.heap)) new_facts new_atoms) (ap not (clash-same state.heap.pure state.heap.spatial) ∙ heap.1))
+        (and_from (are_normal_facts (on_heap (renamed number) state.heap) && are_normal_atoms (on_heap (renamed number) state.heap))
+        (not (has_clash pure atoms))
+        (and_from (are_normal_facts (on_heap (renamed number) state.heap))
+        (are_normal_atoms (on_heap (renamed number) state.heap)) new_facts new_atoms)
+        (ap not (clash-same state.heap.pure state.heap.spatial) ∙ heap.1))
         (reads-same state.heap.pure state.locals ∙ parts.1)
       where
         pure : List Fact

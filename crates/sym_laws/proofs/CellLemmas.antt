@@ -19,7 +19,8 @@ pub put_is_sum : PutIsSum
 put_is_sum structs cell heap above shape none is_heap = IsSum-put cell above shape none (IsSum-unit is_heap)
 
 -- the other part has no cell at the address
-outside : {structs : List StructDef} (cell : Cell) (whole rest : List Cell) → IsSum structs whole (cell ∷ []) rest → cell_at rest cell.at ≡ None
+outside : {structs : List StructDef} (cell : Cell) (whole rest : List Cell) → IsSum structs whole (cell ∷ []) rest
+    → cell_at rest cell.at ≡ None
 outside cell whole rest sum = sum.apart cell.at (some_there (cell_at (cell ∷ []) cell.at) cell (at_first cell []))
 
 pub without_is_rest : WithoutIsRest
@@ -29,5 +30,6 @@ without_is_rest structs cell whole rest sum =
 
 pub written_is_sum : WrittenIsSum
 written_is_sum structs cell whole rest field number sum =
-    let written : with_field (cell ∷ []) cell.at field number ≡ record cell { fields = slice_set cell.fields field number } ∷ [] = simp (at_itself cell.at) in
+    let written : with_field (cell ∷ []) cell.at field number ≡ record cell { fields = slice_set cell.fields field number } ∷ [] =
+    simp (at_itself cell.at) in
     rw written at (IsSum-with_field cell.at field number (outside cell whole rest sum) sum)

@@ -25,14 +25,16 @@ module _ (P Q : Exp → Type 0) (f : Exp → Exp) (gives : (e : Exp) → P e →
   each-on_atom Junk h = tt
 
   pub each-on_atoms : (atoms : List Atom) → All (EachInAtom P) atoms → All (EachInAtom Q) (map (on_atom f) atoms)
-  each-on_atoms atoms h = All-map (EachInAtom Q) (on_atom f) atoms (All-weaker (EachInAtom P) (λ atom. EachInAtom Q (on_atom f atom)) each-on_atom atoms h)
+  each-on_atoms atoms h =
+      All-map (EachInAtom Q) (on_atom f) atoms (All-weaker (EachInAtom P) (λ atom. EachInAtom Q (on_atom f atom)) each-on_atom atoms h)
 
   pub each-on_fact : (fact : Fact) → EachInFact P fact → EachInFact Q (on_fact f fact)
   each-on_fact (Eq left right) h = (gives left h.0, gives right h.1)
   each-on_fact (Ne left right) h = (gives left h.0, gives right h.1)
 
   pub each-on_facts : (facts : List Fact) → All (EachInFact P) facts → All (EachInFact Q) (map (on_fact f) facts)
-  each-on_facts facts h = All-map (EachInFact Q) (on_fact f) facts (All-weaker (EachInFact P) (λ fact. EachInFact Q (on_fact f fact)) each-on_fact facts h)
+  each-on_facts facts h =
+      All-map (EachInFact Q) (on_fact f) facts (All-weaker (EachInFact P) (λ fact. EachInFact Q (on_fact f fact)) each-on_fact facts h)
 
 -- where P holds of every expression, it holds of each of an atom and of a fact
 module _ (P : Exp → Type 0) (all : (e : Exp) → P e) where

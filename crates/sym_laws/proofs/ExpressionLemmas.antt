@@ -29,13 +29,17 @@ same_exp-sym e f = by_test (same_exp e f) refl (same_exp f e) refl
     by_test false g false h = cc
 
 -- two different expressions of a list stand at two places
-pub are_two-different : (e f : Exp) (es : List Exp) → same_exp e f ≡ false → is_among e es ≡ true → is_among f es ≡ true → are_two e f es ≡ true
+pub are_two-different : (e f : Exp) (es : List Exp) → same_exp e f ≡ false → is_among e es ≡ true → is_among f es ≡ true
+    → are_two e f es ≡ true
 are_two-different e f [] apart e_in f_in = cc
 are_two-different e f (g ∷ gs) apart e_in f_in =
-    ⊎_elim (λ e_here. ⊎_elim (λ f_here. absurd (both_here e_here f_here)) (λ f_later. or_left (same_exp e g && is_among f gs) _ (and_from (same_exp e g) (is_among f gs) e_here f_later)) (or_cases (same_exp f g) (is_among f gs) f_in))
+    ⊎_elim (λ e_here. ⊎_elim (λ f_here. absurd (both_here e_here f_here))
+    (λ f_later. or_left (same_exp e g && is_among f gs) _ (and_from (same_exp e g) (is_among f gs) e_here f_later))
+    (or_cases (same_exp f g) (is_among f gs) f_in))
     (λ e_later. or_right (same_exp e g && is_among f gs) ((same_exp f g && is_among e gs) || are_two e f gs)
     (⊎_elim (λ f_here. or_left (same_exp f g && is_among e gs) (are_two e f gs) (and_from (same_exp f g) (is_among e gs) f_here e_later))
-    (λ f_later. or_right (same_exp f g && is_among e gs) (are_two e f gs) (are_two-different e f gs apart e_later f_later)) (or_cases (same_exp f g) (is_among f gs) f_in)))
+    (λ f_later. or_right (same_exp f g && is_among e gs) (are_two e f gs) (are_two-different e f gs apart e_later f_later))
+    (or_cases (same_exp f g) (is_among f gs) f_in)))
     (or_cases (same_exp e g) (is_among e gs) e_in)
   where
     both_here : same_exp e g ≡ true → same_exp f g ≡ true → ⊥

@@ -7,7 +7,8 @@ use Rattle.shape_data.specs.declared.symbolic.Exp.TheVariants.{Var, Const}
 use Rattle.shape_data.specs.declared.symbolic.Post.{Post}
 use Rattle.shape_data.specs.declared.symbolic.SymState.{SymState}
 use Rattle.shape_data.specs.Meaning.{value, AgreesOnLogical, MeetsPost, MeetsState}
-use Rattle.sym_laws.specs.Instances.{in_place_of, with_images, ForgottenPostMeets, ForgottenStateMeets, InstanceMeets, InstancePostMeets, InstanceStateMeets, KeepsLogical}
+use Rattle.sym_laws.specs.Instances.{in_place_of, with_images, ForgottenPostMeets, ForgottenStateMeets, InstanceMeets, InstancePostMeets}
+use Rattle.sym_laws.specs.Instances.{InstanceStateMeets, KeepsLogical}
 use Rattle.sym_laws.proofs.MappedLemmas.{Holds-mapped, values-mapped}
 
 -- each variable has the value of what stands in its place
@@ -22,8 +23,11 @@ keeps_logical : (image : ℕ → Exp) → KeepsLogical image → (s t : ℕ → 
 keeps_logical image keeps s t agrees x low = ap (value t) (keeps x low) ∙ agrees x low
 
 pub instance_meets : InstanceMeets
-instance_meets image keeps structs s heap shape meets =
-    (values_of image meets.0, keeps_logical image keeps s meets.0 meets.1, (Holds-mapped meets.0 (values_of image meets.0) (with_images image) (reads_image image meets.0) structs heap shape).0 meets.2)
+instance_meets image keeps structs s heap shape meets = (
+  values_of image meets.0,
+  keeps_logical image keeps s meets.0 meets.1,
+  (Holds-mapped meets.0 (values_of image meets.0) (with_images image) (reads_image image meets.0) structs heap shape).0 meets.2,
+)
 
 pub instance_state_meets : InstanceStateMeets
 instance_state_meets image keeps structs s locals heap state meets = (
@@ -51,8 +55,10 @@ one_keeps x e high y low = by_test (y == x) refl
 
 pub forgotten_state_meets : ForgottenStateMeets
 forgotten_state_meets x e high first forgetting is structs s locals heap meets =
-    instance_state_meets (in_place_of x e) (one_keeps x e high) structs s locals heap forgetting (subst (λ (state : SymState). MeetsState structs s locals heap state) (sym is) meets)
+    instance_state_meets (in_place_of x e) (one_keeps x e high) structs s locals heap forgetting
+    (subst (λ (state : SymState). MeetsState structs s locals heap state) (sym is) meets)
 
 pub forgotten_post_meets : ForgottenPostMeets
 forgotten_post_meets x e high first forgetting is structs s ret heap meets =
-    instance_post_meets (in_place_of x e) (one_keeps x e high) structs s ret heap forgetting (subst (λ (post : Post). MeetsPost structs s ret heap post) (sym is) meets)
+    instance_post_meets (in_place_of x e) (one_keeps x e high) structs s ret heap forgetting
+    (subst (λ (post : Post). MeetsPost structs s ret heap post) (sym is) meets)

@@ -25,20 +25,25 @@ pub segment_may_be_empty : SegmentMayBeEmpty
 segment_may_be_empty structs t kind link from to others heap same h =
     ([], heap, IsSum-unit (HoldsAtoms-is_heap structs t others h), ([], same, refl), h)
 
-module _ (structs : List StructDef) (t : ℕ → ℤ) (kind : List ℕ) (link : ℕ) (from to : Exp) (others : List Atom) (names : List ℕ) (next : ℕ) (heap : List Cell)
+module _ (structs : List StructDef) (t : ℕ → ℤ) (kind : List ℕ) (link : ℕ) (from to : Exp) (others : List Atom) (names : List ℕ) (next : ℕ)
+    (heap : List Cell)
     (fit : AreFieldNames structs kind link (Seg kind link from to ∷ others) names next) where
   new_in_segment : (x : ℕ) → is_one_of names x ≡ true → (is_variable x from ≡ false) × (is_variable x to ≡ false)
-  new_in_segment x is = or_parts (is_variable x from) (is_variable x to) (or_parts (occurs_in_atom x (Seg kind link from to)) (list_any (occurs_in_atom x) others) (fit.new x is)).0
+  new_in_segment x is =
+      or_parts (is_variable x from) (is_variable x to)
+      (or_parts (occurs_in_atom x (Seg kind link from to)) (list_any (occurs_in_atom x) others) (fit.new x is)).0
 
   new_in_others : AreNewIn others names
   new_in_others x is = (or_parts (occurs_in_atom x (Seg kind link from to)) (list_any (occurs_in_atom x) others) (fit.new x is)).1
 
   -- the first cell of the chain, with its numbers for the new variables
   unfolded_at : (own rest : List Cell) → IsSum structs heap own rest → HoldsAtoms structs t others rest →
-      (cell : Cell) (cells inner : List Cell) → cell.at ≡ value t from → cell.kind ≡ kind → IsChain kind link (slice_index_or cell.fields link (pos 0)) (value t to) cells →
+      (cell : Cell) (cells inner : List Cell) → cell.at ≡ value t from → cell.kind ≡ kind →
+      IsChain kind link (slice_index_or cell.fields link (pos 0)) (value t to) cells →
       IsSum structs own (cell ∷ []) inner → IsSumOf structs cells inner →
       HoldsAtoms structs (assign names cell.fields t) (Points from kind (map Var names) ∷ Seg kind link (Var next) to ∷ others) heap
-  unfolded_at own rest sum others_hold cell cells inner at_is kind_is chain first parts = (cell ∷ [], split.0, split.1, is_cell, (inner, rest, split.2, (cells, is_chain, parts), others_are))
+  unfolded_at own rest sum others_hold cell cells inner at_is kind_is chain first parts =
+      (cell ∷ [], split.0, split.1, is_cell, (inner, rest, split.2, (cells, is_chain, parts), others_are))
     where
       split : (beside : List Cell) × IsSum structs heap (cell ∷ []) beside × IsSum structs beside inner rest
       split = IsSum-to_right sum first
@@ -72,21 +77,29 @@ module _ (structs : List StructDef) (t : ℕ → ℤ) (kind : List ℕ) (link : 
 
   pub segment-unfolds : HoldsAtoms structs t (Seg kind link from to ∷ others) heap →
       ((value t from ≡ value t to) × HoldsAtoms structs t others heap)
-      ⊎ ((u : ℕ → ℤ) × AgreeButFor names t u × HoldsAtoms structs u (Points from kind (map Var names) ∷ Seg kind link (Var next) to ∷ others) heap)
+      ⊎ ((u : ℕ → ℤ) × AgreeButFor names t u
+      × HoldsAtoms structs u (Points from kind (map Var names) ∷ Seg kind link (Var next) to ∷ others) heap)
   segment-unfolds h = by_cells h.3.0 h.3.1 h.3.2
     where
       by_cells : (cells : List Cell) → IsChain kind link (value t from) (value t to) cells → IsSumOf structs cells h.0 →
           ((value t from ≡ value t to) × HoldsAtoms structs t others heap)
-          ⊎ ((u : ℕ → ℤ) × AgreeButFor names t u × HoldsAtoms structs u (Points from kind (map Var names) ∷ Seg kind link (Var next) to ∷ others) heap)
+          ⊎ ((u : ℕ → ℤ) × AgreeButFor names t u
+          × HoldsAtoms structs u (Points from kind (map Var names) ∷ Seg kind link (Var next) to ∷ others) heap)
       by_cells [] chain parts =
           let alone : IsSum structs heap [] h.1 = rw parts at h.2 in
           let same : heap ≡ h.1 = IsSum-empty_left alone in
           inl (chain, rw same h.4)
       by_cells (cell ∷ cells) chain parts =
-          inr (assign names cell.fields t, assign-agrees names cell.fields t, unfolded_at h.0 h.1 h.2 h.4 cell cells parts.0 chain.0 chain.1 chain.2 parts.1 parts.2)
+          inr (
+            assign names cell.fields t,
+            assign-agrees names cell.fields t,
+            unfolded_at h.0 h.1 h.2 h.4 cell cells parts.0 chain.0 chain.1
+                chain.2 parts.1 parts.2,
+          )
 
 pub segment_unfolds : SegmentUnfolds
-segment_unfolds structs t kind link from to others names next heap fit h = segment-unfolds structs t kind link from to others names next heap fit h
+segment_unfolds structs t kind link from to others names next heap fit h =
+    segment-unfolds structs t kind link from to others names next heap fit h
 
 get_is : (fields : List Exp) (link : ℕ) (to : Exp) → slice_get fields link ≡ Some to → slice_index_or fields link (Const (pos 0)) ≡ to
 get_is [] link to is = cc
@@ -95,7 +108,8 @@ get_is (field ∷ fields) (suc link) to is = get_is fields link to is
 
 pub cell_is_segment : CellIsSegment
 cell_is_segment structs t at kind fields link to others heap is h =
-    let segment : IsSegment structs kind link (value t at) (value t (slice_index_or fields link (Const (pos 0)))) h.0 = Points-segment structs t at kind fields link h.0 h.2.left_is_heap h.3 in
+    let segment : IsSegment structs kind link (value t at) (value t (slice_index_or fields link (Const (pos 0)))) h.0 =
+    Points-segment structs t at kind fields link h.0 h.2.left_is_heap h.3 in
     let to_is : slice_index_or fields link (Const (pos 0)) ≡ to = get_is fields link to is in
     let told : IsSegment structs kind link (value t at) (value t to) h.0 = rw to_is at segment in
     (h.0, h.1, h.2, told, h.4)
@@ -103,5 +117,11 @@ cell_is_segment structs t at kind fields link to others heap is h =
 pub segments_join : SegmentsJoin
 segments_join structs t kind link from middle to others heap h =
     let inner : HoldsAtoms structs t (Seg kind link middle to ∷ others) h.1 = h.4 in
-    let grouped = IsSum-to_left h.2 inner.2 in
-    (grouped.0, inner.1, grouped.1, IsSegment-append structs kind link (value t from) (value t middle) (value t to) grouped.0 h.0 inner.0 grouped.2 h.3 inner.3, inner.4)
+    let grouped = IsSum-to_left h.2 inner.2 in (
+      grouped.0,
+      inner.1,
+      grouped.1,
+      IsSegment-append structs kind link (value t from) (value t middle)
+          (value t to) grouped.0 h.0 inner.0 grouped.2 h.3 inner.3,
+      inner.4,
+    )

@@ -22,7 +22,8 @@ use Rattle.sym_matching.specs.Reading.{is_logical}
 -- ---- lists
 
 pub All-insert : {X : Type 0} (P : X → Type 0) (xs : List X) (place : ℕ) (x : X) → P x → All P xs → All P (insert xs place x)
-All-insert P xs place x one h = All-append P (take place xs) (x ∷ drop place xs) (All-take P place xs h) (All-cons P x (drop place xs) one (All-drop P place xs h))
+All-insert P xs place x one h =
+    All-append P (take place xs) (x ∷ drop place xs) (All-take P place xs h) (All-cons P x (drop place xs) one (All-drop P place xs h))
 
 pub All-or : {X : Type 0} (P : X → Type 0) (xs : List X) (place : ℕ) (other : X) → P other → All P xs → P (slice_index_or xs place other)
 All-or P [] place other none h = none
@@ -56,15 +57,23 @@ module _ (P : Exp → Type 0) (s t : ℕ → ℤ) (same : (e : Exp) → P e → 
   values-alike [] each = refl
   values-alike (e ∷ es) each = ap₂ (λ v vs. v ∷ vs) (same e (All-head P e es each)) (values-alike es (All-tail P e es each))
 
-  pub HoldsAtom-alike : (structs : List StructDef) (atom : Atom) (own : List Cell) → EachInAtom P atom → HoldsAtom structs s atom own → HoldsAtom structs t atom own
+  pub HoldsAtom-alike : (structs : List StructDef) (atom : Atom) (own : List Cell) → EachInAtom P atom → HoldsAtom structs s atom own
+      → HoldsAtom structs t atom own
   HoldsAtom-alike structs (Points at kind fields) own each h = rw (values-alike fields each.1, same at each.0) h
   HoldsAtom-alike structs (Seg kind link from to) own each h = rw (same from each.0, same to each.1) h
   HoldsAtom-alike structs Junk own each h = h
 
-  pub HoldsAtoms-alike : (structs : List StructDef) (atoms : List Atom) (heap : List Cell) → All (EachInAtom P) atoms → HoldsAtoms structs s atoms heap → HoldsAtoms structs t atoms heap
+  pub HoldsAtoms-alike : (structs : List StructDef) (atoms : List Atom) (heap : List Cell) → All (EachInAtom P) atoms
+      → HoldsAtoms structs s atoms heap → HoldsAtoms structs t atoms heap
   HoldsAtoms-alike structs [] heap each h = h
-  HoldsAtoms-alike structs (atom ∷ atoms) heap each h =
-      (h.0, h.1, h.2, HoldsAtom-alike structs atom h.0 (All-head (EachInAtom P) atom atoms each) h.3, HoldsAtoms-alike structs atoms h.1 (All-tail (EachInAtom P) atom atoms each) h.4)
+  HoldsAtoms-alike structs (atom ∷ atoms) heap each h = (
+    h.0,
+    h.1,
+    h.2,
+    HoldsAtom-alike structs atom h.0 (All-head (EachInAtom P) atom atoms each) h.3,
+    HoldsAtoms-alike structs atoms h.1
+        (All-tail (EachInAtom P) atom atoms each) h.4,
+  )
 
   IsTrueFact-alike : (fact : Fact) → EachInFact P fact → IsTrueFact s fact → IsTrueFact t fact
   IsTrueFact-alike (Eq left right) each h = same left each.0 ∙ h ∙ sym (same right each.1)
@@ -72,8 +81,11 @@ module _ (P : Exp → Type 0) (s t : ℕ → ℤ) (same : (e : Exp) → P e → 
 
   pub AreTrueFacts-alike : (facts : List Fact) → All (EachInFact P) facts → AreTrueFacts s facts → AreTrueFacts t facts
   AreTrueFacts-alike [] each h = h
-  AreTrueFacts-alike (fact ∷ facts) each h =
-      (IsTrueFact-alike fact (All-head (EachInFact P) fact facts each) h.0, AreTrueFacts-alike facts (All-tail (EachInFact P) fact facts each) h.1)
+  AreTrueFacts-alike (fact ∷ facts) each h = (
+    IsTrueFact-alike fact (All-head (EachInFact P) fact facts each) h.0,
+    AreTrueFacts-alike facts
+        (All-tail (EachInFact P) fact facts each) h.1,
+  )
 
 -- what holds of each expression may be weaker
 module _ (P Q : Exp → Type 0) (to : (e : Exp) → P e → Q e) where
@@ -123,7 +135,8 @@ kept-name used x h = or_right (ltb x 65536) (is_one_of used x) h
 
 pub kept-more : (used more : List ℕ) → Within used more → (x : ℕ) → is_kept used x ≡ true → is_kept more x ≡ true
 kept-more used more within x h =
-    ⊎_elim (λ low. or_left (ltb x 65536) (is_one_of more x) low) (λ is. or_right (ltb x 65536) (is_one_of more x) (within x is)) (or_cases (ltb x 65536) (is_one_of used x) h)
+    ⊎_elim (λ low. or_left (ltb x 65536) (is_one_of more x) low) (λ is. or_right (ltb x 65536) (is_one_of more x) (within x is))
+    (or_cases (ltb x 65536) (is_one_of used x) h)
 
 pub IsKept-more : (used more : List ℕ) → Within used more → (e : Exp) → IsKept used e → IsKept more e
 IsKept-more used more within (Var x) h = kept-more used more within x h
@@ -133,7 +146,8 @@ IsKept-more used more within (Const n) h = refl
 pub kept-names : (xs more : List ℕ) → Within xs more → All (IsKept more) (map Var xs)
 kept-names [] more within = All-nil (IsKept more)
 kept-names (x ∷ xs) more within =
-    All-cons (IsKept more) (Var x) (map Var xs) (kept-name more x (within x (one_of-first x xs))) (kept-names xs more (λ y h. within y (or_right (y == x) (is_one_of xs y) h)))
+    All-cons (IsKept more) (Var x) (map Var xs) (kept-name more x (within x (one_of-first x xs)))
+    (kept-names xs more (λ y h. within y (or_right (y == x) (is_one_of xs y) h)))
 
 pub AgreesOn-refl : (used : List ℕ) (s : ℕ → ℤ) → AgreesOn used s s
 AgreesOn-refl used s x h = refl

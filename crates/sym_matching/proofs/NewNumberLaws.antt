@@ -15,7 +15,8 @@ passed test (y ∷ xs) x h = by_test (passed test xs x) (test y) refl
     by_test : (is_one_of (filter test xs) x ≡ true → test x ≡ true) → (b : Bool) → test y ≡ b → test x ≡ true
     by_test later true e =
         let all : is_one_of (y ∷ filter test xs) x ≡ true = rw e at h in
-        ⊎_elim (λ here. let same : x ≡ y = eqb-true x y here in ap test same ∙ e) later (or_cases (x == y) (is_one_of (filter test xs) x) all)
+        ⊎_elim (λ here. let same : x ≡ y = eqb-true x y here in ap test same ∙ e) later
+        (or_cases (x == y) (is_one_of (filter test xs) x) all)
     by_test later false e = let all : is_one_of (filter test xs) x ≡ true = rw e at h in later all
 
 -- ---- each once
@@ -37,7 +38,8 @@ distinct_behind-has [] names x = or_none (is_one_of names x)
     or_none : (a : Bool) → a ≡ (a || false)
     or_none true = refl
     or_none false = refl
-distinct_behind-has (y ∷ xs) names x = by_test (is_one_of names y) refl (distinct_behind-has xs names x) (distinct_behind-has xs (names ++ y ∷ []) x)
+distinct_behind-has (y ∷ xs) names x =
+    by_test (is_one_of names y) refl (distinct_behind-has xs names x) (distinct_behind-has xs (names ++ y ∷ []) x)
   where
     found : is_one_of names y ≡ true → (x == y) ≡ true → is_one_of names x ≡ true
     found e h = rw (eqb-true x y h) e
@@ -47,7 +49,8 @@ distinct_behind-has (y ∷ xs) names x = by_test (is_one_of names y) refl (disti
         is_one_of (distinct_behind names (y ∷ xs)) x ≡ (is_one_of names x || is_one_of (y ∷ xs) x)
     by_test true e there new = rw e (there ∙ sym (same_either (is_one_of names x) (x == y) (is_one_of xs x) (found e)))
     by_test false e there new =
-        let more : is_one_of (names ++ y ∷ []) x ≡ (is_one_of names x || ((x == y) || false)) = list_any-append (λ name. x == name) names (y ∷ []) in
+        let more : is_one_of (names ++ y ∷ []) x ≡ (is_one_of names x || ((x == y) || false)) =
+        list_any-append (λ name. x == name) names (y ∷ []) in
         rw e (new ∙ ap (λ a. a || is_one_of xs x) more ∙ either_right (is_one_of names x) (x == y) (is_one_of xs x))
 
 pub distinct-has : (xs : List ℕ) (x : ℕ) → is_one_of (distinct xs) x ≡ is_one_of xs x
@@ -61,14 +64,16 @@ place-none [] numbers x none = refl
 place-none (variable ∷ variables) [] x none = refl
 place-none (variable ∷ variables) (number ∷ numbers) x none = by_test (x == variable) refl (place-none variables numbers x)
   where
-    by_test : (b : Bool) → (x == variable) ≡ b → (is_one_of variables x ≡ false → at_its_place variables numbers x ≡ x) → at_its_place (variable ∷ variables) (number ∷ numbers) x ≡ x
+    by_test : (b : Bool) → (x == variable) ≡ b → (is_one_of variables x ≡ false → at_its_place variables numbers x ≡ x) →
+        at_its_place (variable ∷ variables) (number ∷ numbers) x ≡ x
     by_test true e later = let wrong : true ≡ false = rw e at none in cc
     by_test false e later = let rest : is_one_of variables x ≡ false = rw e at none in rw e (later rest)
 
 -- logical variables keep their numbers where existential ones get new ones
 pub logical_stays : (used xs : List ℕ) (x : ℕ) → x < 65536 → number_apart used (filter (λ y. leb 65536 y) xs) x ≡ x
 logical_stays used xs x low =
-    place-none (distinct (filter (λ y. leb 65536 y) xs)) (fresh_variables (length (distinct (filter (λ y. leb 65536 y) xs))) used) x (distinct-has (filter (λ y. leb 65536 y) xs) x ∙ by_test (is_one_of (filter (λ y. leb 65536 y) xs) x) refl)
+    place-none (distinct (filter (λ y. leb 65536 y) xs)) (fresh_variables (length (distinct (filter (λ y. leb 65536 y) xs))) used) x
+    (distinct-has (filter (λ y. leb 65536 y) xs) x ∙ by_test (is_one_of (filter (λ y. leb 65536 y) xs) x) refl)
   where
     by_test : (b : Bool) → is_one_of (filter (λ y. leb 65536 y) xs) x ≡ b → b ≡ false
     by_test true e = let above : 65536 ≤ x = leb-true 65536 x (passed (λ y. leb 65536 y) xs x e) in absurd (omega arith)

@@ -37,10 +37,12 @@ value-read_through facts s (Const n) holds = refl
 pub Keeps-refl : (flexible : List ℕ) (now : List (ℕ × Exp)) → Keeps flexible now now
 Keeps-refl flexible now e h = (h, refl)
 
-pub Keeps-trans : (flexible : List ℕ) (now later last : List (ℕ × Exp)) → Keeps flexible now later → Keeps flexible later last → Keeps flexible now last
+pub Keeps-trans : (flexible : List ℕ) (now later last : List (ℕ × Exp)) → Keeps flexible now later → Keeps flexible later last →
+    Keeps flexible now last
 Keeps-trans flexible now later last first second e h = ((second e (first e h).0).0, (second e (first e h).0).1 ∙ (first e h).1)
 
-bound_some : (flexible : List ℕ) (bound : List (ℕ × Exp)) (x : ℕ) (e : Exp) → bound_to bound x ≡ Some e → is_unbound flexible bound (Var x) ≡ false
+bound_some : (flexible : List ℕ) (bound : List (ℕ × Exp)) (x : ℕ) (e : Exp) → bound_to bound x ≡ Some e →
+    is_unbound flexible bound (Var x) ≡ false
 bound_some flexible bound x e is = by_test (is_one_of flexible x)
   where
     by_test : (b : Bool) → (b && is_none (bound_to bound x)) ≡ false
@@ -54,34 +56,41 @@ Keeps-stays flexible bound binding keeps x e is =
     (keeps (Var x) (bound_some flexible bound x e is)).1 ∙ read
 
 -- what is determined now has the same value under each later binding
-pub read_later : (facts : List Fact) (flexible : List ℕ) (now later : List (ℕ × Exp)) (u : ℕ → ℤ) (e : Exp) → is_unbound flexible now e ≡ false → Keeps flexible now later → AreTrueFacts u facts →
+pub read_later : (facts : List Fact) (flexible : List ℕ) (now later : List (ℕ × Exp)) (u : ℕ → ℤ) (e : Exp) →
+    is_unbound flexible now e ≡ false → Keeps flexible now later → AreTrueFacts u facts →
     value u (read facts now e) ≡ value (through later u) e
 read_later facts flexible now later u e known keeps true_facts =
     value-read_through facts u (bound_exp now e) true_facts ∙ ap (value u) (sym (keeps e known).1) ∙ sym (value-through later u e)
 
 -- ---- one more variable
 
-pub bound_to-push : (binding : List (ℕ × Exp)) (bound : ℕ × Exp) (x : ℕ) (e : Exp) → bound_to binding x ≡ Some e → bound_to (binding ++ bound ∷ []) x ≡ Some e
+pub bound_to-push : (binding : List (ℕ × Exp)) (bound : ℕ × Exp) (x : ℕ) (e : Exp) → bound_to binding x ≡ Some e →
+    bound_to (binding ++ bound ∷ []) x ≡ Some e
 bound_to-push [] bound x e h = cc
 bound_to-push (first ∷ binding) bound x e h = by_test (bound_to-push binding bound x e) (first.0 == x) refl
   where
-    by_test : (bound_to binding x ≡ Some e → bound_to (binding ++ bound ∷ []) x ≡ Some e) → (b : Bool) → (first.0 == x) ≡ b → bound_to (first ∷ binding ++ bound ∷ []) x ≡ Some e
+    by_test : (bound_to binding x ≡ Some e → bound_to (binding ++ bound ∷ []) x ≡ Some e) → (b : Bool) → (first.0 == x) ≡ b →
+        bound_to (first ∷ binding ++ bound ∷ []) x ≡ Some e
     by_test later true f = let here : Some first.1 ≡ Some e = rw f at h in rw f here
     by_test later false f = let rest : bound_to binding x ≡ Some e = rw f at h in rw f (later rest)
 
-pub bound_to-new : (binding : List (ℕ × Exp)) (bound : ℕ × Exp) (x : ℕ) → bound_to binding x ≡ None → (bound.0 == x) ≡ true → bound_to (binding ++ bound ∷ []) x ≡ Some bound.1
+pub bound_to-new : (binding : List (ℕ × Exp)) (bound : ℕ × Exp) (x : ℕ) → bound_to binding x ≡ None → (bound.0 == x) ≡ true →
+    bound_to (binding ++ bound ∷ []) x ≡ Some bound.1
 bound_to-new [] bound x h is = rw is refl
 bound_to-new (first ∷ binding) bound x h is = by_test (bound_to-new binding bound x) (first.0 == x) refl
   where
-    by_test : (bound_to binding x ≡ None → (bound.0 == x) ≡ true → bound_to (binding ++ bound ∷ []) x ≡ Some bound.1) → (b : Bool) → (first.0 == x) ≡ b → bound_to (first ∷ binding ++ bound ∷ []) x ≡ Some bound.1
+    by_test : (bound_to binding x ≡ None → (bound.0 == x) ≡ true → bound_to (binding ++ bound ∷ []) x ≡ Some bound.1) → (b : Bool) →
+        (first.0 == x) ≡ b → bound_to (first ∷ binding ++ bound ∷ []) x ≡ Some bound.1
     by_test later true f = let here : Some first.1 ≡ None = rw f at h in cc
     by_test later false f = let rest : bound_to binding x ≡ None = rw f at h in rw f (later rest is)
 
-bound_to-other : (binding : List (ℕ × Exp)) (bound : ℕ × Exp) (x : ℕ) → bound_to binding x ≡ None → (bound.0 == x) ≡ false → bound_to (binding ++ bound ∷ []) x ≡ None
+bound_to-other : (binding : List (ℕ × Exp)) (bound : ℕ × Exp) (x : ℕ) → bound_to binding x ≡ None → (bound.0 == x) ≡ false →
+    bound_to (binding ++ bound ∷ []) x ≡ None
 bound_to-other [] bound x h is = rw is refl
 bound_to-other (first ∷ binding) bound x h is = by_test (bound_to-other binding bound x) (first.0 == x) refl
   where
-    by_test : (bound_to binding x ≡ None → (bound.0 == x) ≡ false → bound_to (binding ++ bound ∷ []) x ≡ None) → (b : Bool) → (first.0 == x) ≡ b → bound_to (first ∷ binding ++ bound ∷ []) x ≡ None
+    by_test : (bound_to binding x ≡ None → (bound.0 == x) ≡ false → bound_to (binding ++ bound ∷ []) x ≡ None) → (b : Bool) →
+        (first.0 == x) ≡ b → bound_to (first ∷ binding ++ bound ∷ []) x ≡ None
     by_test later true f = let here : Some first.1 ≡ None = rw f at h in cc
     by_test later false f = let rest : bound_to binding x ≡ None = rw f at h in rw f (later rest is)
 
@@ -91,7 +100,8 @@ none_of (Some e) h = cc
 
 -- what a variable is bound to is what it reads as, and nothing else changes
 pub Keeps-bind : (flexible : List ℕ) (binding : List (ℕ × Exp)) (x : ℕ) (f : Exp) → is_unbound flexible binding (Var x) ≡ true →
-    Keeps flexible binding (binding ++ (x, f) ∷ []) × (is_unbound flexible (binding ++ (x, f) ∷ []) (Var x) ≡ false) × (bound_exp (binding ++ (x, f) ∷ []) (Var x) ≡ f)
+    Keeps flexible binding (binding ++ (x, f) ∷ []) × (is_unbound flexible (binding ++ (x, f) ∷ []) (Var x) ≡ false)
+    × (bound_exp (binding ++ (x, f) ∷ []) (Var x) ≡ f)
 Keeps-bind flexible binding x f unbound = (keeps, rw new and_false, rw new refl)
   where
     parts : (is_one_of flexible x ≡ true) × (is_none (bound_to binding x) ≡ true)
@@ -103,8 +113,10 @@ Keeps-bind flexible binding x f unbound = (keeps, rw new and_false, rw new refl)
     and_false : (is_one_of flexible x && false) ≡ false
     and_false = rw parts.0 refl
 
-    at_variable : (y : ℕ) (o : Option Exp) → bound_to binding y ≡ o → is_unbound flexible binding (Var y) ≡ false → (d : Bool) → is_one_of flexible y ≡ d → (b : Bool) → (x == y) ≡ b →
-        (is_unbound flexible (binding ++ (x, f) ∷ []) (Var y) ≡ false) × (bound_exp (binding ++ (x, f) ∷ []) (Var y) ≡ bound_exp binding (Var y))
+    at_variable : (y : ℕ) (o : Option Exp) → bound_to binding y ≡ o → is_unbound flexible binding (Var y) ≡ false → (d : Bool) →
+        is_one_of flexible y ≡ d → (b : Bool) → (x == y) ≡ b →
+        (is_unbound flexible (binding ++ (x, f) ∷ []) (Var y) ≡ false)
+        × (bound_exp (binding ++ (x, f) ∷ []) (Var y) ≡ bound_exp binding (Var y))
     at_variable y (Some g) e h true g' b same =
         let still : bound_to (binding ++ (x, f) ∷ []) y ≡ Some g = bound_to-push binding (x, f) y g e in
         (rw (still, g') refl, rw (still, e) refl)

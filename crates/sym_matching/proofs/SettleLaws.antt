@@ -36,7 +36,8 @@ pub record Settles (structs : List StructDef) (rules : Rules) (m n : Matching) (
   pub atoms : n.missing.spatial ≡ m.missing.spatial
   pub keeps : Keeps rules.flexible m.binding n.binding
   pub misses : Misses rules.mode m.missing n.missing
-  pub told : (last : SymHeap) (s : ℕ → ℤ) (all left gone : List Cell) → Leads n.missing last → Stands structs rules last s m all left gone → (later : List (ℕ × Exp)) → Keeps rules.flexible n.binding later → Told s later
+  pub told : (last : SymHeap) (s : ℕ → ℤ) (all left gone : List Cell) → Leads n.missing last → Stands structs rules last s m all left gone →
+      (later : List (ℕ × Exp)) → Keeps rules.flexible n.binding later → Told s later
 
 -- the match goes on as it stands
 pub unless-on : (rules : Rules) (number : ℕ) (m n : Matching) → unless_contradiction rules number m ≡ On n → n ≡ m
@@ -47,18 +48,22 @@ unless-on rules number m n h = by_test (contradicts (whole rules m) || contradic
     by_test false e = let is : On m ≡ On n = rw e at h in cc
 
 -- a missing fact is true in the end
-pub missing_true : (now last : SymHeap) (fact : Fact) (s : ℕ → ℤ) → Leads (record { pure = now.pure ++ fact ∷ []; spatial = now.spatial }) last → AreTrueFacts s last.pure → IsTrueFact s fact
+pub missing_true : (now last : SymHeap) (fact : Fact) (s : ℕ → ℤ) →
+    Leads (record { pure = now.pure ++ fact ∷ []; spatial = now.spatial }) last → AreTrueFacts s last.pure → IsTrueFact s fact
 missing_true now last fact s leads h =
     let all : AreTrueFacts s ((now.pure ++ fact ∷ []) ++ leads.facts) = rw leads.facts_are at h in
     (AreTrueFacts-split s now.pure (fact ∷ []) (AreTrueFacts-split s (now.pure ++ fact ∷ []) leads.facts all).0).1.0
 
 module _ (structs : List StructDef) (rules : Rules) where
-  pub Stands-settle : (last : SymHeap) (s : ℕ → ℤ) (m n : Matching) (all left gone : List Cell) (Told : (ℕ → ℤ) → List (ℕ × Exp) → Type 0) → Settles structs rules m n Told → Leads n.missing last → Stands structs rules last s m all left gone →
+  pub Stands-settle : (last : SymHeap) (s : ℕ → ℤ) (m n : Matching) (all left gone : List Cell) (Told : (ℕ → ℤ) → List (ℕ × Exp) → Type 0) →
+      Settles structs rules m n Told → Leads n.missing last → Stands structs rules last s m all left gone →
       Stands structs rules last s n all left gone
-  Stands-settle last s m n all left gone Told step leads stands = Stands-same structs rules last s m n all left gone step.left step.gone step.used step.atoms leads stands
+  Stands-settle last s m n all left gone Told step leads stands =
+      Stands-same structs rules last s m n all left gone step.left step.gone step.used step.atoms leads stands
 
   pub Settles-none : (m : Matching) (Told : (ℕ → ℤ) → List (ℕ × Exp) → Type 0) →
-      ((last : SymHeap) (s : ℕ → ℤ) (all left gone : List Cell) → Stands structs rules last s m all left gone → (later : List (ℕ × Exp)) → Keeps rules.flexible m.binding later → Told s later) → Settles structs rules m m Told
+      ((last : SymHeap) (s : ℕ → ℤ) (all left gone : List Cell) → Stands structs rules last s m all left gone → (later : List (ℕ × Exp)) →
+      Keeps rules.flexible m.binding later → Told s later) → Settles structs rules m m Told
   Settles-none m Told told = record {
     left = refl;
     gone = refl;
@@ -70,7 +75,8 @@ module _ (structs : List StructDef) (rules : Rules) where
     told = λ last s all left gone leads stands later keeps. told last s all left gone stands later keeps;
   }
 
-  pub Settles-then : (m n k : Matching) (First Second : (ℕ → ℤ) → List (ℕ × Exp) → Type 0) → Settles structs rules m n First → Settles structs rules n k Second → Settles structs rules m k (λ s later. First s later × Second s later)
+  pub Settles-then : (m n k : Matching) (First Second : (ℕ → ℤ) → List (ℕ × Exp) → Type 0) → Settles structs rules m n First →
+      Settles structs rules n k Second → Settles structs rules m k (λ s later. First s later × Second s later)
   Settles-then m n k First Second one other = record {
     left = other.left ∙ one.left;
     gone = other.gone ∙ one.gone;
@@ -82,14 +88,17 @@ module _ (structs : List StructDef) (rules : Rules) where
     told = told;
   }
     where
-      told : (last : SymHeap) (s : ℕ → ℤ) (all left gone : List Cell) → Leads k.missing last → Stands structs rules last s m all left gone → (later : List (ℕ × Exp)) → Keeps rules.flexible k.binding later → First s later × Second s later
+      told : (last : SymHeap) (s : ℕ → ℤ) (all left gone : List Cell) → Leads k.missing last → Stands structs rules last s m all left gone →
+          (later : List (ℕ × Exp)) → Keeps rules.flexible k.binding later → First s later × Second s later
       told last s all left gone leads stands later keeps =
           let before : Leads n.missing last = Leads-trans n.missing k.missing last other.misses.grows leads in (
             one.told last s all left gone before stands later (Keeps-trans rules.flexible n.binding k.binding later other.keeps keeps),
             other.told last s all left gone leads (Stands-settle last s m n all left gone First one before stands) later keeps,
           )
 
-  pub Settles-like : (m n : Matching) (First Second : (ℕ → ℤ) → List (ℕ × Exp) → Type 0) → ((s : ℕ → ℤ) (later : List (ℕ × Exp)) → AreTrueFacts s rules.facts → Keeps rules.flexible n.binding later → First s later → Second s later) →
+  pub Settles-like : (m n : Matching) (First Second : (ℕ → ℤ) → List (ℕ × Exp) → Type 0) →
+      ((s : ℕ → ℤ) (later : List (ℕ × Exp)) → AreTrueFacts s rules.facts → Keeps rules.flexible n.binding later → First s later →
+      Second s later) →
       Settles structs rules m n First → Settles structs rules m n Second
   Settles-like m n First Second to step = record {
     left = step.left;
@@ -99,10 +108,13 @@ module _ (structs : List StructDef) (rules : Rules) where
     atoms = step.atoms;
     keeps = step.keeps;
     misses = step.misses;
-    told = λ last s all left gone leads stands later keeps. to s later stands.facts keeps (step.told last s all left gone leads stands later keeps);
+    told =
+        λ last s all left gone leads stands later keeps. to s later stands.facts keeps
+        (step.told last s all left gone leads stands later keeps);
   }
 
-  pub Settles-bind : (m : Matching) (e f : Exp) → is_unbound rules.flexible m.binding e ≡ true → Settles structs rules m (bind m e f) (λ s later. value (through later s) e ≡ value s f)
+  pub Settles-bind : (m : Matching) (e f : Exp) → is_unbound rules.flexible m.binding e ≡ true →
+      Settles structs rules m (bind m e f) (λ s later. value (through later s) e ≡ value s f)
   Settles-bind m (Const n) f unbound = cc
   Settles-bind m (Var x) f unbound =
       let bound = Keeps-bind rules.flexible m.binding x f unbound in
@@ -114,10 +126,12 @@ module _ (structs : List StructDef) (rules : Rules) where
         atoms = refl;
         keeps = bound.0;
         misses = Misses-refl rules.mode m.missing;
-        told = λ last s all left gone leads stands later keeps. value-through later s (Var x) ∙ ap (value s) ((keeps (Var x) bound.1).1 ∙ bound.2);
+        told = λ last s all left gone leads stands later keeps. value-through later s (Var x)
+            ∙ ap (value s) ((keeps (Var x) bound.1).1 ∙ bound.2);
       }
 
-  pub Settles-miss : (m : Matching) (fact : Fact) → rules.mode ≡ Abduce → EachInFact IsLogical fact → Settles structs rules m (with_missing_fact m fact) (λ s later. IsTrueFact s fact)
+  pub Settles-miss : (m : Matching) (fact : Fact) → rules.mode ≡ Abduce → EachInFact IsLogical fact →
+      Settles structs rules m (with_missing_fact m fact) (λ s later. IsTrueFact s fact)
   Settles-miss m fact mode logical = record {
     left = refl;
     gone = refl;
@@ -134,7 +148,8 @@ module _ (structs : List StructDef) (rules : Rules) where
   }
 
   -- such a step as one that takes the empty part
-  pub Step-settle : (m n : Matching) (Told : (ℕ → ℤ) → List (ℕ × Exp) → Type 0) → Settles structs rules m n Told → Step structs rules m n (λ u later own. (own ≡ []) × Unit {0})
+  pub Step-settle : (m n : Matching) (Told : (ℕ → ℤ) → List (ℕ × Exp) → Type 0) → Settles structs rules m n Told →
+      Step structs rules m n (λ u later own. (own ≡ []) × Unit {0})
   Step-settle m n Told step = record {
     grows = rw step.used (λ x h. h);
     keeps = step.keeps;
@@ -143,7 +158,8 @@ module _ (structs : List StructDef) (rules : Rules) where
     goes = goes;
   }
     where
-      goes : (last : SymHeap) (s : ℕ → ℤ) (all left gone : List Cell) → Leads n.missing last → Stands structs rules last s m all left gone → Goes structs rules last s m n all left (λ u later own. (own ≡ []) × Unit {0})
+      goes : (last : SymHeap) (s : ℕ → ℤ) (all left gone : List Cell) → Leads n.missing last → Stands structs rules last s m all left gone →
+          Goes structs rules last s m n all left (λ u later own. (own ≡ []) × Unit {0})
       goes last s all left gone leads stands = record {
         t = s;
         own = [];
@@ -156,28 +172,36 @@ module _ (structs : List StructDef) (rules : Rules) where
       }
 
   -- after a step that takes the empty part, the other's part is the whole part
-  pub Step-after_told : (m n k : Matching) (Told : (ℕ → ℤ) → List (ℕ × Exp) → Type 0) (Wanted : Part) → Step structs rules m n (λ u later own. (own ≡ []) × Told u later) → Step structs rules n k Wanted →
+  pub Step-after_told : (m n k : Matching) (Told : (ℕ → ℤ) → List (ℕ × Exp) → Type 0) (Wanted : Part) →
+      Step structs rules m n (λ u later own. (own ≡ []) × Told u later) → Step structs rules n k Wanted →
       Step structs rules m k (λ u later own. Told u later × Wanted u later own)
   Step-after_told m n k Told Wanted one other =
-      Step-like structs rules m k (Both structs rules (λ u later own. (own ≡ []) × Told u later) Wanted) (λ u later own. Told u later × Wanted u later own)
+      Step-like structs rules m k (Both structs rules (λ u later own. (own ≡ []) × Told u later) Wanted)
+      (λ u later own. Told u later × Wanted u later own)
       (λ u later own facts keeps heap both. (both.3.1, alone u later own both))
       (Step-then structs rules m n k (λ u later own. (own ≡ []) × Told u later) Wanted one other)
     where
-      alone : (u : ℕ → ℤ) (later : List (ℕ × Exp)) (own : List Cell) → Both structs rules (λ u later own. (own ≡ []) × Told u later) Wanted u later own → Wanted u later own
+      alone : (u : ℕ → ℤ) (later : List (ℕ × Exp)) (own : List Cell) →
+          Both structs rules (λ u later own. (own ≡ []) × Told u later) Wanted u later own → Wanted u later own
       alone u later own both =
           let sum : IsSum structs own [] both.1 = rw both.3.0 at both.2 in
           subst (λ h. Wanted u later h) (sym (IsSum-empty_left sum)) both.4
 
-  pub Step-after : (m n k : Matching) (Told : (ℕ → ℤ) → List (ℕ × Exp) → Type 0) (Wanted : Part) → Step structs rules m n (λ u later own. (own ≡ []) × Told u later) → Step structs rules n k Wanted → Step structs rules m k Wanted
+  pub Step-after : (m n k : Matching) (Told : (ℕ → ℤ) → List (ℕ × Exp) → Type 0) (Wanted : Part) →
+      Step structs rules m n (λ u later own. (own ≡ []) × Told u later) → Step structs rules n k Wanted → Step structs rules m k Wanted
   Step-after m n k Told Wanted one other =
-      Step-like structs rules m k (λ u later own. Told u later × Wanted u later own) Wanted (λ u later own facts keeps heap both. both.1) (Step-after_told m n k Told Wanted one other)
+      Step-like structs rules m k (λ u later own. Told u later × Wanted u later own) Wanted (λ u later own facts keeps heap both. both.1)
+      (Step-after_told m n k Told Wanted one other)
 
   -- ---- what differs in the whole heap
 
   pub differs-apart : (m : Matching) (e f : Exp) → differs (whole rules m) e f ≡ true → Apart structs rules m e f
   differs-apart m e f h last s all left gone stands =
-      let facts : AreTrueFacts s (rules.facts ++ m.missing.pure) = AreTrueFacts-append s rules.facts m.missing.pure stands.facts (AreTrueFacts-split s m.missing.pure stands.leads.facts (rw stands.leads.facts_are at stands.missing)).0 in
+      let facts : AreTrueFacts s (rules.facts ++ m.missing.pure) =
+      AreTrueFacts-append s rules.facts m.missing.pure stands.facts
+      (AreTrueFacts-split s m.missing.pure stands.leads.facts (rw stands.leads.facts_are at stands.missing)).0 in
       let parts = HoldsAtoms-split structs s m.left stands.leads.atoms stands.left_holds in
       let turned = IsSum-to_right stands.sum (IsSum-sym parts.2) in
-      let holds : HoldsAtoms structs s (m.left ++ m.gone) turned.0 = HoldsAtoms-append structs s m.left m.gone turned.2 parts.3 stands.gone_holds in
+      let holds : HoldsAtoms structs s (m.left ++ m.gone) turned.0 =
+      HoldsAtoms-append structs s m.left m.gone turned.2 parts.3 stands.gone_holds in
       differs_is_sound structs s turned.0 (whole rules m) e f (record { facts = facts; atoms = holds }) h

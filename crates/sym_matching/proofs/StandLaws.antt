@@ -21,7 +21,8 @@ use Rattle.sym_matching.specs.Laws.{AgreesOn, Keeps}
 use Rattle.sym_matching.specs.Reading.{is_unbound, through}
 use Rattle.sym_matching.specs.Steps.{Rules, bind, bind_new, owe}
 use Rattle.sym_matching.specs.WantedCells.{take_field, take_fields}
-use Rattle.sym_matching.proofs.KeptLaws.{IsKept, IsLogical, AreTrueFacts-alike, HoldsAtoms-alike, All-right, each-atoms, each-facts, logical-kept, value-kept}
+use Rattle.sym_matching.proofs.KeptLaws.{IsKept, IsLogical, AreTrueFacts-alike, HoldsAtoms-alike, All-right, each-atoms, each-facts}
+use Rattle.sym_matching.proofs.KeptLaws.{logical-kept, value-kept}
 use Rattle.sym_matching.proofs.ReadingLaws.{Keeps-refl, Keeps-trans, Keeps-bind, value-through}
 
 -- the facts that fields left over are true
@@ -35,7 +36,8 @@ AreSame u later [] haves = Unit {0}
 AreSame u later (want ∷ wants) [] = Unit {0}
 AreSame u later (want ∷ wants) (have ∷ haves) = (value (through later u) want ≡ value u have) × AreSame u later wants haves
 
-pub same_values : (u : ℕ → ℤ) (later : List (ℕ × Exp)) (wants haves : List Exp) → length wants ≡ length haves → AreSame u later wants haves → map (value (through later u)) wants ≡ map (value u) haves
+pub same_values : (u : ℕ → ℤ) (later : List (ℕ × Exp)) (wants haves : List Exp) → length wants ≡ length haves →
+    AreSame u later wants haves → map (value (through later u)) wants ≡ map (value u) haves
 same_values u later [] [] lengths h = refl
 same_values u later [] (have ∷ haves) lengths h = cc
 same_values u later (want ∷ wants) [] lengths h = cc
@@ -83,7 +85,8 @@ Misses-trans mode now later last one other = record {
 
 -- all of the heap is the sum of what is left, with the missing atoms still to come, and of what was taken; `last` is what is
 -- missing in the end
-pub record Stands (structs : List StructDef) (rules : Rules) (last : SymHeap) (s : ℕ → ℤ) (m : Matching) (all left gone : List Cell) : Type 0 where
+pub record Stands (structs : List StructDef) (rules : Rules) (last : SymHeap) (s : ℕ → ℤ) (m : Matching)
+    (all left gone : List Cell) : Type 0 where
   pub sum : IsSum structs all left gone
   pub facts : AreTrueFacts s rules.facts
   pub missing : AreTrueFacts s last.pure
@@ -100,22 +103,30 @@ pub come_logical : (now last : SymHeap) (leads : Leads now last) → EachInHeap 
 come_logical now last leads h = All-right (EachInAtom IsLogical) now.spatial leads.atoms (rw leads.atoms_are at h.atoms)
 
 -- two ways in which the same heap begins leave the same
-pub same_atoms : (now also last : SymHeap) (one : Leads now last) (other : Leads also last) → also.spatial ≡ now.spatial → one.atoms ≡ other.atoms
+pub same_atoms : (now also last : SymHeap) (one : Leads now last) (other : Leads also last) → also.spatial ≡ now.spatial →
+    one.atoms ≡ other.atoms
 same_atoms now also last one other same =
     append_cancel_left now.spatial one.atoms other.atoms (sym one.atoms_are ∙ other.atoms_are ∙ ap (λ xs. xs ++ other.atoms) same)
 
 -- what stands under an assignment stands under each that agrees on what is in use
-pub Stands-agree : (structs : List StructDef) (rules : Rules) (last : SymHeap) (s t : ℕ → ℤ) (m : Matching) (all left gone : List Cell) → AgreesOn m.used s t → Stands structs rules last s m all left gone →
+pub Stands-agree : (structs : List StructDef) (rules : Rules) (last : SymHeap) (s t : ℕ → ℤ) (m : Matching) (all left gone : List Cell) →
+    AgreesOn m.used s t → Stands structs rules last s m all left gone →
     Stands structs rules last t m all left gone
 Stands-agree structs rules last s t m all left gone agrees stands =
     let same : (e : Exp) → IsKept m.used e → value t e ≡ value s e = value-kept m.used s t agrees in
-    let come : All (EachInAtom (IsKept m.used)) stands.leads.atoms = each-atoms IsLogical (IsKept m.used) (logical-kept m.used) stands.leads.atoms (come_logical m.missing last stands.leads stands.last_logical) in
+    let come : All (EachInAtom (IsKept m.used)) stands.leads.atoms =
+    each-atoms IsLogical (IsKept m.used) (logical-kept m.used) stands.leads.atoms
+    (come_logical m.missing last stands.leads stands.last_logical) in
     record {
       sum = stands.sum;
       facts = AreTrueFacts-alike (IsKept m.used) s t same rules.facts stands.facts_kept stands.facts;
-      missing = AreTrueFacts-alike (IsKept m.used) s t same last.pure (each-facts IsLogical (IsKept m.used) (logical-kept m.used) last.pure stands.last_logical.facts) stands.missing;
+      missing =
+          AreTrueFacts-alike (IsKept m.used) s t same last.pure
+          (each-facts IsLogical (IsKept m.used) (logical-kept m.used) last.pure stands.last_logical.facts) stands.missing;
       leads = stands.leads;
-      left_holds = HoldsAtoms-alike (IsKept m.used) s t same structs (m.left ++ stands.leads.atoms) left (All-append (EachInAtom (IsKept m.used)) m.left stands.leads.atoms stands.left_kept come) stands.left_holds;
+      left_holds =
+          HoldsAtoms-alike (IsKept m.used) s t same structs (m.left ++ stands.leads.atoms) left
+          (All-append (EachInAtom (IsKept m.used)) m.left stands.leads.atoms stands.left_kept come) stands.left_holds;
       gone_holds = HoldsAtoms-alike (IsKept m.used) s t same structs m.gone gone stands.gone_kept stands.gone_holds;
       facts_kept = stands.facts_kept;
       left_kept = stands.left_kept;
@@ -137,9 +148,19 @@ pub record Passes (rules : Rules) (m n : Matching) (Told : (ℕ → ℤ) → Lis
 
 module _ (rules : Rules) where
   pub Passes-none : (m : Matching) → Passes rules m m (λ u later. Unit {0})
-  Passes-none m = record { left = refl; gone = refl; missing = refl; used = refl; keeps = Keeps-refl rules.flexible m.binding; owes = λ u later h. h; told = λ u later keeps h. tt }
+  Passes-none m =
+      record {
+        left = refl;
+        gone = refl;
+        missing = refl;
+        used = refl;
+        keeps = Keeps-refl rules.flexible m.binding;
+        owes = λ u later h. h;
+        told = λ u later keeps h. tt;
+      }
 
-  pub Passes-then : (m n k : Matching) (First Second : (ℕ → ℤ) → List (ℕ × Exp) → Type 0) → Passes rules m n First → Passes rules n k Second → Passes rules m k (λ u later. First u later × Second u later)
+  pub Passes-then : (m n k : Matching) (First Second : (ℕ → ℤ) → List (ℕ × Exp) → Type 0) → Passes rules m n First →
+      Passes rules n k Second → Passes rules m k (λ u later. First u later × Second u later)
   Passes-then m n k First Second one other = record {
     left = other.left ∙ one.left;
     gone = other.gone ∙ one.gone;
@@ -147,10 +168,17 @@ module _ (rules : Rules) where
     used = other.used ∙ one.used;
     keeps = Keeps-trans rules.flexible m.binding n.binding k.binding one.keeps other.keeps;
     owes = λ u later h. one.owes u later (other.owes u later h);
-    told = λ u later keeps h. (one.told u later (Keeps-trans rules.flexible n.binding k.binding later other.keeps keeps) (other.owes u later h), other.told u later keeps h);
+    told =
+        λ u later keeps h. (
+          one.told u later (Keeps-trans rules.flexible n.binding k.binding later other.keeps keeps)
+              (other.owes u later h),
+          other.told u later keeps h,
+        );
   }
 
-  pub Passes-like : (m n : Matching) (First Second : (ℕ → ℤ) → List (ℕ × Exp) → Type 0) → ((u : ℕ → ℤ) (later : List (ℕ × Exp)) → Keeps rules.flexible n.binding later → First u later → Second u later) → Passes rules m n First → Passes rules m n Second
+  pub Passes-like : (m n : Matching) (First Second : (ℕ → ℤ) → List (ℕ × Exp) → Type 0) →
+      ((u : ℕ → ℤ) (later : List (ℕ × Exp)) → Keeps rules.flexible n.binding later → First u later → Second u later) →
+      Passes rules m n First → Passes rules m n Second
   Passes-like m n First Second to one = record {
     left = one.left;
     gone = one.gone;
@@ -161,7 +189,8 @@ module _ (rules : Rules) where
     told = λ u later keeps h. to u later keeps (one.told u later keeps h);
   }
 
-  pub Passes-bind : (m : Matching) (e f : Exp) → is_unbound rules.flexible m.binding e ≡ true → Passes rules m (bind m e f) (λ u later. value (through later u) e ≡ value u f)
+  pub Passes-bind : (m : Matching) (e f : Exp) → is_unbound rules.flexible m.binding e ≡ true →
+      Passes rules m (bind m e f) (λ u later. value (through later u) e ≡ value u f)
   Passes-bind m (Const n) f unbound = cc
   Passes-bind m (Var x) f unbound =
       let bound = Keeps-bind rules.flexible m.binding x f unbound in
@@ -175,21 +204,33 @@ module _ (rules : Rules) where
         told = λ u later keeps h. value-through later u (Var x) ∙ ap (value u) ((keeps (Var x) bound.1).1 ∙ bound.2);
       }
 
-  pub Passes-bind_new : (m : Matching) (e : Exp) → is_unbound rules.flexible m.binding e ≡ true → Passes rules m (bind_new m e) (λ u later. value (through later u) e ≡ value u (Var m.next))
+  pub Passes-bind_new : (m : Matching) (e : Exp) → is_unbound rules.flexible m.binding e ≡ true →
+      Passes rules m (bind_new m e) (λ u later. value (through later u) e ≡ value u (Var m.next))
   Passes-bind_new m e unbound =
       let bound = Passes-bind m e (Var m.next) unbound in
-      record { left = bound.left; gone = bound.gone; missing = bound.missing; used = bound.used; keeps = bound.keeps; owes = bound.owes; told = bound.told }
+      record {
+        left = bound.left;
+        gone = bound.gone;
+        missing = bound.missing;
+        used = bound.used;
+        keeps = bound.keeps;
+        owes = bound.owes;
+        told = bound.told;
+      }
 
-owed_before : (s : ℕ → ℤ) (binding : List (ℕ × Exp)) (owed : List Owed) (one : Owed) → AreTrueOwed s binding (owed ++ one ∷ []) → AreTrueOwed s binding owed
+owed_before : (s : ℕ → ℤ) (binding : List (ℕ × Exp)) (owed : List Owed) (one : Owed) → AreTrueOwed s binding (owed ++ one ∷ []) →
+    AreTrueOwed s binding owed
 owed_before s binding [] one h = tt
 owed_before s binding (first ∷ owed) one h = (h.0, owed_before s binding owed one h.1)
 
-owed_last : (s : ℕ → ℤ) (binding : List (ℕ × Exp)) (owed : List Owed) (one : Owed) → AreTrueOwed s binding (owed ++ one ∷ []) → value (through binding s) one.want ≡ value s one.have
+owed_last : (s : ℕ → ℤ) (binding : List (ℕ × Exp)) (owed : List Owed) (one : Owed) → AreTrueOwed s binding (owed ++ one ∷ []) →
+    value (through binding s) one.want ≡ value s one.have
 owed_last s binding [] one h = h.0
 owed_last s binding (first ∷ owed) one h = owed_last s binding owed one h.1
 
 module _ (rules : Rules) (number : ℕ) where
-  Passes-owe : (m : Matching) (want have : Exp) → Passes rules m (owe m number want have) (λ u later. value (through later u) want ≡ value u have)
+  Passes-owe : (m : Matching) (want have : Exp) →
+      Passes rules m (owe m number want have) (λ u later. value (through later u) want ≡ value u have)
   Passes-owe m want have = record {
     left = refl;
     gone = refl;
@@ -200,23 +241,28 @@ module _ (rules : Rules) (number : ℕ) where
     told = λ u later keeps h. owed_last u later m.owed (record { number = number; want = want; have = have }) h;
   }
 
-  Passes-field : (want have : Exp) (m : Matching) → Passes rules m (take_field rules number want have m) (λ u later. value (through later u) want ≡ value u have)
+  Passes-field : (want have : Exp) (m : Matching) →
+      Passes rules m (take_field rules number want have m) (λ u later. value (through later u) want ≡ value u have)
   Passes-field want have m = by_test (is_unbound rules.flexible m.binding want) refl
     where
-      by_test : (b : Bool) → is_unbound rules.flexible m.binding want ≡ b → Passes rules m (take_field rules number want have m) (λ u later. value (through later u) want ≡ value u have)
+      by_test : (b : Bool) → is_unbound rules.flexible m.binding want ≡ b →
+          Passes rules m (take_field rules number want have m) (λ u later. value (through later u) want ≡ value u have)
       by_test true e = rw e (Passes-bind rules m want have e)
       by_test false e = rw e (Passes-owe m want have)
 
-  pub Passes-fields : (wants haves : List Exp) (m : Matching) → Passes rules m (take_fields rules number wants haves m) (λ u later. AreSame u later wants haves)
+  pub Passes-fields : (wants haves : List Exp) (m : Matching) →
+      Passes rules m (take_fields rules number wants haves m) (λ u later. AreSame u later wants haves)
   Passes-fields [] haves m = Passes-none rules m
   Passes-fields (want ∷ wants) [] m = Passes-none rules m
   Passes-fields (want ∷ wants) (have ∷ haves) m =
       let n : Matching = take_field rules number want have m in
-      Passes-then rules m n (take_fields rules number wants haves n) (λ u later. value (through later u) want ≡ value u have) (λ u later. AreSame u later wants haves) (Passes-field want have m) (Passes-fields wants haves n)
+      Passes-then rules m n (take_fields rules number wants haves n) (λ u later. value (through later u) want ≡ value u have)
+      (λ u later. AreSame u later wants haves) (Passes-field want have m) (Passes-fields wants haves n)
 
 module _ (structs : List StructDef) (rules : Rules) (last : SymHeap) (s : ℕ → ℤ) (m n : Matching) (all left gone : List Cell) where
   -- where nothing was taken, the parts stay
-  pub Stands-same : n.left ≡ m.left → n.gone ≡ m.gone → n.used ≡ m.used → n.missing.spatial ≡ m.missing.spatial → Leads n.missing last → Stands structs rules last s m all left gone → Stands structs rules last s n all left gone
+  pub Stands-same : n.left ≡ m.left → n.gone ≡ m.gone → n.used ≡ m.used → n.missing.spatial ≡ m.missing.spatial → Leads n.missing last →
+      Stands structs rules last s m all left gone → Stands structs rules last s n all left gone
   Stands-same same_left same_gone same_used same_missing leads stands = record {
     sum = stands.sum;
     facts = stands.facts;
@@ -230,5 +276,6 @@ module _ (structs : List StructDef) (rules : Rules) (last : SymHeap) (s : ℕ �
     last_logical = stands.last_logical;
   }
 
-  pub Stands-pass : (Told : (ℕ → ℤ) → List (ℕ × Exp) → Type 0) → Passes rules m n Told → Leads n.missing last → Stands structs rules last s m all left gone → Stands structs rules last s n all left gone
+  pub Stands-pass : (Told : (ℕ → ℤ) → List (ℕ × Exp) → Type 0) → Passes rules m n Told → Leads n.missing last →
+      Stands structs rules last s m all left gone → Stands structs rules last s n all left gone
   Stands-pass Told pass leads = Stands-same pass.left pass.gone pass.used (ap (λ (h : SymHeap). h.spatial) pass.missing) leads

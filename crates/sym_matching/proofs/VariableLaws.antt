@@ -14,7 +14,8 @@ use Rattle.sym_laws.specs.Each.{EachInAtom, EachInFact, EachInHeap}
 use Rattle.sym_canon.specs.Numbering.{sides}
 use Rattle.sym_canon.specs.Placing.{exps_of}
 use Rattle.sym_matching.specs.Variables.{with_variable, with_exps, with_facts, with_atoms, with_heap, with_state, with_binding}
-use Rattle.sym_matching.proofs.KeptLaws.{IsKept, IsKept-more, Within, each-atom, each-atoms, each-fact, each-facts, kept-name, one_of-first, one_of-left, one_of-right}
+use Rattle.sym_matching.proofs.KeptLaws.{IsKept, IsKept-more, Within, each-atom, each-atoms, each-fact, each-facts, kept-name, one_of-first}
+use Rattle.sym_matching.proofs.KeptLaws.{one_of-left, one_of-right}
 
 -- ---- what is in the list stays in it
 
@@ -43,7 +44,8 @@ state-within state names y h = heap-within state.heap (with_exps names state.loc
 pub binding-within : (binding : List (ℕ × Exp)) (names : List ℕ) → Within names (with_binding names binding)
 binding-within [] names y h = h
 binding-within (bound ∷ binding) names y h =
-    binding-within binding (with_variable (names ++ bound.0 ∷ []) bound.1) y (variable-within (names ++ bound.0 ∷ []) bound.1 y (one_of-left names (bound.0 ∷ []) y h))
+    binding-within binding (with_variable (names ++ bound.0 ∷ []) bound.1) y
+    (variable-within (names ++ bound.0 ∷ []) bound.1 y (one_of-left names (bound.0 ∷ []) y h))
 
 -- ---- what was listed is in it
 
@@ -54,7 +56,9 @@ variable-kept names (Const n) = refl
 pub exps-kept : (es : List Exp) (names : List ℕ) → All (IsKept (with_exps names es)) es
 exps-kept [] names = All-nil (IsKept names)
 exps-kept (e ∷ es) names =
-    All-cons (IsKept (with_exps (with_variable names e) es)) e es (IsKept-more (with_variable names e) (with_exps (with_variable names e) es) (exps-within es (with_variable names e)) e (variable-kept names e)) (exps-kept es (with_variable names e))
+    All-cons (IsKept (with_exps (with_variable names e) es)) e es
+    (IsKept-more (with_variable names e) (with_exps (with_variable names e) es) (exps-within es (with_variable names e)) e
+    (variable-kept names e)) (exps-kept es (with_variable names e))
 
 each_side : (P : Exp → Type 0) (fact : Fact) → All P (sides fact) → EachInFact P fact
 each_side P (Eq left right) h = (All-head P left (right ∷ []) h, All-head P right [] (All-tail P left (right ∷ []) h))
@@ -70,25 +74,32 @@ facts-kept [] names = All-nil (EachInFact (IsKept names))
 facts-kept (fact ∷ facts) names =
     let now : List ℕ = with_exps names (sides fact) in
     let later : List ℕ = with_facts now facts in
-    All-cons (EachInFact (IsKept later)) fact facts (each-fact (IsKept now) (IsKept later) (IsKept-more now later (facts-within facts now)) fact (each_side (IsKept now) fact (exps-kept (sides fact) names))) (facts-kept facts now)
+    All-cons (EachInFact (IsKept later)) fact facts
+    (each-fact (IsKept now) (IsKept later) (IsKept-more now later (facts-within facts now)) fact
+    (each_side (IsKept now) fact (exps-kept (sides fact) names))) (facts-kept facts now)
 
 atoms-kept : (atoms : List Atom) (names : List ℕ) → All (EachInAtom (IsKept (with_atoms names atoms))) atoms
 atoms-kept [] names = All-nil (EachInAtom (IsKept names))
 atoms-kept (atom ∷ atoms) names =
     let now : List ℕ = with_exps names (exps_of atom) in
     let later : List ℕ = with_atoms now atoms in
-    All-cons (EachInAtom (IsKept later)) atom atoms (each-atom (IsKept now) (IsKept later) (IsKept-more now later (atoms-within atoms now)) atom (each_exp (IsKept now) atom (exps-kept (exps_of atom) names))) (atoms-kept atoms now)
+    All-cons (EachInAtom (IsKept later)) atom atoms
+    (each-atom (IsKept now) (IsKept later) (IsKept-more now later (atoms-within atoms now)) atom
+    (each_exp (IsKept now) atom (exps-kept (exps_of atom) names))) (atoms-kept atoms now)
 
 -- the expressions of a heap are kept by each list that has what was listed
 pub heap-kept : (heap : SymHeap) (names more : List ℕ) → Within (with_heap names heap) more → EachInHeap (IsKept more) heap
 heap-kept heap names more within =
     let first : List ℕ = with_facts names heap.pure in
     let all : List ℕ = with_heap names heap in record {
-      facts = each-facts (IsKept first) (IsKept more) (IsKept-more first more (λ x h. within x (atoms-within heap.spatial first x h))) heap.pure (facts-kept heap.pure names);
+      facts =
+          each-facts (IsKept first) (IsKept more) (IsKept-more first more (λ x h. within x (atoms-within heap.spatial first x h))) heap.pure
+          (facts-kept heap.pure names);
       atoms = each-atoms (IsKept all) (IsKept more) (IsKept-more all more within) heap.spatial (atoms-kept heap.spatial first);
     }
 
 pub locals-kept : (state : SymState) (names more : List ℕ) → Within (with_state names state) more → All (IsKept more) state.locals
 locals-kept state names more within =
     let first : List ℕ = with_exps names state.locals in
-    All-weaker (IsKept first) (IsKept more) (IsKept-more first more (λ x h. within x (heap-within state.heap first x h))) state.locals (exps-kept state.locals names)
+    All-weaker (IsKept first) (IsKept more) (IsKept-more first more (λ x h. within x (heap-within state.heap first x h))) state.locals
+    (exps-kept state.locals names)

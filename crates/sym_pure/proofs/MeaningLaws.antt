@@ -47,20 +47,26 @@ unified-extends solved more (Ne left right ∷ facts) extends h = unified-extend
 
 -- ---- the disequalities, read
 
-pub disequalities-are : (structs : List StructDef) (t : ℕ → ℤ) (heap : List Cell) (atoms : List Atom) (holds : HoldsAtoms structs t atoms heap) (solved : List Solved) (facts : List Fact) →
+pub disequalities-are : (structs : List StructDef) (t : ℕ → ℤ) (heap : List Cell) (atoms : List Atom)
+    (holds : HoldsAtoms structs t atoms heap) (solved : List Solved) (facts : List Fact) →
     AreDisequalities structs t heap atoms holds (disequalities solved facts)
 disequalities-are structs t heap atoms holds solved [] = tt
 disequalities-are structs t heap atoms holds solved (Eq left right ∷ facts) = disequalities-are structs t heap atoms holds solved facts
 disequalities-are structs t heap atoms holds solved (Ne left right ∷ facts) = disequalities-are structs t heap atoms holds solved facts
 
-disequalities-to : (t : ℕ → ℤ) (solved : List Solved) (facts : List Fact) → AreTrueSolved t solved → AreTrueFacts t facts → AreTrueFacts t (disequalities solved facts)
+disequalities-to : (t : ℕ → ℤ) (solved : List Solved) (facts : List Fact) → AreTrueSolved t solved → AreTrueFacts t facts →
+    AreTrueFacts t (disequalities solved facts)
 disequalities-to t solved [] is_true h = tt
 disequalities-to t solved (Eq left right ∷ facts) is_true h = disequalities-to t solved facts is_true h.1
-disequalities-to t solved (Ne left right ∷ facts) is_true h =
-    (λ same. h.0 (sym (value-read t solved is_true left) ∙ (same ∙ value-read t solved is_true right)), disequalities-to t solved facts is_true h.1)
+disequalities-to t solved (Ne left right ∷ facts) is_true h = (
+  λ same. h.0
+      (sym (value-read t solved is_true left) ∙ (same ∙ value-read t solved is_true right)),
+  disequalities-to t solved facts is_true h.1,
+)
 
 -- with equations whose sides read the same, all facts are true again
-disequalities-from : (t u : ℕ → ℤ) (solved : List Solved) → ((e : Exp) → value t (read solved e) ≡ value u e) → (facts : List Fact) → AreUnified solved facts → AreTrueFacts t (disequalities solved facts) → AreTrueFacts u facts
+disequalities-from : (t u : ℕ → ℤ) (solved : List Solved) → ((e : Exp) → value t (read solved e) ≡ value u e) → (facts : List Fact) →
+    AreUnified solved facts → AreTrueFacts t (disequalities solved facts) → AreTrueFacts u facts
 disequalities-from t u solved reads [] unified h = tt
 disequalities-from t u solved reads (Eq left right ∷ facts) unified h =
     (sym (reads left) ∙ (ap (value t) unified.0 ∙ reads right), disequalities-from t u solved reads facts unified.1 h)
@@ -73,9 +79,11 @@ abbrev KeepsMeaning : SymState → Normal → Type 0
 KeepsMeaning state form = MeansTheSame state form × HoldsAlike state form
 
 module _ (state : SymState) (settled : Settled)
-    (forward : (structs : List StructDef) (heap : List Cell) (t : ℕ → ℤ) → AreTrueFacts t state.heap.pure → HoldsAtoms structs t state.heap.spatial heap → IsSettled structs heap t settled)
+    (forward : (structs : List StructDef) (heap : List Cell) (t : ℕ → ℤ) → AreTrueFacts t state.heap.pure →
+    HoldsAtoms structs t state.heap.spatial heap → IsSettled structs heap t settled)
     (unified : AreUnified settled.solved state.heap.pure)
-    (back : (structs : List StructDef) (heap : List Cell) (u : ℕ → ℤ) → Respects structs heap u settled.solved → HoldsAtoms structs u settled.atoms heap → HoldsAtoms structs u state.heap.spatial heap) where
+    (back : (structs : List StructDef) (heap : List Cell) (u : ℕ → ℤ) → Respects structs heap u settled.solved →
+    HoldsAtoms structs u settled.atoms heap → HoldsAtoms structs u state.heap.spatial heap) where
   abbrev facts : List Fact
   facts = disequalities settled.solved state.heap.pure
 
@@ -94,11 +102,14 @@ module _ (state : SymState) (settled : Settled)
       facts-to = disequalities-to t settled.solved state.heap.pure is_settled.0 holds.facts
 
       atoms-to : HoldsAtoms structs t atoms heap
-      atoms-to = (HoldsAtoms-mapped t t (read settled.solved) (value-read t settled.solved is_settled.0) structs settled.atoms heap).1 is_settled.1
+      atoms-to =
+          (HoldsAtoms-mapped t t (read settled.solved) (value-read t settled.solved is_settled.0) structs settled.atoms heap).1 is_settled.1
 
       form-to : Holds structs t heap form.heap
       form-to = record {
-        facts = needed-to t (addresses atoms) facts (equations settled.solved settled.solved []) facts-to (equations-to t settled.solved settled.solved [] is_settled.0 tt);
+        facts =
+            needed-to t (addresses atoms) facts (equations settled.solved settled.solved []) facts-to
+            (equations-to t settled.solved settled.solved [] is_settled.0 tt);
         atoms = (one_junk-same atoms structs t heap).0 atoms-to;
       }
 
@@ -106,7 +117,14 @@ module _ (state : SymState) (settled : Settled)
       no_clash h = clash-false t structs heap facts atoms facts-to atoms-to h
 
     meets-to : MeetsState structs s locals heap state → MeetsState structs s locals heap form
-    meets-to m = (m.0, m.1, m.2 ∙ sym (values-mapped m.0 m.0 (read settled.solved) (value-read m.0 settled.solved (is_settled m.0 m.3).0) state.locals), form-to m.0 m.3)
+    meets-to m = (
+      m.0,
+      m.1,
+      m.2
+          ∙ sym (values-mapped m.0 m.0 (read settled.solved)
+          (value-read m.0 settled.solved (is_settled m.0 m.3).0) state.locals),
+      form-to m.0 m.3,
+    )
 
     module _ (t : ℕ → ℤ) (holds : Holds structs t heap form.heap) (apart : has_same_sides facts ≡ false) where
       atoms-from : HoldsAtoms structs t atoms heap
@@ -122,8 +140,12 @@ module _ (state : SymState) (settled : Settled)
 
       form-from : Holds structs (through settled.solved t) heap state.heap
       form-from = record {
-        facts = disequalities-from t (through settled.solved t) settled.solved (value-through settled.solved t) state.heap.pure unified parts.1;
-        atoms = back structs heap (through settled.solved t) respects ((HoldsAtoms-mapped t (through settled.solved t) (read settled.solved) (value-through settled.solved t) structs settled.atoms heap).0 atoms-from);
+        facts =
+            disequalities-from t (through settled.solved t) settled.solved (value-through settled.solved t) state.heap.pure unified parts.1;
+        atoms =
+            back structs heap (through settled.solved t) respects
+            ((HoldsAtoms-mapped t (through settled.solved t) (read settled.solved)
+            (value-through settled.solved t) structs settled.atoms heap).0 atoms-from);
       }
 
     meets-from : has_clash facts atoms ≡ false → MeetsState structs s locals heap form → MeetsState structs s locals heap state
@@ -138,26 +160,40 @@ module _ (state : SymState) (settled : Settled)
   holds-alike : HoldsAlike state (Is form)
   holds-alike structs t heap holds = (
     form-to structs (λ x. t x) (map (value t) state.locals) heap t holds,
-    values-mapped t t (read settled.solved) (value-read t settled.solved (is_settled structs (λ x. t x) (map (value t) state.locals) heap t holds).0) state.locals,
+    values-mapped t t (read settled.solved)
+        (value-read t settled.solved (is_settled structs (λ x. t x) (map (value t) state.locals) heap t holds).0) state.locals,
   )
 
   by_clash : (b : Bool) → has_clash facts atoms ≡ b → KeepsMeaning state (normal_of state settled.solved facts atoms)
-  by_clash true e = rw e (λ structs s locals heap m. no_clash structs s locals heap m.0 m.3 e, λ structs t heap holds. no_clash structs (λ x. t x) (map (value t) state.locals) heap t holds e)
+  by_clash true e =
+      rw e (
+        λ structs s locals heap m. no_clash structs s locals heap m.0 m.3 e,
+        λ structs t heap holds. no_clash structs (λ x. t x)
+            (map (value t) state.locals) heap t holds e,
+      )
   by_clash false e = rw e (λ structs s locals heap. (meets-to structs s locals heap, meets-from structs s locals heap e), holds-alike)
 
   pub means-settled : KeepsMeaning state (normal_settled state (Some settled))
   means-settled = by_clash (has_clash facts atoms) refl
 
-means-solved : (state : SymState) (solved : List Solved) → ((t : ℕ → ℤ) → AreTrueFacts t state.heap.pure → AreTrueSolved t solved) → AreUnified solved state.heap.pure → (o : Option Settled) →
-    ((structs : List StructDef) (heap : List Cell) (t : ℕ → ℤ) → AreTrueSolved t solved → HoldsAtoms structs t state.heap.spatial heap → MatchOption o ⊥ (IsSettled structs heap t)) →
-    ((structs : List StructDef) (heap : List Cell) → MatchOption o (Unit {0}) (ComesFrom structs heap solved state.heap.spatial)) → KeepsMeaning state (normal_settled state o)
-means-solved state solved is_true unified None forward back =
-    (λ structs s locals heap m. forward structs heap m.0 (is_true m.0 m.3.facts) m.3.atoms, λ structs t heap holds. forward structs heap t (is_true t holds.facts) holds.atoms)
+means-solved : (state : SymState) (solved : List Solved) → ((t : ℕ → ℤ) → AreTrueFacts t state.heap.pure → AreTrueSolved t solved) →
+    AreUnified solved state.heap.pure → (o : Option Settled) →
+    ((structs : List StructDef) (heap : List Cell) (t : ℕ → ℤ) → AreTrueSolved t solved → HoldsAtoms structs t state.heap.spatial heap →
+    MatchOption o ⊥ (IsSettled structs heap t)) →
+    ((structs : List StructDef) (heap : List Cell) → MatchOption o (Unit {0}) (ComesFrom structs heap solved state.heap.spatial)) →
+    KeepsMeaning state (normal_settled state o)
+means-solved state solved is_true unified None forward back = (
+  λ structs s locals heap m. forward structs heap m.0 (is_true m.0 m.3.facts) m.3.atoms,
+  λ structs t heap holds. forward structs heap t
+      (is_true t holds.facts) holds.atoms,
+)
 means-solved state solved is_true unified (Some settled) forward back =
     means-settled state settled (λ structs heap t facts_true holds. forward structs heap t (is_true t facts_true) holds)
-    (unified-extends solved settled.solved state.heap.pure (back [] []).0 unified) (λ structs heap u respects holds. (back structs heap).1 u respects holds)
+    (unified-extends solved settled.solved state.heap.pure (back [] []).0 unified)
+    (λ structs heap u respects holds. (back structs heap).1 u respects holds)
 
-means-unsolved : (state : SymState) (o : Option (List Solved)) → ((t : ℕ → ℤ) → AreTrueFacts t state.heap.pure → MatchOption o ⊥ (AreTrueSolved t)) →
+means-unsolved : (state : SymState) (o : Option (List Solved)) →
+    ((t : ℕ → ℤ) → AreTrueFacts t state.heap.pure → MatchOption o ⊥ (AreTrueSolved t)) →
     MatchOption o (Unit {0}) (Solves [] state.heap.pure) → KeepsMeaning state (normal_solved state o)
 means-unsolved state None forward back = (λ structs s locals heap m. forward m.0 m.3.facts, λ structs t heap holds. forward t holds.facts)
 means-unsolved state (Some solved) forward back =
@@ -166,7 +202,9 @@ means-unsolved state (Some solved) forward back =
     (λ structs heap. settle-back structs heap (length state.heap.spatial) solved state.heap.spatial)
 
 keeps_meaning : (state : SymState) → KeepsMeaning state (normal state)
-keeps_meaning state = means-unsolved state (solve state.heap.pure []) (λ t facts_true. solve-true t state.heap.pure [] tt facts_true) (solve-unifies state.heap.pure [])
+keeps_meaning state =
+    means-unsolved state (solve state.heap.pure []) (λ t facts_true. solve-true t state.heap.pure [] tt facts_true)
+    (solve-unifies state.heap.pure [])
 
 pub normal_keeps_meaning : NormalKeepsMeaning
 normal_keeps_meaning state = (keeps_meaning state).0

@@ -10,7 +10,8 @@ use Rattle.sym_pure.specs.Equations.{read_through, solved}
 
 solved-each : (P : Exp → Type 0) (x : ℕ) (facts : List Fact) → All (EachInFact P) facts → P (Var x) → P (solved facts x)
 solved-each P x [] each h = h
-solved-each P x (Eq (Var y) right ∷ facts) each h = by_test (y == x) (solved-each P x facts (All-tail (EachInFact P) (Eq (Var y) right) facts each) h)
+solved-each P x (Eq (Var y) right ∷ facts) each h =
+    by_test (y == x) (solved-each P x facts (All-tail (EachInFact P) (Eq (Var y) right) facts each) h)
   where
     by_test : (b : Bool) → P (solved facts x) → P (if b then right else solved facts x)
     by_test true later = (All-head (EachInFact P) (Eq (Var y) right) facts each).1

@@ -49,7 +49,8 @@ below-through : (x y : ℕ) (e : Exp) → ltb y x ≡ true → is_below y e ≡ 
 below-through x y (Var z) yx zy = lt-ltb z x (let a : y < x = ltb-true y x yx in let b : z < y = ltb-true z y zy in omega arith)
 below-through x y (Const n) yx h = refl
 
-instead-below : (x variable : ℕ) (by e : Exp) → is_below variable by ≡ true → is_below x e ≡ true → is_below x (instead variable by e) ≡ true
+instead-below : (x variable : ℕ) (by e : Exp) → is_below variable by ≡ true → is_below x e ≡ true →
+    is_below x (instead variable by e) ≡ true
 instead-below x variable by (Const n) lower h = refl
 instead-below x variable by (Var y) lower h = by_test (y == variable) refl
   where
@@ -59,14 +60,16 @@ instead-below x variable by (Var y) lower h = by_test (y == variable) refl
 
 pub read-below : (x : ℕ) (solved : List Solved) (e : Exp) → AreLower solved → is_below x e ≡ true → is_below x (read solved e) ≡ true
 read-below x [] e lower h = h
-read-below x (first ∷ later) e lower h = read-below x later (instead first.variable first.by e) lower.1 (instead-below x first.variable first.by e lower.0 h)
+read-below x (first ∷ later) e lower h =
+    read-below x later (instead first.variable first.by e) lower.1 (instead-below x first.variable first.by e lower.0 h)
 
 -- a solved variable reads as something below it
 pub solved-below : (x : ℕ) (solved : List Solved) → AreLower solved → is_solved x solved ≡ true → is_below x (read solved (Var x)) ≡ true
 solved-below x [] lower is = cc
 solved-below x (first ∷ later) lower is = by_test (x == first.variable) refl is (λ k. solved-below x later lower.1 k)
   where
-    by_test : (b : Bool) → (x == first.variable) ≡ b → is_solved x (first ∷ later) ≡ true → (is_solved x later ≡ true → is_below x (read later (Var x)) ≡ true) → is_below x (read (first ∷ later) (Var x)) ≡ true
+    by_test : (b : Bool) → (x == first.variable) ≡ b → is_solved x (first ∷ later) ≡ true →
+        (is_solved x later ≡ true → is_below x (read later (Var x)) ≡ true) → is_below x (read (first ∷ later) (Var x)) ≡ true
     by_test true e k go_on =
         let same : x ≡ first.variable = eqb-true x first.variable e in
         rw e (read-below x later first.by lower.1 (rw same lower.0))
@@ -85,7 +88,8 @@ itself-unsolved x solved lower itself = by_test (is_solved x solved) refl
 
 -- ---- one solved equation more
 
-push-clean : (solved : List Solved) (variable : ℕ) (by : Exp) → IsClean solved → read solved by ≡ by → IsClean (with_solved solved variable by)
+push-clean : (solved : List Solved) (variable : ℕ) (by : Exp) → IsClean solved → read solved by ≡ by →
+    IsClean (with_solved solved variable by)
 push-clean solved variable by clean by_read e =
     let outer : read (with_solved solved variable by) e ≡ instead variable by (read solved e) = read-push solved variable by e in
     rw (outer, read-push solved variable by (instead variable by (read solved e))) (by_exp (read solved e) (clean e))
@@ -94,15 +98,18 @@ push-clean solved variable by clean by_read e =
     by_exp (Const n) k = rw k refl
     by_exp (Var x) k = by_test (x == variable) refl
       where
-        by_test : (b : Bool) → (x == variable) ≡ b → instead variable by (read solved (instead variable by (Var x))) ≡ instead variable by (Var x)
+        by_test : (b : Bool) → (x == variable) ≡ b →
+            instead variable by (read solved (instead variable by (Var x))) ≡ instead variable by (Var x)
         by_test true e = rw (e, by_read) (instead-by variable by)
         by_test false e = rw (e, k, e) refl
 
-push-lower : (solved : List Solved) (variable : ℕ) (by : Exp) → AreLower solved → is_below variable by ≡ true → AreLower (with_solved solved variable by)
+push-lower : (solved : List Solved) (variable : ℕ) (by : Exp) → AreLower solved → is_below variable by ≡ true →
+    AreLower (with_solved solved variable by)
 push-lower [] variable by lower one = (one, tt)
 push-lower (first ∷ later) variable by lower one = (lower.0, push-lower later variable by lower.1 one)
 
-is_solved-push : (x : ℕ) (solved : List Solved) (variable : ℕ) (by : Exp) → is_solved x solved ≡ false → (x == variable) ≡ false → is_solved x (with_solved solved variable by) ≡ false
+is_solved-push : (x : ℕ) (solved : List Solved) (variable : ℕ) (by : Exp) → is_solved x solved ≡ false → (x == variable) ≡ false →
+    is_solved x (with_solved solved variable by) ≡ false
 is_solved-push x [] variable by none apart = rw apart refl
 is_solved-push x (first ∷ later) variable by none apart =
     let parts = or_parts (x == first.variable) (is_solved x later) none in
@@ -115,13 +122,18 @@ eqb-sym x y h = by_test (y == x) refl
     by_test false e = e
     by_test true e = let turned : (x == y) ≡ true = eq-eqb x y (sym (eqb-true y x e)) in cc
 
-push-distinct : (solved : List Solved) (variable : ℕ) (by : Exp) → AreDistinct solved → is_solved variable solved ≡ false → AreDistinct (with_solved solved variable by)
+push-distinct : (solved : List Solved) (variable : ℕ) (by : Exp) → AreDistinct solved → is_solved variable solved ≡ false →
+    AreDistinct (with_solved solved variable by)
 push-distinct [] variable by distinct new = (refl, tt)
 push-distinct (first ∷ later) variable by distinct new =
-    let parts = or_parts (variable == first.variable) (is_solved variable later) new in
-    (is_solved-push first.variable later variable by distinct.0 (eqb-sym variable first.variable parts.0), push-distinct later variable by distinct.1 parts.1)
+    let parts = or_parts (variable == first.variable) (is_solved variable later) new in (
+      is_solved-push first.variable later variable by distinct.0
+          (eqb-sym variable first.variable parts.0),
+      push-distinct later variable by distinct.1 parts.1,
+    )
 
-pub push-solution : (solved : List Solved) (variable : ℕ) (by : Exp) → IsSolution solved → read solved (Var variable) ≡ Var variable → read solved by ≡ by → is_below variable by ≡ true →
+pub push-solution : (solved : List Solved) (variable : ℕ) (by : Exp) → IsSolution solved → read solved (Var variable) ≡ Var variable →
+    read solved by ≡ by → is_below variable by ≡ true →
     IsSolution (with_solved solved variable by)
 push-solution solved variable by is itself by_read below = record {
   clean = push-clean solved variable by is.clean by_read;
@@ -131,7 +143,8 @@ push-solution solved variable by is itself by_read below = record {
 
 -- ---- the rules keep it
 
-with_read-solution : (solved : List Solved) (left right : Exp) → IsSolution solved → read solved left ≡ left → read solved right ≡ right → MatchOption (with_read solved left right) (Unit {0}) IsSolution
+with_read-solution : (solved : List Solved) (left right : Exp) → IsSolution solved → read solved left ≡ left → read solved right ≡ right →
+    MatchOption (with_read solved left right) (Unit {0}) IsSolution
 with_read-solution solved (Const m) (Const n) is l r = by_test (int_eq m n) refl
   where
     by_test : (b : Bool) → int_eq m n ≡ b → MatchOption (with_read solved (Const m) (Const n)) (Unit {0}) IsSolution
@@ -149,13 +162,16 @@ with_read-solution solved (Var x) (Var y) is l r = by_test (x == y) refl (ltb x 
         let below : y < x = grind (arith, nat_tests) in
         rw (e, f) (push-solution solved x (Var y) is l r (lt-ltb y x below))
 
-pub with_equation-solution : (solved : List Solved) (left right : Exp) → IsSolution solved → MatchOption (with_equation solved left right) (Unit {0}) IsSolution
-with_equation-solution solved left right is = with_read-solution solved (read solved left) (read solved right) is (is.clean left) (is.clean right)
+pub with_equation-solution : (solved : List Solved) (left right : Exp) → IsSolution solved →
+    MatchOption (with_equation solved left right) (Unit {0}) IsSolution
+with_equation-solution solved left right is =
+    with_read-solution solved (read solved left) (read solved right) is (is.clean left) (is.clean right)
 
 pub solve-solution : (facts : List Fact) (solved : List Solved) → IsSolution solved → MatchOption (solve facts solved) (Unit {0}) IsSolution
 solve-solution [] solved is = is
 solve-solution (Eq left right ∷ facts) solved is =
-    unless_clash-goes (Unit {0}) IsSolution IsSolution (λ more. solve facts more) (with_equation solved left right) (with_equation-solution solved left right is) (λ more k. solve-solution facts more k)
+    unless_clash-goes (Unit {0}) IsSolution IsSolution (λ more. solve facts more) (with_equation solved left right)
+    (with_equation-solution solved left right is) (λ more k. solve-solution facts more k)
 solve-solution (Ne left right ∷ facts) solved is = solve-solution facts solved is
 
 pub no_solution : IsSolution []
@@ -167,18 +183,24 @@ abbrev pub IsAtEnd : Settled → Type 0
 IsAtEnd settled = IsSolution settled.solved × (place_of_empty settled.solved settled.atoms ≡ None)
 
 -- the turns are enough
-pub settle-ends : (turns : ℕ) (solved : List Solved) (atoms : List Atom) → length atoms ≤ turns → IsSolution solved → MatchOption (settle turns solved atoms) (Unit {0}) IsAtEnd
+pub settle-ends : (turns : ℕ) (solved : List Solved) (atoms : List Atom) → length atoms ≤ turns → IsSolution solved →
+    MatchOption (settle turns solved atoms) (Unit {0}) IsAtEnd
 settle-ends zero solved [] enough is = (is, refl)
 settle-ends zero solved (atom ∷ atoms) enough is = absurd (omega arith)
-settle-ends (suc turns) solved atoms enough is = by_place (place_of_empty solved atoms) refl (place_of_empty-is solved atoms) (λ more others fewer k. settle-ends turns more others fewer k)
+settle-ends (suc turns) solved atoms enough is =
+    by_place (place_of_empty solved atoms) refl (place_of_empty-is solved atoms)
+    (λ more others fewer k. settle-ends turns more others fewer k)
   where
     by_place : (o : Option ℕ) → place_of_empty solved atoms ≡ o → ((place : ℕ) → o ≡ Some place → IsEmptied solved atoms place) →
-        ((more : List Solved) (others : List Atom) → length others ≤ turns → IsSolution more → MatchOption (settle turns more others) (Unit {0}) IsAtEnd) →
+        ((more : List Solved) (others : List Atom) → length others ≤ turns → IsSolution more →
+        MatchOption (settle turns more others) (Unit {0}) IsAtEnd) →
         MatchOption (settle_at (λ more others. settle turns more others) solved atoms o) (Unit {0}) IsAtEnd
     by_place None e told again = (is, e)
     by_place (Some place) e told again =
         let emptied : IsEmptied solved atoms place = told place refl in
         let shorter = remove-shorter atoms place (Seg emptied.kind emptied.link emptied.from emptied.to) emptied.is in
         let fewer : length (remove atoms place) ≤ turns = omega arith in
-        rw emptied.is (unless_clash-goes (Unit {0}) IsSolution IsAtEnd (λ more. settle turns more (remove atoms place)) (with_equation solved emptied.from emptied.to) (with_equation-solution solved emptied.from emptied.to is)
+        rw emptied.is
+        (unless_clash-goes (Unit {0}) IsSolution IsAtEnd (λ more. settle turns more (remove atoms place))
+        (with_equation solved emptied.from emptied.to) (with_equation-solution solved emptied.from emptied.to is)
         (λ more k. again more (remove atoms place) fewer k))

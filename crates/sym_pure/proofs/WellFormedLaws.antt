@@ -38,20 +38,33 @@ module _ (limits : Limits) (structs : List StructDef) (params : ℕ) where
   atom_each (Seg kind link from to) h = (h.1, h.2)
   atom_each Junk h = tt
 
-  as_many : (f : Exp → Exp) (fields : List Exp) (def : Option StructDef) → IsSomeAnd def (λ d. length fields ≡ length d.fields) → IsSomeAnd def (λ d. length (map f fields) ≡ length d.fields)
+  as_many : (f : Exp → Exp) (fields : List Exp) (def : Option StructDef) → IsSomeAnd def (λ d. length fields ≡ length d.fields)
+      → IsSomeAnd def (λ d. length (map f fields) ≡ length d.fields)
   as_many f fields None h = h
   as_many f fields (Some def) h = length-map fields f ∙ h
 
-  atom_maps : (f : Exp → Exp) → ((e : Exp) → IsExp limits params e → IsExp limits params (f e)) → (atom : Atom) → IsAtom limits structs params atom → IsAtom limits structs params (on_atom f atom)
-  atom_maps f gives (Points at kind fields) h = (gives at h.0, as_many f fields (struct_named structs kind) h.1, each-on_exps (IsExp limits params) (IsExp limits params) f gives fields h.2)
+  atom_maps : (f : Exp → Exp) → ((e : Exp) → IsExp limits params e → IsExp limits params (f e)) → (atom : Atom)
+      → IsAtom limits structs params atom → IsAtom limits structs params (on_atom f atom)
+  atom_maps f gives (Points at kind fields) h = (
+    gives at h.0,
+    as_many f fields (struct_named structs kind) h.1,
+    each-on_exps (IsExp limits params)
+        (IsExp limits params) f gives fields h.2,
+  )
   atom_maps f gives (Seg kind link from to) h = (h.0, gives from h.1, gives to h.2)
   atom_maps f gives Junk h = tt
 
 pub form_is_well_formed : FormIsWellFormed
 form_is_well_formed limits structs params slots state form is h =
     let few = form_has_no_more_parts state form is in
-    let all = normal-each (IsExp limits params) (IsAtom limits structs params) (atom_each limits structs params) (atom_maps limits structs params) tt state form is
-    (h.locals, All-weaker (IsFact limits params) (EachInFact (IsExp limits params)) (to_each limits structs params) state.heap.pure h.heap.facts, h.heap.atoms) in
+    let all =
+    normal-each (IsExp limits params) (IsAtom limits structs params) (atom_each limits structs params)
+    (atom_maps limits structs params) tt state form is (
+      h.locals,
+      All-weaker (IsFact limits params) (EachInFact (IsExp limits params))
+          (to_each limits structs params) state.heap.pure h.heap.facts,
+      h.heap.atoms,
+    ) in
     record {
       one_each = few.locals ∙ h.one_each;
       locals = all.0;

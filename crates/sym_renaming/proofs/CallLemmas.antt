@@ -28,7 +28,8 @@ use Rattle.sym_matching.proofs.ReadingLaws.{value-through}
 use Rattle.sym_matching.proofs.VariableLaws.{binding-within, heap-kept, heap-within}
 use Rattle.sym_renaming.specs.declared.parts.Numbers.{Numbers}
 use Rattle.sym_renaming.specs.Apart.{number_of, numbers_apart}
-use Rattle.sym_renaming.specs.Calls.{bound_in, bound_or_new, in_caller, new_in_post, parameters_bound, post_in_caller, post_variables, pre_apart, pre_numbers, variables_from}
+use Rattle.sym_renaming.specs.Calls.{bound_in, bound_or_new, in_caller, new_in_post, parameters_bound, post_in_caller, post_variables}
+use Rattle.sym_renaming.specs.Calls.{pre_apart, pre_numbers, variables_from}
 use Rattle.sym_renaming.specs.Laws.{ArgumentsStand, MatchIsCall, PostBesideFrame, PostHolds, PostInCaller, PreInCaller, standing}
 use Rattle.sym_renaming.proofs.CoveringLemmas.{filtered}
 use Rattle.sym_renaming.proofs.ListedLemmas.{IsListed, heap-listed, listed-more, variable-listed}
@@ -36,14 +37,18 @@ use Rattle.sym_renaming.proofs.NumberLemmas.{numbers_are_apart, renumbered_value
 
 -- ---- the precondition
 
-reads_number : (apart : Numbers) (binding : List (ℕ × Exp)) (t : ℕ → ℤ) (e : Exp) → value (through binding t) (renamed (number_of apart) e) ≡ value (standing apart binding t) e
+reads_number : (apart : Numbers) (binding : List (ℕ × Exp)) (t : ℕ → ℤ) (e : Exp) →
+    value (through binding t) (renamed (number_of apart) e) ≡ value (standing apart binding t) e
 reads_number apart binding t (Var x) = refl
 reads_number apart binding t (Const n) = refl
 
 pub pre_in_caller : PreInCaller
 pre_in_caller structs apart binding pre t heap =
-    let read = Holds-mapped t (through binding t) (bound_exp binding) (λ e. sym (value-through binding t e)) structs heap (pre_apart apart pre) in
-    let numbered = Holds-mapped (through binding t) (standing apart binding t) (renamed (number_of apart)) (reads_number apart binding t) structs heap pre in
+    let read =
+    Holds-mapped t (through binding t) (bound_exp binding) (λ e. sym (value-through binding t e)) structs heap (pre_apart apart pre) in
+    let numbered =
+    Holds-mapped (through binding t) (standing apart binding t) (renamed (number_of apart))
+    (reads_number apart binding t) structs heap pre in
     (λ h. numbered.0 (read.0 h), λ h. read.1 (numbered.1 h))
 
 -- ---- the arguments
@@ -53,7 +58,8 @@ pub listed_from : (k count x : ℕ) → k ≤ x → x < k + count → is_one_of 
 listed_from k zero x low high = absurd (omega arith)
 listed_from k (suc count) x low high = by_test (listed_from (k + 1) count x) (x == k) refl
   where
-    by_test : (k + 1 ≤ x → x < k + 1 + count → is_one_of (variables_from (k + 1) count) x ≡ true) → (b : Bool) → (x == k) ≡ b → is_one_of (variables_from k (suc count)) x ≡ true
+    by_test : (k + 1 ≤ x → x < k + 1 + count → is_one_of (variables_from (k + 1) count) x ≡ true) → (b : Bool) → (x == k) ≡ b →
+        is_one_of (variables_from k (suc count)) x ≡ true
     by_test later true e = or_left (x == k) (is_one_of (variables_from (k + 1) count) x) e
     by_test later false e =
         let other : x ≢ k = λ same. absurd (true_false (eq-eqb x k same) e) in
@@ -86,7 +92,8 @@ module _ (used : List ℕ) (pre : SymHeap) (args : List Exp) (binding : List (�
       by_test false e = refl
 
   -- an earlier parameter is not bound by later ones
-  not_bound : (k x : ℕ) (es : List Exp) → x < k → k + length es ≤ length args → bound_to (parameters_bound apart k es) (number_of apart x) ≡ None
+  not_bound : (k x : ℕ) (es : List Exp) → x < k → k + length es ≤ length args →
+      bound_to (parameters_bound apart k es) (number_of apart x) ≡ None
   not_bound k x [] low room = refl
   not_bound k x (e ∷ es) low room =
       rw (numbers_differ k x (omega arith) (omega arith) (omega arith)) (not_bound (k + 1) x es (omega arith) (omega arith))
@@ -94,7 +101,8 @@ module _ (used : List ℕ) (pre : SymHeap) (args : List Exp) (binding : List (�
   none_some : (o : Option Exp) (e : Exp) → o ≡ None → o ≡ Some e → ⊥
   none_some o e none some = let wrong : None ≡ Some e = sym none ∙ some in cc
 
-  stand : (k : ℕ) (es : List Exp) (params : List (List ℕ)) → k + length es ≤ length args → length params ≡ length es → StaysBound (parameters_bound apart k es) binding → (t : ℕ → ℤ) →
+  stand : (k : ℕ) (es : List Exp) (params : List (List ℕ)) → k + length es ≤ length args → length params ≡ length es →
+      StaysBound (parameters_bound apart k es) binding → (t : ℕ → ℤ) →
       values_from (standing apart binding t) k params ≡ map (value t) es
   stand k [] [] room same stays t = refl
   stand k [] (param ∷ params) room same stays t = absurd (omega arith)
@@ -111,7 +119,8 @@ module _ (used : List ℕ) (pre : SymHeap) (args : List Exp) (binding : List (�
           by_test : (b : Bool) → (number_of apart k == x) ≡ b → bound_exp binding (Var x) ≡ f
           by_test true g =
               let one : number_of apart k ≡ x = eqb-true (number_of apart k) x g in
-              absurd (none_some (bound_to (parameters_bound apart (k + 1) es) (number_of apart k)) f (not_bound (k + 1) k es (omega arith) (omega arith)) (rw one is))
+              absurd (none_some (bound_to (parameters_bound apart (k + 1) es) (number_of apart k)) f
+              (not_bound (k + 1) k es (omega arith) (omega arith)) (rw one is))
           by_test false g = stays x f (rw g is)
 
 pub arguments_stand : ArgumentsStand
@@ -134,23 +143,28 @@ match_is_call structs s heap a used avoid params args pre binding frame same giv
 -- ---- a post
 
 -- what a variable is bound to has variables of the binding's list
-bound_listed : (binding : List (ℕ × Exp)) (names : List ℕ) (x : ℕ) (e : Exp) → bound_to binding x ≡ Some e → IsListed (with_binding names binding) e
+bound_listed : (binding : List (ℕ × Exp)) (names : List ℕ) (x : ℕ) (e : Exp) → bound_to binding x ≡ Some e →
+    IsListed (with_binding names binding) e
 bound_listed [] names x e is = cc
-bound_listed (bound ∷ binding) names x e is = by_test (bound.0 == x) refl (bound_listed binding (with_variable (names ++ bound.0 ∷ []) bound.1) x e)
+bound_listed (bound ∷ binding) names x e is =
+    by_test (bound.0 == x) refl (bound_listed binding (with_variable (names ++ bound.0 ∷ []) bound.1) x e)
   where
-    by_test : (b : Bool) → (bound.0 == x) ≡ b → (bound_to binding x ≡ Some e → IsListed (with_binding names (bound ∷ binding)) e) → IsListed (with_binding names (bound ∷ binding)) e
+    by_test : (b : Bool) → (bound.0 == x) ≡ b → (bound_to binding x ≡ Some e → IsListed (with_binding names (bound ∷ binding)) e) →
+        IsListed (with_binding names (bound ∷ binding)) e
     by_test true f later =
         let same : Some bound.1 ≡ Some e = rw f at is in
         let one : bound.1 ≡ e = cc in
         subst (λ d. IsListed (with_binding names (bound ∷ binding)) d) one
-        (listed-more (with_variable (names ++ bound.0 ∷ []) bound.1) (with_binding names (bound ∷ binding)) (binding-within binding (with_variable (names ++ bound.0 ∷ []) bound.1)) bound.1 (variable-listed (names ++ bound.0 ∷ []) bound.1))
+        (listed-more (with_variable (names ++ bound.0 ∷ []) bound.1) (with_binding names (bound ∷ binding))
+        (binding-within binding (with_variable (names ++ bound.0 ∷ []) bound.1)) bound.1 (variable-listed (names ++ bound.0 ∷ []) bound.1))
     by_test false f later = let rest : bound_to binding x ≡ Some e = rw f at is in later rest
 
 listed-kept : (names : List ℕ) (e : Exp) → IsListed names e → IsKept names e
 listed-kept names (Var x) is = kept-name names x is
 listed-kept names (Const n) is = refl
 
-module _ (used : List ℕ) (apart : Numbers) (binding : List (ℕ × Exp)) (post : Post) (t v : ℕ → ℤ) (logical : AgreesOnLogical (standing apart binding t) v) where
+module _ (used : List ℕ) (apart : Numbers) (binding : List (ℕ × Exp)) (post : Post) (t v : ℕ → ℤ)
+    (logical : AgreesOnLogical (standing apart binding t) v) where
   abbrev all : List ℕ
   all = with_binding used binding
 
@@ -171,7 +185,8 @@ module _ (used : List ℕ) (apart : Numbers) (binding : List (ℕ × Exp)) (post
         by_test : (b : Bool) → ltb x 65536 ≡ b → value given.0 e ≡ v x
         by_test true f =
             let there : bound_to binding (number_of apart x) ≡ Some e = rw f at is in
-            let kept : value given.0 e ≡ value t e = value-kept all t given.0 given.1 e (listed-kept all e (bound_listed binding used (number_of apart x) e there)) in
+            let kept : value given.0 e ≡ value t e =
+            value-kept all t given.0 given.1 e (listed-kept all e (bound_listed binding used (number_of apart x) e there)) in
             let reads : standing apart binding t x ≡ value t e = ap (λ o. value t (or_itself (number_of apart x) o)) there in
             kept ∙ sym reads ∙ sym (logical x (ltb-true x 65536 f))
         by_test false f = let none : None ≡ Some e = rw f at is in cc
@@ -184,17 +199,24 @@ module _ (used : List ℕ) (apart : Numbers) (binding : List (ℕ × Exp)) (post
         by_bound (Some e) f = bound_value x e f
     reads_in_caller (Const n) is = refl
 
-    post_held : (structs : List StructDef) (ret : ℤ) (heap : List Cell) → ret ≡ value v post.ret → Holds structs v heap post.heap → PostHolds structs used t ret heap (post_in_caller used apart binding post)
+    post_held : (structs : List StructDef) (ret : ℤ) (heap : List Cell) → ret ≡ value v post.ret → Holds structs v heap post.heap →
+        PostHolds structs used t ret heap (post_in_caller used apart binding post)
     post_held structs ret heap same holds = record {
       w = given.0;
       agrees = λ x is. given.1 x (kept-more used all (binding-within binding used) x is);
-      result = same ∙ sym (reads_in_caller post.ret (listed-more (with_variable [] post.ret) (post_variables post) (heap-within post.heap (with_variable [] post.ret)) post.ret (variable-listed [] post.ret)));
-      holds = (Holds-each (IsListed (post_variables post)) given.0 v (in_caller apart binding own) reads_in_caller structs heap post.heap (heap-listed post.heap (with_variable [] post.ret))).1 holds;
+      result = same
+          ∙ sym (reads_in_caller post.ret
+          (listed-more (with_variable [] post.ret) (post_variables post) (heap-within post.heap (with_variable [] post.ret)) post.ret
+          (variable-listed [] post.ret)));
+      holds =
+          (Holds-each (IsListed (post_variables post)) given.0 v (in_caller apart binding own) reads_in_caller structs heap post.heap
+          (heap-listed post.heap (with_variable [] post.ret))).1 holds;
     }
 
 pub post_is_in_caller : PostInCaller
 post_is_in_caller structs used apart binding post t ret heap meets =
-    post_held used apart binding post t meets.0 meets.1 (renumbered_values (with_binding used binding) (new_in_post apart binding post) t meets.0) structs ret heap meets.2 meets.3
+    post_held used apart binding post t meets.0 meets.1
+    (renumbered_values (with_binding used binding) (new_in_post apart binding post) t meets.0) structs ret heap meets.2 meets.3
 
 -- the frame keeps what it holds
 pub post_is_beside_frame : PostBesideFrame
@@ -203,10 +225,13 @@ post_is_beside_frame structs used apart binding post frame t ret whole own kept 
     let each : EachInHeap (IsKept used) frame = heap-kept frame [] used has in
     let reads : (e : Exp) → IsKept used e → value held.w e ≡ value t e = value-kept used t held.w held.agrees in
     let facts : AreTrueFacts held.w frame.pure = AreTrueFacts-alike (IsKept used) t held.w reads frame.pure each.facts rest.facts in
-    let atoms : HoldsAtoms structs held.w frame.spatial kept = HoldsAtoms-alike (IsKept used) t held.w reads structs frame.spatial kept each.atoms rest.atoms in
+    let atoms : HoldsAtoms structs held.w frame.spatial kept =
+    HoldsAtoms-alike (IsKept used) t held.w reads structs frame.spatial kept each.atoms rest.atoms in
     record {
       w = held.w;
       agrees = held.agrees;
       result = held.result;
-      holds = Holds-beside structs held.w frame (post_in_caller used apart binding post).heap (IsSum-sym sum) (record { facts = facts; atoms = atoms }) held.holds;
+      holds =
+          Holds-beside structs held.w frame (post_in_caller used apart binding post).heap (IsSum-sym sum)
+          (record { facts = facts; atoms = atoms }) held.holds;
     }

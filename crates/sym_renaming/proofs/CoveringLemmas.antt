@@ -26,13 +26,18 @@ pub filtered : (test : ℕ → Bool) (xs : List ℕ) (x : ℕ) → is_one_of xs 
 filtered test [] x is passes = cc
 filtered test (y ∷ xs) x is passes = by_test (test y) refl (filtered test xs x)
   where
-    by_test : (b : Bool) → test y ≡ b → (is_one_of xs x ≡ true → test x ≡ true → is_one_of (filter test xs) x ≡ true) → is_one_of (filter test (y ∷ xs)) x ≡ true
-    by_test true e later = rw e (⊎_elim (λ here. or_left (x == y) (is_one_of (filter test xs) x) here) (λ there. rw (later there passes) (or_true (x == y))) (or_cases (x == y) (is_one_of xs x) is))
+    by_test : (b : Bool) → test y ≡ b → (is_one_of xs x ≡ true → test x ≡ true → is_one_of (filter test xs) x ≡ true) →
+        is_one_of (filter test (y ∷ xs)) x ≡ true
+    by_test true e later =
+        rw e (⊎_elim (λ here. or_left (x == y) (is_one_of (filter test xs) x) here) (λ there. rw (later there passes) (or_true (x == y)))
+        (or_cases (x == y) (is_one_of xs x) is))
       where
         or_true : (b : Bool) → (b || true) ≡ true
         or_true true = refl
         or_true false = refl
-    by_test false e later = rw e (⊎_elim (λ here. let same : x ≡ y = eqb-true x y here in let wrong : false ≡ true = sym e ∙ ap test (sym same) ∙ passes in cc) (λ there. later there passes) (or_cases (x == y) (is_one_of xs x) is))
+    by_test false e later =
+        rw e (⊎_elim (λ here. let same : x ≡ y = eqb-true x y here in let wrong : false ≡ true = sym e ∙ ap test (sym same) ∙ passes in cc)
+        (λ there. later there passes) (or_cases (x == y) (is_one_of xs x) is))
 
 module _ (used : List ℕ) (state : SymState) where
   -- logical variables keep their numbers
@@ -48,14 +53,20 @@ module _ (used : List ℕ) (state : SymState) where
         let w : ℕ → ℤ = given.0 in
         let names : List ℕ = with_state [] state in
         let logical : AgreesOnLogical t w = AgreesOn-logical used t w given.1 in
-        let reads : (e : Exp) → IsListed names e → value w (renamed (number_of (state_numbers used state)) e) ≡ value t e = λ e is. reads_of t w logical given.2 e is in (
+        let reads : (e : Exp) → IsListed names e → value w (renamed (number_of (state_numbers used state)) e) ≡ value t e =
+        λ e is. reads_of t w logical given.2 e is in (
           w,
           λ x low. logical x low ∙ meets.1 x low,
-          meets.2 ∙ sym (values-each (IsListed names) w t (renamed (number_of (state_numbers used state))) reads state.locals (locals-listed state [])),
-          (Holds-each (IsListed names) w t (renamed (number_of (state_numbers used state))) reads structs heap state.heap (heap-listed state.heap (with_exps [] state.locals))).1 meets.3,
+          meets.2 ∙ sym
+              (values-each (IsListed names) w t (renamed (number_of (state_numbers used state))) reads state.locals
+              (locals-listed state [])),
+          (Holds-each (IsListed names) w t (renamed (number_of (state_numbers used state))) reads structs heap state.heap
+              (heap-listed state.heap (with_exps [] state.locals))).1 meets.3,
         )
       where
-        reads_of : (t w : ℕ → ℤ) → AgreesOnLogical t w → ((x : ℕ) → is_one_of (existentials state) x ≡ true → w (number_of (state_numbers used state) x) ≡ t x) → (e : Exp) → IsListed (with_state [] state) e →
+        reads_of : (t w : ℕ → ℤ) → AgreesOnLogical t w →
+            ((x : ℕ) → is_one_of (existentials state) x ≡ true → w (number_of (state_numbers used state) x) ≡ t x) → (e : Exp) →
+            IsListed (with_state [] state) e →
             value w (renamed (number_of (state_numbers used state)) e) ≡ value t e
         reads_of t w logical new (Var x) is = by_test (leb 65536 x) refl
           where
@@ -74,9 +85,11 @@ module _ (used : List ℕ) (state : SymState) where
           (Holds-mapped w u (renamed (number_of (state_numbers used state))) (reads_number w) structs heap state.heap).0 meets.3,
         )
       where
-        reads_number : (t : ℕ → ℤ) (e : Exp) → value t (renamed (number_of (state_numbers used state)) e) ≡ value (λ x. t (number_of (state_numbers used state) x)) e
+        reads_number : (t : ℕ → ℤ) (e : Exp) →
+            value t (renamed (number_of (state_numbers used state)) e) ≡ value (λ x. t (number_of (state_numbers used state) x)) e
         reads_number t (Var x) = refl
         reads_number t (Const n) = refl
 
 pub state_apart_meets : StateApartMeets
-state_apart_meets used state structs s locals heap = (apart-meets used state structs s locals heap, apart-met used state structs s locals heap)
+state_apart_meets used state structs s locals heap =
+    (apart-meets used state structs s locals heap, apart-met used state structs s locals heap)

@@ -33,7 +33,9 @@ variable-listed names (Const n) = tt
 exps_listed : (es : List Exp) (names : List ℕ) → All (IsListed (with_exps names es)) es
 exps_listed [] names = All-nil (IsListed names)
 exps_listed (e ∷ es) names =
-    All-cons (IsListed (with_exps (with_variable names e) es)) e es (listed-more (with_variable names e) (with_exps (with_variable names e) es) (exps-within es (with_variable names e)) e (variable-listed names e)) (exps_listed es (with_variable names e))
+    All-cons (IsListed (with_exps (with_variable names e) es)) e es
+    (listed-more (with_variable names e) (with_exps (with_variable names e) es) (exps-within es (with_variable names e)) e
+    (variable-listed names e)) (exps_listed es (with_variable names e))
 
 each_side : (P : Exp → Type 0) (fact : Fact) → All P (sides fact) → EachInFact P fact
 each_side P (Eq left right) h = (All-head P left (right ∷ []) h, All-head P right [] (All-tail P left (right ∷ []) h))
@@ -49,21 +51,27 @@ facts_listed [] names = All-nil (EachInFact (IsListed names))
 facts_listed (fact ∷ facts) names =
     let now : List ℕ = with_exps names (sides fact) in
     let later : List ℕ = with_facts now facts in
-    All-cons (EachInFact (IsListed later)) fact facts (each-fact (IsListed now) (IsListed later) (listed-more now later (facts-within facts now)) fact (each_side (IsListed now) fact (exps_listed (sides fact) names))) (facts_listed facts now)
+    All-cons (EachInFact (IsListed later)) fact facts
+    (each-fact (IsListed now) (IsListed later) (listed-more now later (facts-within facts now)) fact
+    (each_side (IsListed now) fact (exps_listed (sides fact) names))) (facts_listed facts now)
 
 atoms_listed : (atoms : List Atom) (names : List ℕ) → All (EachInAtom (IsListed (with_atoms names atoms))) atoms
 atoms_listed [] names = All-nil (EachInAtom (IsListed names))
 atoms_listed (atom ∷ atoms) names =
     let now : List ℕ = with_exps names (exps_of atom) in
     let later : List ℕ = with_atoms now atoms in
-    All-cons (EachInAtom (IsListed later)) atom atoms (each-atom (IsListed now) (IsListed later) (listed-more now later (atoms-within atoms now)) atom (each_exp (IsListed now) atom (exps_listed (exps_of atom) names))) (atoms_listed atoms now)
+    All-cons (EachInAtom (IsListed later)) atom atoms
+    (each-atom (IsListed now) (IsListed later) (listed-more now later (atoms-within atoms now)) atom
+    (each_exp (IsListed now) atom (exps_listed (exps_of atom) names))) (atoms_listed atoms now)
 
 -- the expressions of a heap have variables of its list
 pub heap-listed : (heap : SymHeap) (names : List ℕ) → EachInHeap (IsListed (with_heap names heap)) heap
 heap-listed heap names =
     let first : List ℕ = with_facts names heap.pure in
     let all : List ℕ = with_heap names heap in record {
-      facts = each-facts (IsListed first) (IsListed all) (listed-more first all (atoms-within heap.spatial first)) heap.pure (facts_listed heap.pure names);
+      facts =
+          each-facts (IsListed first) (IsListed all) (listed-more first all (atoms-within heap.spatial first)) heap.pure
+          (facts_listed heap.pure names);
       atoms = atoms_listed heap.spatial first;
     }
 
@@ -71,4 +79,5 @@ heap-listed heap names =
 pub locals-listed : (state : SymState) (names : List ℕ) → All (IsListed (with_state names state)) state.locals
 locals-listed state names =
     let first : List ℕ = with_exps names state.locals in
-    All-weaker (IsListed first) (IsListed (with_state names state)) (listed-more first (with_state names state) (heap-within state.heap first)) state.locals (exps_listed state.locals names)
+    All-weaker (IsListed first) (IsListed (with_state names state))
+    (listed-more first (with_state names state) (heap-within state.heap first)) state.locals (exps_listed state.locals names)

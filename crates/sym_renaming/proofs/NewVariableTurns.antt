@@ -1,5 +1,6 @@
 -- A turn of the search for a free number, and of the list of new variables.
-use Rattle.std.proofs.Common.{◌≡◌, ◌∙◌, ℕ, zero, suc, ◌+◌, ◌-◌, ◌<◌, ◌≤◌, Bool, true, false, List, [], ◌∷◌, ◌++◌, refl, sym, ap, arith, append_assoc}
+use Rattle.std.proofs.Common.{◌≡◌, ◌∙◌, ℕ, zero, suc, ◌+◌, ◌-◌, ◌<◌, ◌≤◌, Bool, true, false, List, [], ◌∷◌, ◌++◌, refl, sym, ap, arith}
+use Rattle.std.proofs.Common.{append_assoc}
 use Rattle.std.proofs.lemmas.List.Elements.{All-head, All-tail}
 use Rattle.sym_laws.specs.Fresh.{is_one_of}
 use Rattle.sym_matching.specs.NewVariables.{HasRoom, first_free, fresh, fresh_variables}
@@ -33,18 +34,28 @@ module _ (count done : ℕ) (used : List ℕ) (inside : done < count) where
   one_more = rw count_left refl
 
   pub first_below : HasRoom (count - done) used → fresh used < 4294967296
-  first_below room = let all : HasRoom (suc (count - (done + 1))) used = rw count_left at room in All-head (λ x. x < 4294967296) (fresh used) (fresh_variables (count - (done + 1)) (used ++ fresh used ∷ [])) all
+  first_below room =
+      let all : HasRoom (suc (count - (done + 1))) used =
+      rw count_left at room in All-head (λ x. x < 4294967296) (fresh used)
+      (fresh_variables (count - (done + 1)) (used ++ fresh used ∷ [])) all
 
   pub others_below : HasRoom (count - done) used → HasRoom (count - (done + 1)) (used ++ fresh used ∷ [])
-  others_below room = let all : HasRoom (suc (count - (done + 1))) used = rw count_left at room in All-tail (λ x. x < 4294967296) (fresh used) (fresh_variables (count - (done + 1)) (used ++ fresh used ∷ [])) all
+  others_below room =
+      let all : HasRoom (suc (count - (done + 1))) used =
+      rw count_left at room in All-tail (λ x. x < 4294967296) (fresh used)
+      (fresh_variables (count - (done + 1)) (used ++ fresh used ∷ [])) all
 
-  pub turn : (old names now more : List ℕ) → (x : ℕ) → (fresh_variables count old ≡ names ++ fresh_variables (count - done) used) × (used ≡ old ++ names) × HasRoom (count - done) used → x ≡ fresh used → more ≡ names ++ x ∷ [] → now ≡ used ++ x ∷ [] →
-      (fresh_variables count old ≡ more ++ fresh_variables (count - (done + 1)) now) × (now ≡ old ++ more) × HasRoom (count - (done + 1)) now
+  pub turn : (old names now more : List ℕ) → (x : ℕ) →
+      (fresh_variables count old ≡ names ++ fresh_variables (count - done) used) × (used ≡ old ++ names) × HasRoom (count - done) used →
+      x ≡ fresh used → more ≡ names ++ x ∷ [] → now ≡ used ++ x ∷ [] →
+      (fresh_variables count old ≡ more ++ fresh_variables (count - (done + 1)) now) × (now ≡ old ++ more)
+      × HasRoom (count - (done + 1)) now
   turn old names now more x (listed, grown, room) is a b =
       let next : now ≡ used ++ fresh used ∷ [] = b ∙ ap (λ y. used ++ y ∷ []) is in
       let far : more ≡ names ++ fresh used ∷ [] = a ∙ ap (λ y. names ++ y ∷ []) is in
       rw (next, far) (
-        listed ∙ ap (λ ys. names ++ ys) one_more ∙ sym (append_assoc names (fresh used ∷ []) (fresh_variables (count - (done + 1)) (used ++ fresh used ∷ []))),
+        listed ∙ ap (λ ys. names ++ ys) one_more
+            ∙ sym (append_assoc names (fresh used ∷ []) (fresh_variables (count - (done + 1)) (used ++ fresh used ∷ []))),
         ap (λ ys. ys ++ fresh used ∷ []) grown ∙ append_assoc old names (fresh used ∷ []),
         others_below room,
       )

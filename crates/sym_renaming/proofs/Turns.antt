@@ -5,14 +5,16 @@ use Rattle.sym_matching.specs.NewVariables.{at_its_place}
 use Rattle.sym_renaming.specs.Calls.{variables_from}
 use Rattle.sym_renaming.proofs.NumberLemmas.{eqb_false}
 
-pub parameters_turn : (count x : ℕ) (names more : List ℕ) → x < count → variables_from 0 count ≡ names ++ variables_from x (count - x) → more ≡ names ++ x ∷ [] → variables_from 0 count ≡ more ++ variables_from (x + 1) (count - (x + 1))
+pub parameters_turn : (count x : ℕ) (names more : List ℕ) → x < count → variables_from 0 count ≡ names ++ variables_from x (count - x) →
+    more ≡ names ++ x ∷ [] → variables_from 0 count ≡ more ++ variables_from (x + 1) (count - (x + 1))
 parameters_turn count x names more inside now grown =
     let left : count - x ≡ suc (count - (x + 1)) = omega arith in
     let next : variables_from x (count - x) ≡ x ∷ variables_from (x + 1) (count - (x + 1)) = rw left refl in
     rw grown (now ∙ ap (λ xs. names ++ xs) next ∙ sym (append_assoc names (x ∷ []) (variables_from (x + 1) (count - (x + 1)))))
 
 -- past the numbers a variable keeps its own
-pub past_numbers : (variables numbers : List ℕ) (place x : ℕ) → length numbers ≤ place → at_its_place (drop place variables) (drop place numbers) x ≡ x
+pub past_numbers : (variables numbers : List ℕ) (place x : ℕ) → length numbers ≤ place →
+    at_its_place (drop place variables) (drop place numbers) x ≡ x
 past_numbers variables numbers place x past = by_list (drop place variables) (none numbers place past)
   where
     none : (xs : List ℕ) (k : ℕ) → length xs ≤ k → drop k xs ≡ []
@@ -26,7 +28,8 @@ past_numbers variables numbers place x past = by_list (drop place variables) (no
     by_list (y ∷ ys) e = rw e refl
 
 -- a turn passes over a variable
-pub passes_over : (variables numbers : List ℕ) (place x : ℕ) → place < length variables → place < length numbers → (x ≡ get_or variables place 0 → ⊥) →
+pub passes_over : (variables numbers : List ℕ) (place x : ℕ) → place < length variables → place < length numbers →
+    (x ≡ get_or variables place 0 → ⊥) →
     at_its_place (drop place variables) (drop place numbers) x ≡ at_its_place (drop (place + 1) variables) (drop (place + 1) numbers) x
 passes_over variables numbers place x inside within differs =
     let one : drop place variables ≡ get_or variables place 0 ∷ drop (suc place) variables = drop-cons variables place 0 inside in

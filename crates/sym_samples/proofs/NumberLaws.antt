@@ -70,35 +70,46 @@ read_value facts (Const n) h = refl
 -- ---- the facts
 
 module _ (whole : List Fact) where
-  true_disequality : (left right : Exp) → IsLow left → IsLow right → is_read whole left ≡ true → is_read whole right ≡ true → same_exp left right ≡ false → value (number_of whole) left ≡ value (number_of whole) right → ⊥
-  true_disequality left right one other here there differ same = apart left right one other differ (sym (read_value whole left here) ∙ same ∙ read_value whole right there)
+  true_disequality : (left right : Exp) → IsLow left → IsLow right → is_read whole left ≡ true → is_read whole right ≡ true →
+      same_exp left right ≡ false → value (number_of whole) left ≡ value (number_of whole) right → ⊥
+  true_disequality left right one other here there differ same =
+      apart left right one other differ (sym (read_value whole left here) ∙ same ∙ read_value whole right there)
 
-  true_disequalities : (facts : List Fact) → list_all is_disequality facts ≡ true → list_all (is_read_fact whole) facts ≡ true → has_same_sides facts ≡ false → All (EachInFact IsLow) facts → AreTrueFacts (number_of whole) facts
+  true_disequalities : (facts : List Fact) → list_all is_disequality facts ≡ true → list_all (is_read_fact whole) facts ≡ true →
+      has_same_sides facts ≡ false → All (EachInFact IsLow) facts → AreTrueFacts (number_of whole) facts
   true_disequalities [] order reads differ low = tt
   true_disequalities (Eq left right ∷ facts) order reads differ low = let no : false ≡ true = order in cc
   true_disequalities (Ne left right ∷ facts) order reads differ low =
-      let read_parts : ((is_read whole left && is_read whole right) ≡ true) × (list_all (is_read_fact whole) facts ≡ true) = both_true (is_read whole left && is_read whole right) (list_all (is_read_fact whole) facts) reads in
-      let sides : (is_read whole left ≡ true) × (is_read whole right ≡ true) = both_true (is_read whole left) (is_read whole right) read_parts.0 in
-      let differs : (same_exp left right ≡ false) × (has_same_sides facts ≡ false) = or_parts (same_exp left right) (has_same_sides facts) differ in
+      let read_parts : ((is_read whole left && is_read whole right) ≡ true) × (list_all (is_read_fact whole) facts ≡ true) =
+      both_true (is_read whole left && is_read whole right) (list_all (is_read_fact whole) facts) reads in
+      let sides : (is_read whole left ≡ true) × (is_read whole right ≡ true) =
+      both_true (is_read whole left) (is_read whole right) read_parts.0 in
+      let differs : (same_exp left right ≡ false) × (has_same_sides facts ≡ false) =
+      or_parts (same_exp left right) (has_same_sides facts) differ in
       let here : EachInFact IsLow (Ne left right) = All-head (EachInFact IsLow) (Ne left right) facts low in (
         true_disequality left right here.0 here.1 sides.0 sides.1 differs.0,
         true_disequalities facts order read_parts.1 differs.1 (All-tail (EachInFact IsLow) (Ne left right) facts low),
       )
 
-  pub true_facts : (facts : List Fact) (first : ℕ) → are_in_order first facts ≡ true → list_all (is_read_fact whole) facts ≡ true → has_same_sides facts ≡ false → All (EachInFact IsLow) facts →
+  pub true_facts : (facts : List Fact) (first : ℕ) → are_in_order first facts ≡ true → list_all (is_read_fact whole) facts ≡ true →
+      has_same_sides facts ≡ false → All (EachInFact IsLow) facts →
       ((y : ℕ) → first ≤ y → number_of whole y ≡ number_of facts y) → AreTrueFacts (number_of whole) facts
   true_facts [] first order reads differ low same = tt
   true_facts (Eq (Const n) right ∷ facts) first order reads differ low same = let no : false ≡ true = order in cc
   true_facts (Ne left right ∷ facts) first order reads differ low same = true_disequalities (Ne left right ∷ facts) order reads differ low
   true_facts (Eq (Var x) right ∷ facts) first order reads differ low same =
-      let parts : ((leb first x && ltb x 65536 && is_below x right) ≡ true) × (are_in_order (suc x) facts ≡ true) = both_true (leb first x && ltb x 65536 && is_below x right) (are_in_order (suc x) facts) order in
-      let tests : ((leb first x && ltb x 65536) ≡ true) × (is_below x right ≡ true) = both_true (leb first x && ltb x 65536) (is_below x right) parts.0 in
+      let parts : ((leb first x && ltb x 65536 && is_below x right) ≡ true) × (are_in_order (suc x) facts ≡ true) =
+      both_true (leb first x && ltb x 65536 && is_below x right) (are_in_order (suc x) facts) order in
+      let tests : ((leb first x && ltb x 65536) ≡ true) × (is_below x right ≡ true) =
+      both_true (leb first x && ltb x 65536) (is_below x right) parts.0 in
       let from : first ≤ x = leb-true first x (both_true (leb first x) (ltb x 65536) tests.0).0 in
-      let read_parts : (is_read whole right ≡ true) × (list_all (is_read_fact whole) facts ≡ true) = both_true (is_read whole right) (list_all (is_read_fact whole) facts) reads in
+      let read_parts : (is_read whole right ≡ true) × (list_all (is_read_fact whole) facts ≡ true) =
+      both_true (is_read whole right) (list_all (is_read_fact whole) facts) reads in
       let itself : (x == x) ≡ true = eq-eqb x x refl in
       let solved : number_of (Eq (Var x) right ∷ facts) x ≡ value plain right = rw itself refl in (
         same x from ∙ solved ∙ sym (read_value whole right read_parts.0),
-        true_facts facts (suc x) parts.1 read_parts.1 differ (All-tail (EachInFact IsLow) (Eq (Var x) right) facts low) (λ y above_x. same y (later y from above_x) ∙ passed y above_x),
+        true_facts facts (suc x) parts.1 read_parts.1 differ (All-tail (EachInFact IsLow) (Eq (Var x) right) facts low)
+            (λ y above_x. same y (later y from above_x) ∙ passed y above_x),
       )
     where
       later : (y : ℕ) → first ≤ x → suc x ≤ y → first ≤ y

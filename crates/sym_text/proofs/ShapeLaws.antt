@@ -13,10 +13,13 @@ shaped limits structs params (Seg kind link from to) is = is.0
 shaped limits structs params Junk is = tt
 
 pub heap_is_shaped : WellFormedIsShaped
-heap_is_shaped limits structs params heap is = All-weaker (IsAtom limits structs params) (IsShaped structs) (shaped limits structs params) heap.spatial is.atoms
+heap_is_shaped limits structs params heap is =
+    All-weaker (IsAtom limits structs params) (IsShaped structs) (shaped limits structs params) heap.spatial is.atoms
 
 pub spec_is_shaped : WellFormedSpecIsShaped
 spec_is_shaped limits structs params spec is = record {
   pre = heap_is_shaped limits structs params spec.pre is.pre;
-  posts = All-weaker (IsPost limits structs params) (IsShapedPost structs) (λ post formed. heap_is_shaped limits structs params post.heap formed.heap) spec.posts is.posts;
+  posts =
+      All-weaker (IsPost limits structs params) (IsShapedPost structs)
+      (λ post formed. heap_is_shaped limits structs params post.heap formed.heap) spec.posts is.posts;
 }

@@ -29,18 +29,23 @@ use Rattle.certificate_laws.proofs.SoundnessLaws.{fits-both, inductive_is_valid}
 use Rattle.certificate_laws.specs.Conditions.{IsTask}
 
 module _ (key : Key) (answer : Answer) (is_key : IsKey analysable key) (is_answer : IsAnswer analysable key answer) where
-  summary-of : (place : ℕ) (flow : Flow) (summary : ProcSummary) → slice_get key.procs place ≡ Some flow → slice_get answer.procs place ≡ Some summary → IsSummary analysable key.structs flow summary
+  summary-of : (place : ℕ) (flow : Flow) (summary : ProcSummary) → slice_get key.procs place ≡ Some flow →
+      slice_get answer.procs place ≡ Some summary → IsSummary analysable key.structs flow summary
   summary-of place flow summary is_flow is_summary =
       let here : slice_index_or key.procs place flow ≡ flow = get_or_from_slice_get key.procs place flow flow is_flow in
-      let there : slice_index_or answer.procs place summary ≡ summary = get_or_from_slice_get answer.procs place summary summary is_summary in
+      let there : slice_index_or answer.procs place summary ≡ summary =
+      get_or_from_slice_get answer.procs place summary summary is_summary in
       let is = is_answer.each place flow summary (slice_get_within key.procs place flow is_flow) in
-      subst (λ one. IsSummary analysable key.structs one summary) here (subst (λ one. IsSummary analysable key.structs (slice_index_or key.procs place flow) one) there is)
+      subst (λ one. IsSummary analysable key.structs one summary) here
+      (subst (λ one. IsSummary analysable key.structs (slice_index_or key.procs place flow) one) there is)
 
   good-table : IsTableWithin key.structs 96 (table_of key answer)
   good-table =
-      All-append (IsCallee analysable key.structs) (own_callees key.procs answer.procs) key.callees (each_own (IsCallee analysable key.structs) key.procs answer.procs own) is_key.callees.each
+      All-append (IsCallee analysable key.structs) (own_callees key.procs answer.procs) key.callees
+      (each_own (IsCallee analysable key.structs) key.procs answer.procs own) is_key.callees.each
     where
-      own : (place : ℕ) (flow : Flow) (summary : ProcSummary) → slice_get key.procs place ≡ Some flow → slice_get answer.procs place ≡ Some summary → IsCallee analysable key.structs (callee_with flow summary)
+      own : (place : ℕ) (flow : Flow) (summary : ProcSummary) → slice_get key.procs place ≡ Some flow →
+          slice_get answer.procs place ≡ Some summary → IsCallee analysable key.structs (callee_with flow summary)
       own place flow summary is_flow is_summary =
           let is = summary-of place flow summary is_flow is_summary in
           let good = All-at (IsFlow key.structs) key.procs place flow is_key.procs.each is_flow in
@@ -51,7 +56,9 @@ module _ (key : Key) (answer : Answer) (is_key : IsKey analysable key) (is_answe
     structs = is_key.structs;
     flow = All-at (IsFlow key.structs) key.procs place flow is_key.procs.each is_flow;
     table = good-table;
-    fits = each_place (λ (node : Node). FitsCall (λ (it : Callee). it.name) (λ (it : Callee). it.params) (callees_of (table_of key answer)) node.cmd) flow.nodes node-fits;
+    fits =
+        each_place (λ (node : Node). FitsCall (λ (it : Callee). it.name) (λ (it : Callee). it.params)
+        (callees_of (table_of key answer)) node.cmd) flow.nodes node-fits;
   }
     where
       as_callees : (name : List ℕ) (args : ℕ) → All (λ (one : Flow). one.name ≡ name → length one.params ≡ args) key.procs →
@@ -60,17 +67,22 @@ module _ (key : Key) (answer : Answer) (is_key : IsKey analysable key) (is_answe
           each_own (λ (one : Callee). one.name ≡ name → length one.params ≡ args) key.procs answer.procs
           (λ at one its is_one is_its. All-at (λ (it : Flow). it.name ≡ name → length it.params ≡ args) key.procs at one all is_one)
 
-      node-fits : (at : ℕ) (node : Node) → slice_get flow.nodes at ≡ Some node → FitsCall (λ (it : Callee). it.name) (λ (it : Callee). it.params) (callees_of (table_of key answer)) node.cmd
+      node-fits : (at : ℕ) (node : Node) → slice_get flow.nodes at ≡ Some node →
+          FitsCall (λ (it : Callee). it.name) (λ (it : Callee). it.params) (callees_of (table_of key answer)) node.cmd
       node-fits at node is_node =
           fits-both key.procs key.callees (own_callees key.procs answer.procs) node.cmd as_callees
           (All-at (λ (one : Node). FitsCall (λ (it : Flow). it.name) (λ (it : Flow). it.params) key.procs one.cmd) flow.nodes at node
-          (All-at (FitCalls (λ (it : Flow). it.name) (λ (it : Flow). it.params) key.procs) key.procs place flow is_key.calls.own is_flow) is_node)
+          (All-at (FitCalls (λ (it : Flow). it.name)
+          (λ (it : Flow). it.params) key.procs) key.procs place flow is_key.calls.own is_flow) is_node)
           (All-at (λ (one : Node). FitsCall (λ (it : Callee). it.name) (λ (it : Callee). it.params) key.callees one.cmd) flow.nodes at node
-          (All-at (FitCalls (λ (it : Callee). it.name) (λ (it : Callee). it.params) key.callees) key.procs place flow is_key.calls.outer is_flow) is_node)
+          (All-at (FitCalls (λ (it : Callee). it.name)
+          (λ (it : Callee). it.params) key.callees) key.procs place flow is_key.calls.outer is_flow) is_node)
 
   -- the same with structures and a table that are equal
-  pub task-is-good : (place : ℕ) (flow : Flow) (flows : List Flow) (structs : List StructDef) (table : Table) → flows ≡ key.procs → structs ≡ key.structs → table ≡ table_of key answer →
-      place < length flows → flow ≡ slice_index_or flows place flow → IsTask (record { flow = flow; structs = structs; table = table; recursive = key.recursive })
+  pub task-is-good : (place : ℕ) (flow : Flow) (flows : List Flow) (structs : List StructDef) (table : Table) → flows ≡ key.procs →
+      structs ≡ key.structs → table ≡ table_of key answer →
+      place < length flows → flow ≡ slice_index_or flows place flow →
+      IsTask (record { flow = flow; structs = structs; table = table; recursive = key.recursive })
   task-is-good place flow flows structs table same_flows same_structs same_table within is =
       let stands : slice_get flows place ≡ Some flow = slice_get_read flows (length flows) place flow refl within is in
       let good = task-good place flow (subst (λ all. slice_get all place ≡ Some flow) same_flows stands) in
@@ -80,7 +92,9 @@ module _ (key : Key) (answer : Answer) (is_key : IsKey analysable key) (is_answe
   -- ---- no gap
 
   exact : (first_gap key answer ≡ None) ↔ Inductive key answer
-  exact = no_gap key answer (limits.key_widens analysable widest key limits.storable_is_analysable.1 is_key) (limits.answer_widens analysable widest key answer limits.storable_is_analysable.1 is_answer)
+  exact =
+      no_gap key answer (limits.key_widens analysable widest key limits.storable_is_analysable.1 is_key)
+      (limits.answer_widens analysable widest key answer limits.storable_is_analysable.1 is_answer)
 
   pub none-exact : first_gap key answer ≡ None → IsTrue true ↔ Inductive key answer
   none-exact none = (λ t. exact.0 none, λ is. refl)

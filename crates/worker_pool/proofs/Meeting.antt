@@ -1,5 +1,6 @@
 -- Which program is present once one was met, and what is next then.
-use Rattle.std.proofs.Common.{◌≡◌, ◌+◌, ◌==◌, ◌&&◌, ℕ, Bool, true, false, not, cond, List, ◌++◌, map, refl, sym, ap, ◌∙◌, subst, append-nil, inr}
+use Rattle.std.proofs.Common.{◌≡◌, ◌+◌, ◌==◌, ◌&&◌, ℕ, Bool, true, false, not, cond, List, ◌++◌, map, refl, sym, ap, ◌∙◌, subst, append-nil}
+use Rattle.std.proofs.Common.{inr}
 use Rattle.std.proofs.lemmas.Bool.Decides.{Decides-eqb}
 use Rattle.std.specs.Prelude.{IfOk}
 use Rattle.std.specs.declared.alloc.AllocError.{AllocError}
@@ -108,7 +109,8 @@ pub all_once_met : (log mid later : List Event) (program : Program) (worker : �
 all_once_met log mid later program worker next met same is =
     is ∙ ap (λ (n : Next). mid ++ events_by worker n) same ∙ append-nil mid ∙ met
 
-pub collected_once_met : (solves : Key → Answer → Type 0) (log later : List Event) (program : Program) (aim : Aim) (seen : ℕ) (kept : List Kept) →
+pub collected_once_met : (solves : Key → Answer → Type 0) (log later : List Event) (program : Program) (aim : Aim) (seen : ℕ)
+    (kept : List Kept) →
     later ≡ met_log log program → (replay later).program ≡ program → AreEntries solves (replay later).program aim kept →
     map solution_of kept ≡ map slot_solution (slots_by (replay later) (aimed (replay later).program aim)) → seen ≡ published later →
     AreCollected solves (met_log log program) program aim seen kept
@@ -120,16 +122,21 @@ collected_once_met solves log later program aim seen kept is present entries slo
 }
 
 -- a turn is one way to go on
-goes_once_met : {E : Type 0} (r : Result Turn E) (log later : List Event) (program : Program) (aim : Aim) → IfOk r (λ turn. later ≡ met_log log program ++ events_by leader (next_in turn)) →
-    IfOk r (λ turn. IsNext (replay (met_log log program)) (aimed program aim) (next_in turn)) → IfOk r (λ turn. GoesOn log later program aim turn)
+goes_once_met : {E : Type 0} (r : Result Turn E) (log later : List Event) (program : Program) (aim : Aim) →
+    IfOk r (λ turn. later ≡ met_log log program ++ events_by leader (next_in turn)) →
+    IfOk r (λ turn. IsNext (replay (met_log log program)) (aimed program aim) (next_in turn)) →
+    IfOk r (λ turn. GoesOn log later program aim turn)
 goes_once_met (Ok (turn.Done kept)) log later program aim is next = is ∙ append-nil (met_log log program)
 goes_once_met (Ok (turn.Yours claim)) log later program aim is next = inr (is, next)
 goes_once_met (Ok (turn.Waits claim)) log later program aim is next = inr (is, next)
 goes_once_met (Err e) log later program aim is next = tt
 
-pub goes_by_turn : {E : Type 0} (r : Result Turn E) (log mid later : List Event) (program : Program) (aim : Aim) → mid ≡ log → IfOk r (λ turn. later ≡ met_log mid program ++ events_by leader (next_in turn)) →
-    IfOk r (λ turn. IsNext (replay (met_log mid program)) (aimed program aim) (next_in turn)) → IfOk r (λ turn. GoesOn log later program aim turn)
-goes_by_turn r log mid later program aim same is next = subst (λ l. IfOk r (λ turn. GoesOn l later program aim turn)) same (goes_once_met r mid later program aim is next)
+pub goes_by_turn : {E : Type 0} (r : Result Turn E) (log mid later : List Event) (program : Program) (aim : Aim) → mid ≡ log →
+    IfOk r (λ turn. later ≡ met_log mid program ++ events_by leader (next_in turn)) →
+    IfOk r (λ turn. IsNext (replay (met_log mid program)) (aimed program aim) (next_in turn)) →
+    IfOk r (λ turn. GoesOn log later program aim turn)
+goes_by_turn r log mid later program aim same is next =
+    subst (λ l. IfOk r (λ turn. GoesOn l later program aim turn)) same (goes_once_met r mid later program aim is next)
 
 pub nothing_next : (log later : List Event) (worker : ℕ) (next : Next) → next ≡ All → later ≡ log ++ events_by worker next → later ≡ log
 nothing_next log later worker next same is = is ∙ ap (λ (n : Next). log ++ events_by worker n) same ∙ append-nil log

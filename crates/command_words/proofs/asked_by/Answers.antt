@@ -17,7 +17,8 @@ returns-in-Ok-clause-asked c =
 pub returns-in-Ok-clause-few : goal.returns-in-Ok-clause-few
 returns-in-Ok-clause-few c =
     let found = found_of c.in-Ok.matches in
-    few_asked c.asked_in.result (first_value found (codes "what")) (first_value found (codes "workers")) (first_value found (codes "store")) c.asked_in.ensures
+    few_asked c.asked_in.result (first_value found (codes "what")) (first_value found (codes "workers"))
+    (first_value found (codes "store")) c.asked_in.ensures
 
 pub returns : goal.returns
 returns c =
@@ -26,7 +27,8 @@ returns c =
     record {
       asked = elim (c.in-Err.ensures.kinds free) [
         | inl memory ↦ absurd (c.in_default.not-OutOfMemory (c.kind.ensures ∙ memory))
-        | inr among ↦ refused_is words (kind_of c.in-Err.error) (subst (λ (a : App). IsAmong (kind_of c.in-Err.error) (fault_of a words)) c.in_ok-command.ensures among)
+        | inr among ↦ refused_is words (kind_of c.in-Err.error)
+            (subst (λ (a : App). IsAmong (kind_of c.in-Err.error) (fault_of a words)) c.in_ok-command.ensures among)
       ];
       few = tt;
     }

@@ -1,4 +1,5 @@
-use Rattle.abstraction_laws.proofs.NormalResults.{abstract_exit_is_normal, abstract_head_is_normal, abstract_pair_is_normal, abstract_pre_is_normal}
+use Rattle.abstraction_laws.proofs.NormalResults.{abstract_exit_is_normal, abstract_head_is_normal, abstract_pair_is_normal}
+use Rattle.abstraction_laws.proofs.NormalResults.{abstract_pre_is_normal}
 use Rattle.abstraction_laws.proofs.laws.abstraction_is_normal.Goals as goal
 
 pub returns-clause-head : goal.returns-clause-head

@@ -6,11 +6,21 @@ use Rattle.bottom_up.proofs.laws.each_is_reported.Goals as goal
 pub returns-clause-solved : goal.returns-clause-solved
 returns-clause-solved c =
     λ loaded right. are_reported c.all_are_valid.ensures (lookup loaded)
-    (looked_up_are_right (record { inductive = c.solved_is_inductive.ensures; formed = c.solved_is_well_formed.ensures.formed; reasons = λ key is. c.solved_has_reasons.ensures key }) loaded right)
+    (looked_up_are_right
+    (record {
+      inductive = c.solved_is_inductive.ensures;
+      formed = c.solved_is_well_formed.ensures.formed;
+      reasons = λ key is. c.solved_has_reasons.ensures key;
+    }) loaded right)
 
 pub returns-clause-right : goal.returns-clause-right
 returns-clause-right c = are_reported c.all_are_valid.ensures
 
 pub returns-clause-looked_up : goal.returns-clause-looked_up
 returns-clause-looked_up c =
-    looked_up_are_right (record { inductive = c.solved_is_inductive.ensures; formed = c.solved_is_well_formed.ensures.formed; reasons = λ key is. c.solved_has_reasons.ensures key })
+    looked_up_are_right
+    (record {
+      inductive = c.solved_is_inductive.ensures;
+      formed = c.solved_is_well_formed.ensures.formed;
+      reasons = λ key is. c.solved_has_reasons.ensures key;
+    })

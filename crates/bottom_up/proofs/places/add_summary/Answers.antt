@@ -19,4 +19,5 @@ pub returns-else-not-contains_key : goal.returns-else-not-contains_key
 returns-else-not-contains_key c = λ answers before is are n.
     let bytes = c.as_bytes-name.result.now in
     let some : is_some (first_place c.args.firsts.now bytes) ≡ true = search rules in
-    first_stays answers before c.args.summary.now (first_place c.args.firsts.now) are n (ap (λ bs. is_some (first_place c.args.firsts.now bs)) (sym c.as_bytes-name.ensures.value) ∙ some)
+    first_stays answers before c.args.summary.now (first_place c.args.firsts.now) are n
+    (ap (λ bs. is_some (first_place c.args.firsts.now bs)) (sym c.as_bytes-name.ensures.value) ∙ some)

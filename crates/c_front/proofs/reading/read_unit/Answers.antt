@@ -20,20 +20,26 @@ returns-in_err-found-clause-reads_back c listed file is_list spells fits e =
 
 pub returns-clause-unit : goal.returns-clause-unit
 returns-clause-unit c =
-    unit_of_text c.args.bytes.now c.in_ok-found.found.items c.in_ok-found.ensures.tokens c.parse.result (rw c.as_slice.ensures.value at c.parse.ensures.unit) c.parse.ensures.levels
+    unit_of_text c.args.bytes.now c.in_ok-found.found.items c.in_ok-found.ensures.tokens c.parse.result
+    (rw c.as_slice.ensures.value at c.parse.ensures.unit) c.parse.ensures.levels
 
 pub returns-clause-fault : goal.returns-clause-fault
-returns-clause-fault c = fault_of_text c.args.bytes.now c.in_ok-found.found.items c.in_ok-found.ensures.tokens c.parse.result (rw c.as_slice.ensures.value at c.parse.ensures.fault)
+returns-clause-fault c =
+    fault_of_text c.args.bytes.now c.in_ok-found.found.items c.in_ok-found.ensures.tokens c.parse.result
+    (rw c.as_slice.ensures.value at c.parse.ensures.fault)
 
 pub returns-clause-complete : goal.returns-clause-complete
 returns-clause-complete c file u =
     c.parse.ensures.complete file
-    (rw c.as_slice.ensures.value (spelled c.one_reading.ensures c.args.bytes.now c.in_ok-found.found.items c.in_ok-found.ensures.tokens file u)) u.levels
+    (rw c.as_slice.ensures.value
+    (spelled c.one_reading.ensures c.args.bytes.now c.in_ok-found.found.items c.in_ok-found.ensures.tokens file u)) u.levels
 
 pub returns-clause-reads_back : goal.returns-clause-reads_back
 returns-clause-reads_back c listed file is_list spells fits e =
     let p = printed c.round_trip.ensures c.args.bytes.now listed file is_list spells fits e in
     record {
-      same = same_tree c.one_reading.ensures c.one_tree.ensures c.args.bytes.now c.in_ok-found.found.items file c.in_ok-found.ensures.tokens c.parse.result (rw c.as_slice.ensures.value at c.parse.ensures.unit) p;
+      same =
+          same_tree c.one_reading.ensures c.one_tree.ensures c.args.bytes.now c.in_ok-found.found.items file c.in_ok-found.ensures.tokens
+          c.parse.result (rw c.as_slice.ensures.value at c.parse.ensures.unit) p;
       memory = returns-clause-complete c p.same p.unit;
     }

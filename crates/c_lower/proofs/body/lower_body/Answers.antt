@@ -12,8 +12,11 @@ returns-clause-body c =
     let tables = c.args.context.now.env.tables in
     let head = head_tree c.args.head.now in
     let block = block_tree c.args.body.now in
-    let behind = subst (λ (t : Tables). Closes (behind_opening (closed_of t head block)) (At 0) no_out c.in_ok-out.out) c.in_ok-begin.ensures.tables c.in_ok-out.ensures.code in
+    let behind =
+    subst (λ (t : Tables). Closes (behind_opening (closed_of t head block))
+    (At 0) no_out c.in_ok-out.out) c.in_ok-begin.ensures.tables c.in_ok-out.ensures.code in
     IfOk-weaker c.finish-2.result _ _ (λ found finished.
-    begun_later tables head block c.in_ok-begin.begin c.place.result c.new-out.result c.closed.new.out c.in_ok-out.out found c.new-out.ensures c.in_ok-begin.ensures.code c.place.ensures
+    begun_later tables head block c.in_ok-begin.begin c.place.result c.new-out.result c.closed.new.out c.in_ok-out.out found
+    c.new-out.ensures c.in_ok-begin.ensures.code c.place.ensures
     c.if-place-eq0.false behind finished)
     c.finish-2.ensures

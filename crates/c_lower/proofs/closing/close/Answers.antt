@@ -15,8 +15,10 @@ returns-in_default c =
     let kind = type_seen c.result.result in
     let o = c.release.new.self in
     on_ok_weaker c.close_with_value.result (λ emits.
-    closed_with_value before (c.args.place.line - before.first_line) c.args.place c.result.result c.args.out.now o c.close_with_value.new.out c.in_default.not-Void
+    closed_with_value before
+    (c.args.place.line - before.first_line) c.args.place c.result.result c.args.out.now o c.close_with_value.new.out c.in_default.not-Void
     c.result.ensures refl c.release.ensures
-    (subst (λ (site : Context). HasRoom site.first_temp 1 o → EmitsCode (value_closing site kind (take_temp kind o.temps)).code (take_temp kind o.temps).temps
+    (subst (λ (site : Context). HasRoom site.first_temp 1 o
+    → EmitsCode (value_closing site kind (take_temp kind o.temps)).code (take_temp kind o.temps).temps
     (At (length o.nodes)) o c.close_with_value.new.out) c.at-site.ensures emits))
     c.close_with_value.ensures

@@ -11,7 +11,9 @@ pub returns : goal.returns
 returns c =
     let site = c.args.site.now in
     on_ok_weaker c.push.result (λ pushes.
-    value_closed site (type_seen c.args.kind) c.in_ok-type_of.field-0 site.line c.spot.result.first_temp c.args.out.now c.make.new.self c.push.new.self c.in_ok-value.value
+    value_closed site
+    (type_seen c.args.kind) c.in_ok-type_of.field-0 site.line c.spot.result.first_temp c.args.out.now c.make.new.self c.push.new.self
+    c.in_ok-value.value
     c.in_ok-type_of.ensures c.spot.ensures.first_temp (λ at line first. c.in_ok-value.ensures at (line ∙ sym c.spot.ensures.line) first)
     (pushes ∙ ap (λ line. with_draft line (cmd.Return c.in_ok-value.value) Next Next c.make.new.self) c.line.ensures))
     c.push.ensures

@@ -6,4 +6,5 @@ use Rattle.c_lower.proofs.fields.are_few.Given as goal
 
 abbrev pub invariant-loop-line : goal.invariant-loop-line
 invariant-loop-line l =
-    nat_le (length (field_names (map fields_tree (drop l.line-index l.lines)))) l.left ≡ nat_le (length (field_names (map fields_tree l.lines))) MOST_FIELDS
+    nat_le (length (field_names (map fields_tree (drop l.line-index l.lines)))) l.left
+    ≡ nat_le (length (field_names (map fields_tree l.lines))) MOST_FIELDS

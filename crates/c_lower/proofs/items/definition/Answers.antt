@@ -14,8 +14,16 @@ returns-clause-built c =
     let l = lowered_body tables head block.body block.end in
     let is : stmts_tree c.as_slice.result.now ≡ block.body = ap stmts_tree c.as_slice.ensures.value ∙ sym (block_is c.args.block.now) in
     let many : 512 < length (l.code.nodes 0 (onto 0)) =
-    omega (arith, c.body_size.ensures, c.if-body_size-le-MOST_NODES.false, ap stmts_size is, c.bodies_are_no_larger.ensures tables head block.body block.end) in
+    omega (
+      arith,
+      c.body_size.ensures,
+      c.if-body_size-le-MOST_NODES.false,
+      ap stmts_size is,
+      c.bodies_are_no_larger.ensures tables head
+          block.body block.end,
+    ) in
     record {
-      first = c.unless.ensures ∙ alone tables head block.body l many c.args.built.now.first c.place_of_specifier.result c.place_of_specifier.ensures;
+      first = c.unless.ensures
+          ∙ alone tables head block.body l many c.args.built.now.first c.place_of_specifier.result c.place_of_specifier.ensures;
       procs = λ none. absurd (refused_for_nodes tables head block.body l many none);
     }

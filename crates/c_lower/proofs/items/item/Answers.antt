@@ -7,8 +7,10 @@ use Rattle.c_lower.proofs.items.item.Goals as goal
 
 pub returns-in-TypedefAlias-clause-built : goal.returns-in-TypedefAlias-clause-built
 returns-in-TypedefAlias-clause-built c =
-    same (nothing c.args.built.now) _ (ap (λ (i : Item). item_part c.args.context.now.env.tables c.args.file.now (item_tree i)) (sym c.in-TypedefAlias.is))
+    same (nothing c.args.built.now) _
+    (ap (λ (i : Item). item_part c.args.context.now.env.tables c.args.file.now (item_tree i)) (sym c.in-TypedefAlias.is))
 
 pub returns-in-Prototype-clause-built : goal.returns-in-Prototype-clause-built
 returns-in-Prototype-clause-built c =
-    same (nothing c.args.built.now) _ (ap (λ (i : Item). item_part c.args.context.now.env.tables c.args.file.now (item_tree i)) (sym c.in-Prototype.is))
+    same (nothing c.args.built.now) _
+    (ap (λ (i : Item). item_part c.args.context.now.env.tables c.args.file.now (item_tree i)) (sym c.in-Prototype.is))

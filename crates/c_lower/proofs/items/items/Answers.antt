@@ -20,9 +20,12 @@ loop-one-preserved c =
     let all = c.args.context.now.env.tables in
     let file = c.args.file.now in
     let here = item_tree c.one-item.result in
-    let found = same c.in_ok-item.ensures.built (item_part all file here) (ap (λ (t : Tables). item_part t file here) c.loop-one.invariant.tables) in
+    let found =
+    same c.in_ok-item.ensures.built (item_part all file here) (ap (λ (t : Tables). item_part t file here) c.loop-one.invariant.tables) in
     record {
-      built = turned (λ (xs : List Item). items_part all file (map item_tree xs)) (λ (one : Item). item_part all file (item_tree one)) (λ one xs. refl)
+      built =
+          turned (λ (xs : List Item). items_part all file (map item_tree xs)) (λ (one : Item). item_part all file (item_tree one))
+          (λ one xs. refl)
           c.args.ones.now c.loop-one.one-index c.one-item.result within c.one-item.is c.loop-one.invariant.built found;
       tables = c.in_ok-item.ensures.tables ∙ c.loop-one.invariant.tables;
     }
@@ -31,4 +34,6 @@ pub returns-clause-built : goal.returns-clause-built
 returns-clause-built c =
     let past : length c.args.ones.now ≤ c.loop-one.one-index = search rules in
     over c.loop-one.invariant.built
-    (at_drop_all (λ (xs : List Item). items_part c.args.context.now.env.tables c.args.file.now (map item_tree xs)) c.args.ones.now c.loop-one.one-index past)
+    (at_drop_all
+    (λ (xs : List Item). items_part c.args.context.now.env.tables c.args.file.now
+    (map item_tree xs)) c.args.ones.now c.loop-one.one-index past)

@@ -14,8 +14,10 @@ returns-then-not-fit-clause-built c =
     let tables = c.args.context.now.env.tables in
     let block = block_tree c.args.block.now in
     let found = c.in_ok-body.body in
-    let sizes : Sizes = record { nodes = c.len.result; params = c.param_count.result; locals = c.local_count-locals.result; temps = c.len-2.result } in
-    let statements : stmts_tree c.as_slice.result.now ≡ block.body = ap stmts_tree c.as_slice.ensures.value ∙ sym (block_is c.args.block.now) in
+    let sizes : Sizes =
+    record { nodes = c.len.result; params = c.param_count.result; locals = c.local_count-locals.result; temps = c.len-2.result } in
+    let statements : stmts_tree c.as_slice.result.now ≡ block.body =
+    ap stmts_tree c.as_slice.ensures.value ∙ sym (block_is c.args.block.now) in
     let locals : sizes.locals ≡ length (stmts_kinds tables block.body) =
     omega (
       arith,
@@ -39,8 +41,10 @@ returns-clause-built c =
     let head = head_tree c.args.head.now in
     let block = block_tree c.args.block.now in
     let found = c.in_ok-body.body in
-    let sizes : Sizes = record { nodes = c.len.result; params = c.param_count.result; locals = c.local_count-locals.result; temps = c.len-2.result } in
-    let statements : stmts_tree c.as_slice.result.now ≡ block.body = ap stmts_tree c.as_slice.ensures.value ∙ sym (block_is c.args.block.now) in
+    let sizes : Sizes =
+    record { nodes = c.len.result; params = c.param_count.result; locals = c.local_count-locals.result; temps = c.len-2.result } in
+    let statements : stmts_tree c.as_slice.result.now ≡ block.body =
+    ap stmts_tree c.as_slice.ensures.value ∙ sym (block_is c.args.block.now) in
     let locals : sizes.locals ≡ length (stmts_kinds tables block.body) =
     omega (
       arith,
@@ -58,5 +62,7 @@ returns-clause-built c =
       procs = λ none.
           c.in_ok-push.ensures.ok
           ∙ ap (λ p. c.args.built.now.procs ++ p ∷ [])
-          (c.in_ok-proc.ensures ∙ ap (λ (t : Tables). proc_of t c.args.file.now head block.body block.end) (c.tables.ensures.program ∙ c.in_ok-body.ensures.tables));
+          (c.in_ok-proc.ensures
+          ∙ ap (λ (t : Tables). proc_of t c.args.file.now head block.body block.end)
+          (c.tables.ensures.program ∙ c.in_ok-body.ensures.tables));
     }

@@ -5,4 +5,5 @@ use Rattle.c_lower.proofs.locals.+locals.Given as goal
 
 abbrev pub invariant-push_block-loop-one : goal.invariant-push_block-loop-one
 invariant-push_block-loop-one l =
-    l.slots ++ stmts_kinds l.tables (stmts_tree (drop l.one-index l.one-items)) ≡ l.initial.slots ++ stmts_kinds l.tables (stmts_tree l.one-items)
+    l.slots ++ stmts_kinds l.tables (stmts_tree (drop l.one-index l.one-items))
+    ≡ l.initial.slots ++ stmts_kinds l.tables (stmts_tree l.one-items)

@@ -9,6 +9,7 @@ pub loop-one-preserved : goal.loop-one-preserved
 loop-one-preserved c =
     let within : c.loop-one.one-index < length c.args.ones.now = search rules in
     let kinds = kinds_of_locals c.args.tables.now (specifier_tree c.args.specifier.now) in
-    appended (λ (xs : List Initialized). kinds (map initialized_tree xs)) (λ (x : Initialized). kinds (initialized_tree x ∷ [])) (λ x xs. refl)
+    appended (λ (xs : List Initialized). kinds (map initialized_tree xs)) (λ (x : Initialized). kinds (initialized_tree x ∷ []))
+    (λ x xs. refl)
     c.args.ones.now c.loop-one.one-index c.one-item.result within c.one-item.is
     c.loop-one.slots c.push_local.new.slots _ c.in_ok-push_local.ensures c.loop-one.invariant

@@ -12,7 +12,8 @@ pub items-requires : goal.items-requires
 items-requires c =
     let within : c.loop-place.place < length c.args.units.now = search rules in
     subst (λ (xs : List Item). All ItemHasIntNumbers (map item_tree xs)) (sym c.as_slice.ensures.value)
-    (at_map FileHasIntNumbers unit_tree c.args.units.now c.loop-place.place c.index-units-place.result within c.index-units-place.is c.requires.numbers)
+    (at_map FileHasIntNumbers unit_tree c.args.units.now c.loop-place.place c.index-units-place.result within c.index-units-place.is
+    c.requires.numbers)
 
 pub loop-place-preserved : goal.loop-place-preserved
 loop-place-preserved c =
@@ -24,8 +25,11 @@ loop-place-preserved c =
     (ap (λ (t : Tables). items_part t name (map item_tree c.as_slice.result.now)) c.loop-place.invariant.tables
     ∙ ap (λ (xs : List Item). items_part all name (map item_tree xs)) c.as_slice.ensures.value) in
     record {
-      built = next_file all (map unit_tree c.args.units.now) c.args.files.now c.args.units.now c.loop-place.place one within c.index-units-place.is
-          name (omega (arith, within, c.requires.names)) c.index-files-place.is c.loop-place.built c.items.new.built c.loop-place.invariant.built adds;
+      built =
+          next_file all
+          (map unit_tree c.args.units.now) c.args.files.now c.args.units.now c.loop-place.place one within c.index-units-place.is
+          name (omega (arith, within, c.requires.names)) c.index-files-place.is c.loop-place.built c.items.new.built
+          c.loop-place.invariant.built adds;
       tables = c.in_ok-items.ensures.tables ∙ c.loop-place.invariant.tables;
     }
 

@@ -6,4 +6,5 @@ use Rattle.c_lower_emit.proofs.output.place_of_free.Given as goal
 
 abbrev pub invariant-loop-place : goal.invariant-loop-place
 invariant-loop-place l =
-    (take_temp (type_seen l.kind) (map temp_seen l.temps)).place ≡ l.place + (take_temp (type_seen l.kind) (map temp_seen (drop l.place l.temps))).place
+    (take_temp (type_seen l.kind) (map temp_seen l.temps)).place
+    ≡ l.place + (take_temp (type_seen l.kind) (map temp_seen (drop l.place l.temps))).place

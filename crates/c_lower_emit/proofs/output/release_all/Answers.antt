@@ -6,7 +6,8 @@ use Rattle.c_lower_emit.proofs.output.release_all.Goals as goal
 
 pub loop-place-preserved : goal.loop-place-preserved
 loop-place-preserved c =
-    map_over_more unused c.args.temps.now.items c.loop-place.temps.items c.loop-place.place c.index_mut.result.now (search rules) c.loop-place.invariant c.index_mut.ensures.value
+    map_over_more unused c.args.temps.now.items c.loop-place.temps.items c.loop-place.place c.index_mut.result.now
+    (search rules) c.loop-place.invariant c.index_mut.ensures.value
 
 pub returns : goal.returns
 returns c =

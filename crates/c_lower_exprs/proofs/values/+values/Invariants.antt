@@ -20,4 +20,5 @@ decreases-values l = args_weight (args_tree l.args.now.items) + 1
 abbrev pub invariant-values-loop-arg : goal.invariant-values-loop-arg
 invariant-values-loop-arg l =
     AllHaveIntNumbers (args_tree l.fn.args.items)
-    → ArgumentsSoFar l.site l.site.first_temp (map expr_tree l.fn.args.items) (map expr_tree (drop l.arg-index l.arg-items)) l.fn.out l.out l.operands.items
+    → ArgumentsSoFar l.site l.site.first_temp (map expr_tree l.fn.args.items)
+    (map expr_tree (drop l.arg-index l.arg-items)) l.fn.out l.out l.operands.items

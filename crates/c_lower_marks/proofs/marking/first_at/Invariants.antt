@@ -5,4 +5,5 @@ use Rattle.c_lower_marks.specs.Placed.{first_loop}
 use Rattle.c_lower_marks.proofs.marking.first_at.Given as goal
 
 abbrev pub invariant-loop-one : goal.invariant-loop-one
-invariant-loop-one l = first_loop (loops_at l.place (map loop_seen (drop l.one-index l.loops))) ≡ first_loop (loops_at l.place (map loop_seen l.loops))
+invariant-loop-one l = first_loop (loops_at l.place (map loop_seen (drop l.one-index l.loops)))
+    ≡ first_loop (loops_at l.place (map loop_seen l.loops))

@@ -5,5 +5,7 @@ use Rattle.c_lower_marks.proofs.marking.ints.Given as goal
 
 abbrev pub invariant-loop-slot : goal.invariant-loop-slot
 invariant-loop-slot l =
-    l.ints.items ++ slots_that (λ slot kind. is_int kind && assigned_in l.nodes (loops_at l.place (map loop_seen l.loops)) slot) l.slot (drop l.slot l.slots)
+    l.ints.items
+    ++ slots_that (λ slot kind. is_int kind && assigned_in l.nodes (loops_at l.place (map loop_seen l.loops)) slot) l.slot
+    (drop l.slot l.slots)
     ≡ slots_that (λ slot kind. is_int kind && assigned_in l.nodes (loops_at l.place (map loop_seen l.loops)) slot) 0 l.slots

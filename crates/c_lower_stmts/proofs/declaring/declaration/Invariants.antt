@@ -9,5 +9,6 @@ abbrev pub invariant-loop-other : goal.invariant-loop-other
 invariant-loop-other l =
     IsWithin l.fn.c l.c
     × (LocalHasIntNumbers (local_tree l.fn.one)
-    → LocalsSoFar (specifier_tree l.fn.one.specifier) l.fn.c l.line l.fn.locals (initialized_tree l.fn.one.first ∷ map initialized_tree l.fn.one.others.items)
+    → LocalsSoFar (specifier_tree l.fn.one.specifier) l.fn.c l.line l.fn.locals
+    (initialized_tree l.fn.one.first ∷ map initialized_tree l.fn.one.others.items)
     (map initialized_tree (drop l.other-index l.other-items)) l.fn.out l.c l.count l.out)

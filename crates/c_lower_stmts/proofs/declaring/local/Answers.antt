@@ -11,7 +11,8 @@ use Rattle.c_lower_stmts.proofs.Within.{within_added}
 use Rattle.c_lower_stmts.proofs.declaring.local.Goals as goal
 
 pub returns-clause-within : goal.returns-clause-within
-returns-clause-within c = within_added c.args.c.now c.add_local.new.self c.args.one.now.declarator.name.text (kind_seen c.object_kind-kind.result)
+returns-clause-within c =
+    within_added c.args.c.now c.add_local.new.self c.args.one.now.declarator.name.text (kind_seen c.object_kind-kind.result)
     c.saturating_add-to.result c.in_ok-add_local.ensures
 
 pub returns-clause-declared : goal.returns-clause-declared
@@ -23,8 +24,10 @@ returns-clause-declared c = λ numbers.
     (kind_seen c.object_kind-kind.result)
     c.args.out.now c.initial.new.out (c.object_kind-kind.ensures ∙ ap (λ t. object_kind t s one.declarator.stars) c.tables.ensures.program)
     (c.saturating_add-to.ensures ∙ ap (λ f. min (f + c.args.locals) 4294967295) c.first_local.ensures) c.in_ok-add_local.ensures
-    (subst (λ k. EmitsPiece (initial (on_line behind c.args.line) c.saturating_add-to.result k (option_map expr_tree one.value)) behind.first_temp
+    (subst (λ k. EmitsPiece
+    (initial (on_line behind c.args.line) c.saturating_add-to.result k (option_map expr_tree one.value)) behind.first_temp
     c.args.out.now c.initial.new.out)
     c.known.ensures
-    (subst (λ (site : Context). EmitsPiece (initial site c.saturating_add-to.result (type_seen c.known.result) (option_map expr_tree one.value)) site.first_temp
+    (subst (λ (site : Context). EmitsPiece
+    (initial site c.saturating_add-to.result (type_seen c.known.result) (option_map expr_tree one.value)) site.first_temp
     c.args.out.now c.initial.new.out) c.on.ensures (c.in_ok-initial.ensures numbers))) c.saturating_add.ensures

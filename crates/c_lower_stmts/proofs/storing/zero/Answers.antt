@@ -10,7 +10,9 @@ use Rattle.c_lower_stmts.proofs.storing.zero.Goals as goal
 
 pub returns : goal.returns
 returns c = on_ok_weaker c.push.result (λ pushes.
-    zero_put c.args.site.now.first_temp c.args.site.now.line c.args.out.now c.take.new.self c.push.new.self c.in_ok-place.place c.saturating_add.result
+    zero_put c.args.site.now.first_temp c.args.site.now.line c.args.out.now c.take.new.self c.push.new.self c.in_ok-place.place
+    c.saturating_add.result
     c.in_ok-place.ensures.temps c.in_ok-place.ensures.place
     (c.saturating_add.ensures ∙ ap (λ f. min (f + c.in_ok-place.place) 4294967295) c.first_temp.ensures)
-    (pushes ∙ ap (λ l. with_draft l (cmd.Copy c.saturating_add.result (Num (pos 0)) 0) Next Next c.take.new.self) c.line.ensures)) c.push.ensures
+    (pushes ∙ ap
+    (λ l. with_draft l (cmd.Copy c.saturating_add.result (Num (pos 0)) 0) Next Next c.take.new.self) c.line.ensures)) c.push.ensures

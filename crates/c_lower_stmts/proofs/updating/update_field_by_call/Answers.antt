@@ -22,11 +22,15 @@ returns c = on_ok_weaker c.store.result (λ emits numbers calls to before is.
     let called = c.in_ok-called.called in
     let behind = c.lower_amount.new.out in
     let load = c.in_ok-field.ensures (at_hand ctx (type_seen base.kind) base.operand) behind (at_hand_lowered ctx first behind base) in
-    let sum = c.in_ok-value.ensures (field_at_hand ctx field base.operand) (at_hand ctx (type_seen called.kind) called.operand) behind c.load.new.out load
+    let sum =
+    c.in_ok-value.ensures (field_at_hand ctx field base.operand)
+    (at_hand ctx (type_seen called.kind) called.operand) behind c.load.new.out load
     (at_hand_lowered ctx first c.load.new.out called) in
-    let piece = updated_by_call ctx first c.args.op is.lowering field by before c.args.out.now behind c.arithmetic.new.out c.store.new.out base called _
+    let piece =
+    updated_by_call ctx first c.args.op is.lowering field by before c.args.out.now behind c.arithmetic.new.out c.store.new.out base called _
     is.is (c.in_ok-called.ensures numbers) sum emits in
     subst (λ b. EmitsPiece (update ctx to c.args.op b by) first before c.store.new.out) (sym calls)
     (subst (λ t. EmitsPiece (update ctx t c.args.op true by) first before c.store.new.out) (sym is.means)
-    (subst (λ k. EmitsPiece (update ctx (Target.Member is.lowering (field_behind ctx k name)) c.args.op true by) first before c.store.new.out) is.is.kind piece)))
+    (subst (λ k. EmitsPiece
+    (update ctx (Target.Member is.lowering (field_behind ctx k name)) c.args.op true by) first before c.store.new.out) is.is.kind piece)))
     c.store.ensures

@@ -5,7 +5,8 @@ use Rattle.c_parse.proofs.Nested.{definition_deep, definition_read, definition_h
 use Rattle.c_parse.proofs.items.read_definition.Goals as goal
 
 pub returns-then-levels-eq0-clause-value : goal.returns-then-levels-eq0-clause-value
-returns-then-levels-eq0-clause-value c = definition_deep c.too_deep.result c.args.levels (head_tree c.args.head) c.args.words.now (omega arith) c.too_deep.ensures
+returns-then-levels-eq0-clause-value c =
+    definition_deep c.too_deep.result c.args.levels (head_tree c.args.head) c.args.words.now (omega arith) c.too_deep.ensures
 
 pub returns-in_err-body-clause-value : goal.returns-in_err-body-clause-value
 returns-in_err-body-clause-value c =
@@ -14,4 +15,5 @@ returns-in_err-body-clause-value c =
 
 pub returns-clause-value : goal.returns-clause-value
 returns-clause-value c =
-    definition_read c.args.levels (head_tree c.args.head) c.args.words.now (block_tree c.in_ok-body.body) _ (omega arith) c.in_ok-body.ensures.value
+    definition_read c.args.levels (head_tree c.args.head) c.args.words.now (block_tree c.in_ok-body.body) _
+    (omega arith) c.in_ok-body.ensures.value

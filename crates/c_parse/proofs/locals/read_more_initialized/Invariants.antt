@@ -7,7 +7,8 @@ use Rattle.c_parse.proofs.locals.read_more_initialized.Given as goal
 
 abbrev pub invariant-loop-alloc : goal.invariant-loop-alloc
 invariant-loop-alloc l =
-    SoFar (is_class class.Comma) (λ comma. read_initialized l.levels (behind comma)) l.initial.words (map initialized_tree l.others.items) l.words
+    SoFar (is_class class.Comma) (λ comma. read_initialized l.levels (behind comma)) l.initial.words
+    (map initialized_tree l.others.items) l.words
 
 abbrev pub decreases-loop-alloc : goal.decreases-loop-alloc
 decreases-loop-alloc l = length l.words

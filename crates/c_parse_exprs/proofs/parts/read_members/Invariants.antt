@@ -6,7 +6,8 @@ use Rattle.c_parse_exprs.proofs.Loops.{SoFar}
 use Rattle.c_parse_exprs.proofs.parts.read_members.Given as goal
 
 abbrev pub invariant-loop-alloc : goal.invariant-loop-alloc
-invariant-loop-alloc l = SoFar (is_class class.Arrow) (λ comma. read_name (behind comma)) l.initial.words (map ident_tree l.members.items) l.words
+invariant-loop-alloc l =
+    SoFar (is_class class.Arrow) (λ comma. read_name (behind comma)) l.initial.words (map ident_tree l.members.items) l.words
 
 abbrev pub decreases-loop-alloc : goal.decreases-loop-alloc
 decreases-loop-alloc l = length l.words

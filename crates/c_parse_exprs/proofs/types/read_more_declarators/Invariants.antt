@@ -6,7 +6,8 @@ use Rattle.c_parse_exprs.proofs.Loops.{SoFar}
 use Rattle.c_parse_exprs.proofs.types.read_more_declarators.Given as goal
 
 abbrev pub invariant-loop-alloc : goal.invariant-loop-alloc
-invariant-loop-alloc l = SoFar (is_class class.Comma) (λ comma. read_declarator (behind comma)) l.initial.words (map declarator_tree l.others.items) l.words
+invariant-loop-alloc l =
+    SoFar (is_class class.Comma) (λ comma. read_declarator (behind comma)) l.initial.words (map declarator_tree l.others.items) l.words
 
 abbrev pub decreases-loop-alloc : goal.decreases-loop-alloc
 decreases-loop-alloc l = length l.words

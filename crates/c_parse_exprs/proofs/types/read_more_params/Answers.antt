@@ -9,13 +9,20 @@ use Rattle.c_parse_exprs.proofs.types.read_more_params.Goals as goal
 pub returns-in_err-read_param-clause-value : goal.returns-in_err-read_param-clause-value
 returns-in_err-read_param-clause-value c =
     exit_halts _ _ c.from_residual.result _ c.in_err-read_param.field-0.0 c.from_residual.ensures.1
-    (eaten_halts class.Comma read_param c.args.words.now _ c.loop-alloc.words c.eat.new.self c.eat.result _ c.loop-alloc.invariant (record { seen = c.eat.ensures.seen; value = c.eat.ensures.value }) c.loop-alloc-test.true refl c.in_err-read_param.ensures.value)
+    (eaten_halts class.Comma read_param c.args.words.now _ c.loop-alloc.words c.eat.new.self c.eat.result _ c.loop-alloc.invariant
+    (record { seen = c.eat.ensures.seen; value = c.eat.ensures.value }) c.loop-alloc-test.true refl c.in_err-read_param.ensures.value)
 
 pub loop-alloc-preserved : goal.loop-alloc-preserved
 loop-alloc-preserved c =
-    eaten_more class.Comma read_param param_tree c.args.words.now c.loop-alloc.others.items c.push.new.self.items c.loop-alloc.words c.eat.new.self c.read_param.new.words c.in_ok-read_param.field-0 c.eat.result
-    c.loop-alloc.invariant (record { seen = c.eat.ensures.seen; value = c.eat.ensures.value }) c.loop-alloc-test.true c.in_ok-read_param.ensures.value c.in_ok-push.ensures.items (omega arith)
+    eaten_more class.Comma read_param param_tree c.args.words.now c.loop-alloc.others.items c.push.new.self.items c.loop-alloc.words
+    c.eat.new.self c.read_param.new.words c.in_ok-read_param.field-0 c.eat.result
+    c.loop-alloc.invariant
+    (record {
+      seen = c.eat.ensures.seen;
+      value = c.eat.ensures.value;
+    }) c.loop-alloc-test.true c.in_ok-read_param.ensures.value c.in_ok-push.ensures.items (omega arith)
 
 pub returns-clause-value : goal.returns-clause-value
 returns-clause-value c =
-    eaten_end class.Comma read_param c.args.words.now _ c.loop-alloc.words c.eat.new.self c.eat.result c.loop-alloc.invariant (record { seen = c.eat.ensures.seen; value = c.eat.ensures.value }) c.loop-alloc-test.false
+    eaten_end class.Comma read_param c.args.words.now _ c.loop-alloc.words c.eat.new.self c.eat.result c.loop-alloc.invariant
+    (record { seen = c.eat.ensures.seen; value = c.eat.ensures.value }) c.loop-alloc-test.false

@@ -7,9 +7,11 @@ use Rattle.c_print.proofs.expressions.+write.Goals as goal
 
 pub write_call-returns : goal.write_call-returns
 write_call-returns t c =
-    ends _ _ c.write_word-2.result (then c.in_ok-write_name.ensures (then c.in_ok-write_word.ensures c.in_ok-write_args.ensures)) c.write_word-2.ensures
+    ends _ _ c.write_word-2.result
+    (then c.in_ok-write_name.ensures (then c.in_ok-write_word.ensures c.in_ok-write_args.ensures)) c.write_word-2.ensures
 
 pub write_args-returns : goal.write_args-returns
 write_args-returns t c =
     let past : length c.deref-arg-items.result.now ≤ c.loop-place.place = search rules in
-    at_same print_args _ _ (ap args_tree c.deref-arg-items.ensures.value) _ _ (arguments c.deref-arg-items.result.now c.loop-place.place past c.loop-place.invariant)
+    at_same print_args _ _ (ap args_tree c.deref-arg-items.ensures.value) _ _
+    (arguments c.deref-arg-items.result.now c.loop-place.place past c.loop-place.invariant)

@@ -11,4 +11,6 @@ by_cast None target behind = refl
 by_cast (Some as_type) target behind = refl
 
 pub returns : goal.returns
-returns c = same _ _ _ _ c.write_size_of.result (by_cast _ _) (ends _ _ c.write_size_of.result (then c.in_ok-write_cast.ensures c.in_ok-write_word.ensures) c.write_size_of.ensures)
+returns c =
+    same _ _ _ _ c.write_size_of.result (by_cast _ _)
+    (ends _ _ c.write_size_of.result (then c.in_ok-write_cast.ensures c.in_ok-write_word.ensures) c.write_size_of.ensures)

@@ -20,7 +20,12 @@ write_stmt-returns-in_ok-write_word-in-Continue t c =
 pub write_stmt-returns-in_ok-write_word-in-Some : goal.write_stmt-returns-in_ok-write_word-in-Some
 write_stmt-returns-in_ok-write_word-in-Some t c =
     let s = c.in-If in
-    let whole : c.args.stmt.now ≡ If s.place s.test s.body (Some c.in-Some.other) = s.is ∙ ap (λ o. If s.place s.test s.body o) c.in-Some.is in
-    let row = then c.in_ok-write_in_parens-in-If.ensures (then (at_same print_stmt _ _ (ap stmt_tree c.deref.ensures) _ _ c.in_ok-write_stmt-in-If.ensures) c.in_ok-write_word-in-Some.ensures) in
+    let whole : c.args.stmt.now ≡ If s.place s.test s.body (Some c.in-Some.other) =
+    s.is ∙ ap (λ o. If s.place s.test s.body o) c.in-Some.is in
+    let row =
+    then c.in_ok-write_in_parens-in-If.ensures
+    (then (at_same print_stmt _ _
+    (ap stmt_tree c.deref.ensures) _ _ c.in_ok-write_stmt-in-If.ensures) c.in_ok-write_word-in-Some.ensures) in
     at_tree print_stmt _ _ (sym (ap stmt_tree whole ∙ if_else s.place s.test s.body c.in-Some.other)) _ _ c.write_stmt-in-Some.result
-    (ends _ _ c.write_stmt-in-Some.result row (at_tree print_stmt _ _ (ap stmt_tree c.deref-in-Some.ensures) _ _ c.write_stmt-in-Some.result c.write_stmt-in-Some.ensures))
+    (ends _ _ c.write_stmt-in-Some.result row
+    (at_tree print_stmt _ _ (ap stmt_tree c.deref-in-Some.ensures) _ _ c.write_stmt-in-Some.result c.write_stmt-in-Some.ensures))

@@ -8,7 +8,8 @@ returns-clause-tokens c =
 
 pub returns-clause-listed : goal.returns-clause-listed
 returns-clause-listed c =
-    IfOk-weaker c.read.result _ _ (λ found is. listed c.args.bytes.now found.items (has_read c.args.bytes.now found.items is)) c.read.ensures.tokens
+    IfOk-weaker c.read.result _ _
+    (λ found is. listed c.args.bytes.now found.items (has_read c.args.bytes.now found.items is)) c.read.ensures.tokens
 
 pub returns-clause-fault : goal.returns-clause-fault
 returns-clause-fault c =

@@ -4,7 +4,9 @@ use Rattle.c_tokens.proofs.words.digits_value.Goals as goal
 
 pub overflow_mul-value : goal.overflow_mul-value
 overflow_mul-value c =
-    let bound = front_value c.args.word.now c.loop-byte.byte-index c.loop-byte.value c.requires.digits c.loop-byte.invariant (omega arith) c.requires.short in
+    let bound =
+    front_value c.args.word.now c.loop-byte.byte-index c.loop-byte.value c.requires.digits c.loop-byte.invariant
+    (omega arith) c.requires.short in
     omega arith
 
 pub overflow_sub-byte : goal.overflow_sub-byte
@@ -12,10 +14,13 @@ overflow_sub-byte c = (next_digit c.args.word.now c.loop-byte.byte-index c.requi
 
 pub overflow_add-value : goal.overflow_add-value
 overflow_add-value c =
-    let bound = front_value c.args.word.now c.loop-byte.byte-index c.loop-byte.value c.requires.digits c.loop-byte.invariant (omega arith) c.requires.short in
+    let bound =
+    front_value c.args.word.now c.loop-byte.byte-index c.loop-byte.value c.requires.digits c.loop-byte.invariant
+    (omega arith) c.requires.short in
     let digit = next_digit c.args.word.now c.loop-byte.byte-index c.requires.digits (omega arith) in
     omega arith
 
 pub loop-byte-preserved : goal.loop-byte-preserved
 loop-byte-preserved c =
-    next_value c.args.word.now c.loop-byte.byte-index c.loop-byte.value c.from.result c.requires.digits (omega arith) c.loop-byte.invariant (omega arith)
+    next_value c.args.word.now c.loop-byte.byte-index c.loop-byte.value c.from.result c.requires.digits (omega arith) c.loop-byte.invariant
+    (omega arith)

@@ -21,7 +21,8 @@ loop-place-preserved c =
     let goes : c.items.new.before ≡ joined before (declared_by file.items) =
     c.in_ok-items.ensures.before ∙ ap (λ (xs : List Item). joined before (declared_by (map item_tree xs))) c.as_slice.ensures.value in
     let adds = same c.in_ok-items.ensures.found (items all before file.items)
-    (ap (λ (t : Tables). items t before (map item_tree c.as_slice.result.now)) c.loop-place.invariant.tables ∙ ap (λ (xs : List Item). items all before (map item_tree xs)) c.as_slice.ensures.value) in
+    (ap (λ (t : Tables). items t before (map item_tree c.as_slice.result.now)) c.loop-place.invariant.tables
+    ∙ ap (λ (xs : List Item). items all before (map item_tree xs)) c.as_slice.ensures.value) in
     record {
       refusal = refusal_next all before c.items.new.before c.args.units.now c.loop-place.place one within c.index-units-place.is goes
           c.loop-place.found.first.found c.loop-place.found.kinds c.items.new.found adds _ c.loop-place.invariant.refusal;
@@ -34,7 +35,10 @@ pub returns-clause-refusal : goal.returns-clause-refusal
 returns-clause-refusal c =
     let past : length c.args.units.now ≤ c.loop-place.place = search rules in
     sym (first_with-nil c.loop-place.found.first.found)
-    ∙ sym (at_drop_all (λ (xs : List Unit). first_with c.loop-place.found.first.found (files_refusals c.args.env.now.tables c.loop-place.before c.loop-place.place (map unit_tree xs))) c.args.units.now c.loop-place.place past)
+    ∙ sym (at_drop_all
+    (λ (xs : List Unit). first_with c.loop-place.found.first.found
+    (files_refusals c.args.env.now.tables c.loop-place.before c.loop-place.place
+    (map unit_tree xs))) c.args.units.now c.loop-place.place past)
     ∙ c.loop-place.invariant.refusal
     ∙ first_with-is (files_refusals c.args.env.now.tables no_tables 0 (map unit_tree c.args.units.now))
 
@@ -42,5 +46,7 @@ pub returns-clause-kinds : goal.returns-clause-kinds
 returns-clause-kinds c =
     let past : length c.args.units.now ≤ c.loop-place.place = search rules in
     sym (append-nil c.loop-place.found.kinds)
-    ∙ sym (at_drop_all (λ (xs : List Unit). c.loop-place.found.kinds ++ (items c.args.env.now.tables c.loop-place.before (items_of (map unit_tree xs))).kinds) c.args.units.now c.loop-place.place past)
+    ∙ sym (at_drop_all
+    (λ (xs : List Unit). c.loop-place.found.kinds
+    ++ (items c.args.env.now.tables c.loop-place.before (items_of (map unit_tree xs))).kinds) c.args.units.now c.loop-place.place past)
     ∙ c.loop-place.invariant.kinds

@@ -15,5 +15,6 @@ returns c =
     let past : length ones ≤ n = search rules in
     let kinds = λ (list : List DeclaredField). map (kind_of_declared c.args.tables.now) (map declared_seen list) in
     let rest : length (map field_seen (drop n others)) ≡ length others - n = length-map (drop n others) field_seen ∙ length-drop n others in
-    ends_same same_fields fields_left (kinds (drop n ones)) (map field_seen (drop n others)) (length ones) (length others) n (omega (arith, past, c.loop-place.auto.place-end))
+    ends_same same_fields fields_left (kinds (drop n ones)) (map field_seen (drop n others)) (length ones) (length others) n
+    (omega (arith, past, c.loop-place.auto.place-end))
     (at_drop_all kinds ones n past) rest _ c.loop-place.invariant

@@ -10,11 +10,13 @@ use Rattle.c_types.proofs.heads.each_param_refusals.Goals as goal
 
 pub returns-in-Empty : goal.returns-in-Empty
 returns-in-Empty c =
-    same _ _ _ _ (nothing c.args.first.now) (ap (λ (ps : Params). each_param_refusals c.args.tables.now [] (listed (params_tree ps))) (sym c.in-Empty.is))
+    same _ _ _ _ (nothing c.args.first.now)
+    (ap (λ (ps : Params). each_param_refusals c.args.tables.now [] (listed (params_tree ps))) (sym c.in-Empty.is))
 
 pub returns-in-Void : goal.returns-in-Void
 returns-in-Void c =
-    same _ _ _ _ (nothing c.args.first.now) (ap (λ (ps : Params). each_param_refusals c.args.tables.now [] (listed (params_tree ps))) (sym c.in-Void.is))
+    same _ _ _ _ (nothing c.args.first.now)
+    (ap (λ (ps : Params). each_param_refusals c.args.tables.now [] (listed (params_tree ps))) (sym c.in-Void.is))
 
 pub returns-in_ok-add_name-in-Listed : goal.returns-in_ok-add_name-in-Listed
 returns-in_ok-add_name-in-Listed c = on_ok_weaker c.more_param_refusals.result (λ more.

@@ -21,7 +21,8 @@ loop-param-preserved c = λ names is.
     let behind = each_param_refusals t (with_name (param_tree x).name before.names) (map param_tree (drop (i + 1) xs)) in
     let parts : each_param_refusals t before.names (map param_tree (drop i xs)) ≡ one ++ behind =
     at_drop_more (λ (list : List Param). each_param_refusals t before.names (map param_tree list)) xs i x within
-    ∙ ap (λ (y : Param). param_refusals t before.names (param_tree y) ++ each_param_refusals t (with_name (param_tree y).name before.names) (map param_tree (drop (i + 1) xs))) (sym c.param-item.is) in
+    ∙ ap (λ (y : Param). param_refusals t before.names (param_tree y)
+    ++ each_param_refusals t (with_name (param_tree y).name before.names) (map param_tree (drop (i + 1) xs))) (sym c.param-item.is) in
     record {
       names = with_name (param_tree x).name before.names;
       lists = c.in_ok-add_name.ensures before.names before.lists;
@@ -32,4 +33,6 @@ pub returns : goal.returns
 returns c = λ names is.
     let past : length c.args.params.now ≤ c.loop-param.param-index = search rules in
     let all = c.loop-param.invariant names is in
-    over _ _ _ (at_drop_all (λ (xs : List Param). each_param_refusals c.args.tables.now all.names (map param_tree xs)) c.args.params.now c.loop-param.param-index past) all.passes
+    over _ _ _ (at_drop_all
+    (λ (xs : List Param). each_param_refusals c.args.tables.now all.names
+    (map param_tree xs)) c.args.params.now c.loop-param.param-index past) all.passes

@@ -15,8 +15,10 @@ returns c = λ names is.
     then _ _ _ _ _
     (then _ _ _ _ _ c.specifier_refusals.ensures
     (c.unless.ensures
-    ∙ ap (λ (b : Bool). with_refusals c.specifier_refusals.new.first (unless (not b) place.result LEFT_OUT)) (c.is_hidden_by-hidden.ensures names is)
-    ∙ ap (λ (at : Place). with_refusals c.specifier_refusals.new.first (unless (not (is_hidden_by names p.specifier)) at LEFT_OUT)) place.ensures))
+    ∙ ap (λ (b : Bool). with_refusals c.specifier_refusals.new.first (unless (not b) place.result LEFT_OUT))
+    (c.is_hidden_by-hidden.ensures names is)
+    ∙ ap (λ (at : Place). with_refusals c.specifier_refusals.new.first
+    (unless (not (is_hidden_by names p.specifier)) at LEFT_OUT)) place.ensures))
     (c.unless-2.ensures
     ∙ ap (λ (b : Bool). with_refusals c.unless.new.self (unless b place.result LEFT_OUT)) c.may_be_object.ensures
     ∙ ap (λ (at : Place). with_refusals c.unless.new.self (unless (may_be_object p.specifier p.stars) at LEFT_OUT)) place.ensures)

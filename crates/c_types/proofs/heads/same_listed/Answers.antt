@@ -15,6 +15,8 @@ returns c =
     let past : length ones ≤ n = search rules in
     let kinds = λ (list : List Param). map (param_kind c.args.tables.now) (map param_tree list) in
     let rest : length (kinds (drop n others)) ≡ length others - n =
-    length-map (map param_tree (drop n others)) (param_kind c.args.tables.now) ∙ length-map (drop n others) param_tree ∙ length-drop n others in
-    ends_same same_kinds kinds_left (kinds (drop n ones)) (kinds (drop n others)) (length ones) (length others) n (omega (arith, past, c.loop-place.auto.place-end))
+    length-map (map param_tree (drop n others)) (param_kind c.args.tables.now) ∙ length-map (drop n others) param_tree
+    ∙ length-drop n others in
+    ends_same same_kinds kinds_left (kinds (drop n ones)) (kinds (drop n others)) (length ones) (length others) n
+    (omega (arith, past, c.loop-place.auto.place-end))
     (at_drop_all kinds ones n past) rest _ c.loop-place.invariant

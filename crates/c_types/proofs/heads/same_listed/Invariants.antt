@@ -6,5 +6,6 @@ use Rattle.c_types.proofs.heads.same_listed.Given as goal
 
 abbrev pub invariant-loop-place : goal.invariant-loop-place
 invariant-loop-place l =
-    same_kinds (map (param_kind l.tables) (map param_tree (drop l.place l.ones))) (map (param_kind l.tables) (map param_tree (drop l.place l.others)))
+    same_kinds (map (param_kind l.tables) (map param_tree (drop l.place l.ones)))
+    (map (param_kind l.tables) (map param_tree (drop l.place l.others)))
     ≡ same_kinds (map (param_kind l.tables) (map param_tree l.ones)) (map (param_kind l.tables) (map param_tree l.others))

@@ -18,13 +18,21 @@ loop-one-preserved c =
     let all = c.args.env.now.tables in
     let next = λ (before : Tables) (one : Item). joined before (declares (item_tree one)) in
     let here = item_tree c.one-item.result in
-    let found = same c.in_ok-item.ensures.found (item all c.loop-one.before here) (ap (λ (t : Tables). item t c.loop-one.before here) c.loop-one.invariant.tables) in
+    let found =
+    same c.in_ok-item.ensures.found (item all c.loop-one.before here)
+    (ap (λ (t : Tables). item t c.loop-one.before here) c.loop-one.invariant.tables) in
     record {
-      found = turned (λ (before : Tables) (xs : List Item). items all before (map item_tree xs)) (λ (before : Tables) (one : Item). item all before (item_tree one)) next (λ before one xs. refl)
-          c.args.ones.now c.loop-one.one-index c.one-item.result within c.one-item.is c.loop-one.before c.declare.new.self c.in_ok-declare.ensures
+      found =
+          turned (λ (before : Tables) (xs : List Item). items all before (map item_tree xs))
+          (λ (before : Tables) (one : Item). item all before (item_tree one)) next (λ before one xs. refl)
+          c.args.ones.now c.loop-one.one-index c.one-item.result within c.one-item.is c.loop-one.before c.declare.new.self
+          c.in_ok-declare.ensures
           c.loop-one.invariant.found found;
-      before = passed (λ (before : Tables) (xs : List Item). joined before (declared_by (map item_tree xs))) next (λ before one xs. sym (joined-assoc before (declares (item_tree one)) (declared_by (map item_tree xs))))
-          c.args.ones.now c.loop-one.one-index c.one-item.result within c.one-item.is c.loop-one.before c.declare.new.self c.in_ok-declare.ensures
+      before =
+          passed (λ (before : Tables) (xs : List Item). joined before (declared_by (map item_tree xs))) next
+          (λ before one xs. sym (joined-assoc before (declares (item_tree one)) (declared_by (map item_tree xs))))
+          c.args.ones.now c.loop-one.one-index c.one-item.result within c.one-item.is c.loop-one.before c.declare.new.self
+          c.in_ok-declare.ensures
           _ c.loop-one.invariant.before;
       tables = c.in_ok-item.ensures.tables ∙ c.loop-one.invariant.tables;
     }
@@ -32,11 +40,14 @@ loop-one-preserved c =
 pub returns-clause-found : goal.returns-clause-found
 returns-clause-found c =
     let past : length c.args.ones.now ≤ c.loop-one.one-index = search rules in
-    over c.loop-one.invariant.found (at_drop_all (λ (xs : List Item). items c.args.env.now.tables c.loop-one.before (map item_tree xs)) c.args.ones.now c.loop-one.one-index past)
+    over c.loop-one.invariant.found
+    (at_drop_all
+    (λ (xs : List Item). items c.args.env.now.tables c.loop-one.before (map item_tree xs)) c.args.ones.now c.loop-one.one-index past)
 
 pub returns-clause-before : goal.returns-clause-before
 returns-clause-before c =
     let past : length c.args.ones.now ≤ c.loop-one.one-index = search rules in
     sym (joined-none c.loop-one.before)
-    ∙ sym (at_drop_all (λ (xs : List Item). joined c.loop-one.before (declared_by (map item_tree xs))) c.args.ones.now c.loop-one.one-index past)
+    ∙ sym (at_drop_all
+    (λ (xs : List Item). joined c.loop-one.before (declared_by (map item_tree xs))) c.args.ones.now c.loop-one.one-index past)
     ∙ c.loop-one.invariant.before

@@ -6,4 +6,5 @@ use Rattle.c_types.proofs.items.more_unnamed_refusals.Given as goal
 
 abbrev pub invariant-loop-param : goal.invariant-loop-param
 invariant-loop-param l =
-    with_refusals l.first (unnamed_refusals (map param_tree (drop l.param-index l.params))) ≡ with_refusals l.initial.first (unnamed_refusals (map param_tree l.params))
+    with_refusals l.first (unnamed_refusals (map param_tree (drop l.param-index l.params)))
+    ≡ with_refusals l.initial.first (unnamed_refusals (map param_tree l.params))

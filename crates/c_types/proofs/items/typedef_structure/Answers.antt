@@ -11,4 +11,5 @@ returns-in-Err c = tt
 pub returns-in-Ok : goal.returns-in-Ok
 returns-in-Ok c =
     same _ _ _ _ (then _ _ _ _ _ c.in-Ok.ensures c.alias_refusals.ensures)
-    (ap (λ (n : Name). structure_refusals c.args.tables.now c.args.before.now n (map fields_tree c.args.lines.now.items) ++ alias_refusals c.args.before.now (ident_tree c.args.alias.now) n) c.tag_or-tag.ensures)
+    (ap (λ (n : Name). structure_refusals c.args.tables.now c.args.before.now n (map fields_tree c.args.lines.now.items)
+    ++ alias_refusals c.args.before.now (ident_tree c.args.alias.now) n) c.tag_or-tag.ensures)

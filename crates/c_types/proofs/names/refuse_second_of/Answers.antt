@@ -27,20 +27,28 @@ loop-one-preserved c =
     let before = names_before (take i xs) in
     let behind = map named_seen (drop (i + 1) xs) in
     let known = c.contains-listed.ensures ∙ c.loop-one.invariant.lists.same (named_seen one) in
-    let goes : c.unless.new.self ≡ with_refusals c.loop-one.first (unless (not (is_listed before (named_seen one))) (named_seen one).place SECOND) =
+    let goes : c.unless.new.self
+    ≡ with_refusals c.loop-one.first (unless (not (is_listed before (named_seen one))) (named_seen one).place SECOND) =
     c.unless.ensures ∙ ap (λ (b : Bool). with_refusals c.loop-one.first (unless (not b) (named_seen one).place SECOND)) known in
-    let parts : twice before (map named_seen (drop i xs)) ≡ unless (not (is_listed before (named_seen one))) (named_seen one).place SECOND ++ twice (named_seen one ∷ before) behind =
+    let parts : twice before (map named_seen (drop i xs))
+    ≡ unless (not (is_listed before (named_seen one))) (named_seen one).place SECOND ++ twice (named_seen one ∷ before) behind =
     at_drop_more (λ (list : List Named). twice before (map named_seen list)) xs i one within
-    ∙ ap (λ (x : Named). unless (not (is_listed before (named_seen x))) (named_seen x).place SECOND ++ twice (named_seen x ∷ before) behind) (sym c.one-item.is) in
+    ∙ ap (λ (x : Named). unless (not (is_listed before (named_seen x))) (named_seen x).place SECOND ++ twice (named_seen x ∷ before) behind)
+    (sym c.one-item.is) in
     let more : names_before (take (i + 1) xs) ≡ named_seen one ∷ before =
     before_more xs i one within ∙ ap (λ (x : Named). named_seen x ∷ before) (sym c.one-item.is) in
     record {
-      lists = subst (Lists c.add.new.self) (sym more) (lists_more c.loop-one.before c.add.new.self before (named_seen one) c.loop-one.invariant.lists c.in_ok-add.ensures);
+      lists =
+          subst (Lists c.add.new.self) (sym more)
+          (lists_more c.loop-one.before c.add.new.self before (named_seen one) c.loop-one.invariant.lists c.in_ok-add.ensures);
       passes = ap (λ (names : List Name). with_refusals c.unless.new.self (twice names behind)) more
-          ∙ turn _ _ _ _ (unless (not (is_listed before (named_seen one))) (named_seen one).place SECOND) (twice (named_seen one ∷ before) behind) goes parts c.loop-one.invariant.passes;
+          ∙ turn _ _ _ _ (unless (not (is_listed before (named_seen one))) (named_seen one).place SECOND)
+          (twice (named_seen one ∷ before) behind) goes parts c.loop-one.invariant.passes;
     }
 
 pub returns : goal.returns
 returns c =
     let past : length c.args.names.now ≤ c.loop-one.one-index = search rules in
-    over _ _ _ (at_drop_all (λ (xs : List Named). twice (names_before (take c.loop-one.one-index c.args.names.now)) (map named_seen xs)) c.args.names.now c.loop-one.one-index past) c.loop-one.invariant.passes
+    over _ _ _ (at_drop_all
+    (λ (xs : List Named). twice (names_before (take c.loop-one.one-index c.args.names.now))
+    (map named_seen xs)) c.args.names.now c.loop-one.one-index past) c.loop-one.invariant.passes

@@ -5,7 +5,8 @@ use Rattle.c_types_exprs.proofs.all_kinds.+later.Given as goal
 
 abbrev pub invariant-push_operands-loop-link : goal.invariant-push_operands-loop-link
 invariant-push_operands-loop-link l =
-    l.list ++ operand_kinds l.env (links_tree (drop l.link-index l.link-items)) ≡ l.initial.list ++ operand_kinds l.env (links_tree l.link-items)
+    l.list ++ operand_kinds l.env (links_tree (drop l.link-index l.link-items))
+    ≡ l.initial.list ++ operand_kinds l.env (links_tree l.link-items)
 
 abbrev pub invariant-push_args-loop-arg : goal.invariant-push_args-loop-arg
 invariant-push_args-loop-arg l =

@@ -6,4 +6,5 @@ use Rattle.c_types_exprs.proofs.all_kinds.push_links.Given as goal
 
 abbrev pub invariant-loop-link : goal.invariant-loop-link
 invariant-loop-link l =
-    l.list ++ link_kinds l.env (kind_seen l.current) (links_tree (drop l.link-index l.link-items)) ≡ l.initial.list ++ link_kinds l.env (kind_seen l.initial.current) (links_tree l.link-items)
+    l.list ++ link_kinds l.env (kind_seen l.current) (links_tree (drop l.link-index l.link-items))
+    ≡ l.initial.list ++ link_kinds l.env (kind_seen l.initial.current) (links_tree l.link-items)

@@ -6,4 +6,5 @@ use Rattle.c_types_exprs.proofs.exprs.kind_of_members.Given as goal
 
 abbrev pub invariant-loop-field : goal.invariant-loop-field
 invariant-loop-field l =
-    kind_of_members l.tables (kind_seen l.current) (map ident_tree (drop l.field-index l.fields)) ≡ kind_of_members l.tables (kind_seen l.initial.current) (map ident_tree l.fields)
+    kind_of_members l.tables (kind_seen l.current) (map ident_tree (drop l.field-index l.fields))
+    ≡ kind_of_members l.tables (kind_seen l.initial.current) (map ident_tree l.fields)

@@ -5,7 +5,8 @@ use Rattle.c_types_rules.specs.Types.{unless, CLASH}
 use Rattle.c_tree.specs.declared.exprs.Expr.{Expr}
 use Rattle.c_tree.specs.declared.exprs.Link.{Link}
 use Rattle.c_types_names.specs.FirstRefusal.{with_refusals}
-use Rattle.c_types_rules.specs.Expressions.{OfKind, kind_of, kind_of_binary, may_stand_by, given_by, is_null, expr_refusals, links_refusals, args_refusals}
+use Rattle.c_types_rules.specs.Expressions.{OfKind, kind_of, kind_of_binary, may_stand_by, given_by, is_null, expr_refusals, links_refusals}
+use Rattle.c_types_rules.specs.Expressions.{args_refusals}
 use Rattle.c_tree.specs.Syntax.{LinkTree, link_tree, binary_tree, expr_tree, links_tree, args_tree}
 use Rattle.c_types_names.specs.Seen.{kind_seen}
 use Rattle.c_types_exprs.specs.Seen.{given_seen}
@@ -14,14 +15,17 @@ use Rattle.c_tree.specs.declared.exprs.Expr.{the_lemmas}
 use Rattle.c_types_exprs.proofs.refusals.+refusals.Goals as goal
 
 pub expr_refusals-returns-in-Chain : goal.expr_refusals-returns-in-Chain
-expr_refusals-returns-in-Chain t c = same _ _ _ _ (then _ _ _ _ _ c.expr_refusals.ensures c.links_refusals.ensures) (search (rules, the_lemmas))
+expr_refusals-returns-in-Chain t c =
+    same _ _ _ _ (then _ _ _ _ _ c.expr_refusals.ensures c.links_refusals.ensures) (search (rules, the_lemmas))
 
 pub expr_refusals-returns-in-Prefix : goal.expr_refusals-returns-in-Prefix
-expr_refusals-returns-in-Prefix t c = same _ _ _ _ (then _ _ _ _ _ c.expr_refusals-in-Prefix.ensures c.unless.ensures) (search (rules, the_lemmas))
+expr_refusals-returns-in-Prefix t c =
+    same _ _ _ _ (then _ _ _ _ _ c.expr_refusals-in-Prefix.ensures c.unless.ensures) (search (rules, the_lemmas))
 
 pub expr_refusals-returns-in-Members : goal.expr_refusals-returns-in-Members
 expr_refusals-returns-in-Members t c =
-    same _ _ _ _ (then _ _ _ _ _ c.expr_refusals-in-Members.ensures (then _ _ _ _ _ c.member_refusals.ensures c.members_refusals.ensures)) (search (rules, the_lemmas))
+    same _ _ _ _ (then _ _ _ _ _ c.expr_refusals-in-Members.ensures (then _ _ _ _ _ c.member_refusals.ensures c.members_refusals.ensures))
+    (search (rules, the_lemmas))
 
 pub expr_refusals-returns-in-Number : goal.expr_refusals-returns-in-Number
 expr_refusals-returns-in-Number t c = same _ _ _ _ (nothing _) (search (rules, the_lemmas))
@@ -30,29 +34,40 @@ pub expr_refusals-returns-in-Null : goal.expr_refusals-returns-in-Null
 expr_refusals-returns-in-Null t c = same _ _ _ _ (nothing _) (search (rules, the_lemmas))
 
 pub expr_refusals-returns-in-Call : goal.expr_refusals-returns-in-Call
-expr_refusals-returns-in-Call t c = same _ _ _ _ (then _ _ _ _ _ c.unless-in-Call.ensures (then _ _ _ _ _ c.args_refusals.ensures c.callee_refusals.ensures)) (search (rules, the_lemmas))
+expr_refusals-returns-in-Call t c =
+    same _ _ _ _ (then _ _ _ _ _ c.unless-in-Call.ensures (then _ _ _ _ _ c.args_refusals.ensures c.callee_refusals.ensures))
+    (search (rules, the_lemmas))
 
 pub expr_refusals-returns-in-Malloc : goal.expr_refusals-returns-in-Malloc
-expr_refusals-returns-in-Malloc t c = same _ _ _ _ (then _ _ _ _ _ c.unless-in-Malloc.ensures c.malloc_refusals.ensures) (search (rules, the_lemmas))
+expr_refusals-returns-in-Malloc t c =
+    same _ _ _ _ (then _ _ _ _ _ c.unless-in-Malloc.ensures c.malloc_refusals.ensures) (search (rules, the_lemmas))
 
 pub args_refusals-loop-arg-preserved : goal.args_refusals-loop-arg-preserved
 args_refusals-loop-arg-preserved t c =
     let within : c.loop-arg.arg-index < length c.deref-arg-items.result.now = search rules in
     let rest = args_refusals c.args.env.now (args_tree (drop (c.loop-arg.arg-index + 1) c.deref-arg-items.result.now)) in
     turn _ _ _ _ _ rest c.expr_refusals.ensures
-    (at_drop_more (λ (xs : List Expr). args_refusals c.args.env.now (args_tree xs)) c.deref-arg-items.result.now c.loop-arg.arg-index _ within
+    (at_drop_more
+    (λ (xs : List Expr). args_refusals c.args.env.now (args_tree xs)) c.deref-arg-items.result.now c.loop-arg.arg-index _ within
     ∙ ap (λ (x : Expr). expr_refusals c.args.env.now (expr_tree x) ++ rest) (sym c.arg-item.is))
     c.loop-arg.invariant
 
 pub args_refusals-returns : goal.args_refusals-returns
 args_refusals-returns t c =
-    over _ _ _ (at_drop_all (λ (xs : List Expr). args_refusals c.args.env.now (args_tree xs)) c.deref-arg-items.result.now c.loop-arg.arg-index (search rules)) c.loop-arg.invariant
+    over _ _ _ (at_drop_all
+    (λ (xs : List Expr). args_refusals c.args.env.now (args_tree xs)) c.deref-arg-items.result.now c.loop-arg.arg-index
+    (search rules)) c.loop-arg.invariant
     ∙ ap (λ (xs : List Expr). with_refusals c.args.first.now (args_refusals c.args.env.now (args_tree xs))) c.deref-arg-items.ensures.value
 
 pub links_refusals-returns : goal.links_refusals-returns
 links_refusals-returns t c =
-    over _ _ _ (at_drop_all (λ (xs : List Link). links_refusals c.args.env.now c.args.place (kind_seen c.loop-link.kind) (given_seen c.loop-link.given) c.loop-link.null (links_tree xs)) c.deref-link-items.result.now c.loop-link.link-index (search rules)) c.loop-link.invariant
-    ∙ ap (λ (xs : List Link). with_refusals c.args.first.now (links_refusals c.args.env.now c.args.place (kind_seen c.args.left.kind) (given_seen c.args.left.given) c.args.left.null (links_tree xs))) c.deref-link-items.ensures.value
+    over _ _ _ (at_drop_all
+    (λ (xs : List Link). links_refusals c.args.env.now c.args.place (kind_seen c.loop-link.kind)
+    (given_seen c.loop-link.given) c.loop-link.null (links_tree xs)) c.deref-link-items.result.now c.loop-link.link-index
+    (search rules)) c.loop-link.invariant
+    ∙ ap (λ (xs : List Link). with_refusals c.args.first.now
+    (links_refusals c.args.env.now c.args.place (kind_seen c.args.left.kind) (given_seen c.args.left.given) c.args.left.null
+    (links_tree xs))) c.deref-link-items.ensures.value
 
 pub links_refusals-loop-link-preserved : goal.links_refusals-loop-link-preserved
 links_refusals-loop-link-preserved t c =
@@ -64,15 +79,22 @@ links_refusals-loop-link-preserved t c =
     let behind = links_tree (drop (c.loop-link.link-index + 1) c.deref-link-items.result.now) in
     let rest = links_refusals c.args.env.now c.args.place kind (OfKind kind) false behind in
     let parts = λ (x : LinkTree). (expr_refusals c.args.env.now x.operand
-    ++ unless (may_stand_by x.op (given_seen c.loop-link.given) c.loop-link.null (given_by c.args.env.now x.operand) (is_null x.operand)) c.args.place CLASH)
-    ++ links_refusals c.args.env.now c.args.place (kind_of_binary x.op (kind_seen c.loop-link.kind) (kind_of c.args.env.now x.operand)) (OfKind (kind_of_binary x.op (kind_seen c.loop-link.kind) (kind_of c.args.env.now x.operand))) false behind in
+    ++ unless (may_stand_by x.op (given_seen c.loop-link.given) c.loop-link.null (given_by c.args.env.now x.operand)
+    (is_null x.operand)) c.args.place CLASH)
+    ++ links_refusals c.args.env.now c.args.place (kind_of_binary x.op (kind_seen c.loop-link.kind) (kind_of c.args.env.now x.operand))
+    (OfKind (kind_of_binary x.op (kind_seen c.loop-link.kind) (kind_of c.args.env.now x.operand))) false behind in
     let shown : link_tree c.link-item.result ≡ record { op = op; operand = operand } = search (rules, the_lemmas) in
     let refused : List Refusal = unless fit c.args.place CLASH in
-    let next : links_refusals c.args.env.now c.args.place (kind_seen c.loop-link.kind) (given_seen c.loop-link.given) c.loop-link.null (links_tree (drop c.loop-link.link-index c.deref-link-items.result.now))
+    let next : links_refusals c.args.env.now c.args.place (kind_seen c.loop-link.kind) (given_seen c.loop-link.given) c.loop-link.null
+    (links_tree (drop c.loop-link.link-index c.deref-link-items.result.now))
     ≡ (expr_refusals c.args.env.now operand ++ refused) ++ rest =
-    at_drop_more (λ (xs : List Link). links_refusals c.args.env.now c.args.place (kind_seen c.loop-link.kind) (given_seen c.loop-link.given) c.loop-link.null (links_tree xs)) c.deref-link-items.result.now c.loop-link.link-index c.link-item.result within
+    at_drop_more
+    (λ (xs : List Link). links_refusals c.args.env.now c.args.place (kind_seen c.loop-link.kind)
+    (given_seen c.loop-link.given) c.loop-link.null
+    (links_tree xs)) c.deref-link-items.result.now c.loop-link.link-index c.link-item.result within
     ∙ (ap (λ (x : Link). parts (link_tree x)) (sym c.link-item.is) ∙ ap parts shown) in
     let looked : c.unless.new.self ≡ with_refusals c.expr_refusals.new.first refused = search (rules, the_lemmas) in
-    let both : c.unless.new.self ≡ with_refusals c.loop-link.first (expr_refusals c.args.env.now operand ++ refused) = then _ _ _ _ _ c.expr_refusals.ensures looked in
+    let both : c.unless.new.self ≡ with_refusals c.loop-link.first (expr_refusals c.args.env.now operand ++ refused) =
+    then _ _ _ _ _ c.expr_refusals.ensures looked in
     let known : kind_seen c.kind_of_binary-kind.result ≡ kind = search (rules, the_lemmas) in
     rw known (turn _ _ _ _ (expr_refusals c.args.env.now operand ++ refused) rest both next c.loop-link.invariant)

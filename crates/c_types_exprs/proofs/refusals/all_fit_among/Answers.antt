@@ -11,4 +11,6 @@ pub returns : goal.returns
 returns c =
     let past : length c.args.args.now ≤ c.loop-place.place = search rules in
     let kinds = map (param_kind c.args.env.now.tables) (map param_tree (drop c.loop-place.place c.args.params.now)) in
-    sym (none_fit c.args.env.now kinds) ∙ sym (at_drop_all (λ (xs : List Expr). all_fit c.args.env.now kinds (args_tree xs)) c.args.args.now c.loop-place.place past) ∙ c.loop-place.invariant
+    sym (none_fit c.args.env.now kinds)
+    ∙ sym (at_drop_all (λ (xs : List Expr). all_fit c.args.env.now kinds (args_tree xs)) c.args.args.now c.loop-place.place past)
+    ∙ c.loop-place.invariant

@@ -8,5 +8,8 @@ use Rattle.c_types_exprs.proofs.refusals.same_number.Goals as goal
 pub returns-in-len1-up : goal.returns-in-len1-up
 returns-in-len1-up c =
     let known : c.len.result ≡ length c.in-Listed.others.items = search rules in
-    rw c.in-Listed.is (counted (param_kind c.args.tables.now (param_tree c.in-Listed.field-0)) (map (param_kind c.args.tables.now) (map param_tree c.in-Listed.others.items)) c.args.args.now c.len.result c.in-len1-up.len_at_least
-    (known ∙ sym (length-map (map param_tree c.in-Listed.others.items) (param_kind c.args.tables.now) ∙ length-map c.in-Listed.others.items param_tree)))
+    rw c.in-Listed.is
+    (counted (param_kind c.args.tables.now (param_tree c.in-Listed.field-0))
+    (map (param_kind c.args.tables.now) (map param_tree c.in-Listed.others.items)) c.args.args.now c.len.result c.in-len1-up.len_at_least
+    (known ∙ sym
+    (length-map (map param_tree c.in-Listed.others.items) (param_kind c.args.tables.now) ∙ length-map c.in-Listed.others.items param_tree)))

@@ -19,15 +19,18 @@ returns-clause-bound c =
     let items : c.push.new.self.items ≡ all ++ one ∷ [] = search rules in
     let turned : reverse c.push.new.self.items ≡ one ∷ reverse all = ap reverse items ∙ reverse-last all one in
     let hidden : one.hidden ≡ binding_in (reverse all) name =
-    c.flatten.ensures ∙ ap option_flatten c.in_ok-before.ensures.old ∙ ap (bound_of c.args.bindings.now) c.as_bytes.ensures.value ∙ c.requires.found name in
+    c.flatten.ensures ∙ ap option_flatten c.in_ok-before.ensures.old ∙ ap (bound_of c.args.bindings.now) c.as_bytes.ensures.value
+    ∙ c.requires.found name in
     let len : c.len.result ≡ length all = search rules in
     let place : c.len.result ≡ length (reverse all) = len ∙ sym (length-reverse all) in
-    let updates : (n : List ℕ) → first_of c.insert.new.self n ≡ cond (bytes_eq name n) (Some (Some binding)) (first_of c.args.bindings.now n) = λ n.
+    let updates : (n : List ℕ)
+    → first_of c.insert.new.self n ≡ cond (bytes_eq name n) (Some (Some binding)) (first_of c.args.bindings.now n) = λ n.
     hash_map_updates_str c.as_bytes.result.now c.args.bindings.now c.insert.new.self _ c.in_ok-before.ensures.updates n
     ∙ ap (λ bs. cond (bytes_eq bs n) (Some (Some binding)) (first_of c.args.bindings.now n)) c.as_bytes.ensures.value in
     record {
       linked = subst AreLinked (sym turned) (hidden, c.requires.linked);
       found = λ n.
-          declared_found (first_of c.args.bindings.now) (first_of c.insert.new.self) (reverse all) c.args.variable c.len.result c.requires.found place updates c.flatten.result n
+          declared_found (first_of c.args.bindings.now) (first_of c.insert.new.self)
+          (reverse all) c.args.variable c.len.result c.requires.found place updates c.flatten.result n
           ∙ ap (λ xs. binding_in xs n) (sym turned);
     }

@@ -27,8 +27,10 @@ returns-clause-bound c =
     let items : c.args.all.now.items ≡ rest ++ last ∷ [] = search rules in
     let turned : reverse c.args.all.now.items ≡ last ∷ reverse rest = ap reverse items ∙ reverse-last rest last in
     let linked : AreLinked (last ∷ reverse rest) = subst AreLinked turned c.requires.bound.linked in
-    let updates : (n : List ℕ) → first_of c.insert.new.self n ≡ cond (bytes_eq last.variable.name.now n) (Some last.hidden) (first_of c.args.bindings.now n) = λ n.
-    hash_map_updates_str c.as_bytes.result.now c.args.bindings.now c.insert.new.self _ (from_ok c.insert.result c.unwrap.result _ c.unwrap.ensures c.insert.ensures.updates) n
+    let updates : (n : List ℕ)
+    → first_of c.insert.new.self n ≡ cond (bytes_eq last.variable.name.now n) (Some last.hidden) (first_of c.args.bindings.now n) = λ n.
+    hash_map_updates_str c.as_bytes.result.now c.args.bindings.now c.insert.new.self _
+    (from_ok c.insert.result c.unwrap.result _ c.unwrap.ensures c.insert.ensures.updates) n
     ∙ ap (λ bs. cond (bytes_eq bs n) (Some last.hidden) (first_of c.args.bindings.now n)) c.as_bytes.ensures.value in
     record {
       linked = linked.1;

@@ -11,12 +11,16 @@ pub loop-one-preserved : goal.loop-one-preserved
 loop-one-preserved c =
     let within : c.loop-one.one-index < length c.args.ones.now = search rules in
     let s = specifier_tree c.args.specifier.now in
-    passed (λ (env : Env) (xs : List Initialized). behind_locals env s (map initialized_tree xs)) (λ (env : Env) (one : Initialized). behind_local env s (initialized_tree one))
-    (λ env one xs. refl) c.args.ones.now c.loop-one.one-index c.one-item.result within c.one-item.is c.loop-one.env c.add_local.new.env c.in_ok-add_local.ensures
+    passed (λ (env : Env) (xs : List Initialized). behind_locals env s (map initialized_tree xs))
+    (λ (env : Env) (one : Initialized). behind_local env s (initialized_tree one))
+    (λ env one xs. refl) c.args.ones.now c.loop-one.one-index c.one-item.result within c.one-item.is c.loop-one.env c.add_local.new.env
+    c.in_ok-add_local.ensures
     _ c.loop-one.invariant
 
 pub returns : goal.returns
 returns c =
     let past : length c.args.ones.now ≤ c.loop-one.one-index = search rules in
-    sym (at_drop_all (λ (xs : List Initialized). behind_locals c.loop-one.env (specifier_tree c.args.specifier.now) (map initialized_tree xs)) c.args.ones.now c.loop-one.one-index past)
+    sym (at_drop_all
+    (λ (xs : List Initialized). behind_locals c.loop-one.env (specifier_tree c.args.specifier.now)
+    (map initialized_tree xs)) c.args.ones.now c.loop-one.one-index past)
     ∙ c.loop-one.invariant

@@ -12,4 +12,5 @@ returns-clause-found c =
     let s = specifier_tree c.args.one.now.specifier in
     ends r _ _ c.in_ok-local.ensures.found (ends_same r _ _ _ _ c.more_locals.ensures.found
     (ap (λ (e : Env). locals e s (map initialized_tree c.as_slice.result.now)) c.in_ok-local.ensures.env
-    ∙ ap (λ (xs : List Initialized). locals (behind_local c.args.env.now s (initialized_tree c.args.one.now.first)) s (map initialized_tree xs)) c.as_slice.ensures.value))
+    ∙ ap (λ (xs : List Initialized). locals (behind_local c.args.env.now s (initialized_tree c.args.one.now.first)) s
+    (map initialized_tree xs)) c.as_slice.ensures.value))

@@ -16,7 +16,8 @@ returns-then-hidden-clause-found c =
     let first = refused all c.args.found.now c.specifier_refusals_in.new.first c.specifier_refusals_in.ensures in
     always c.unchecked_locals.result _
     (same (then first (nothing _)) _
-    (ap (λ (b : Bool). refuses all ⊹ (cond b nothing_found (locals c.args.env.now l.specifier (l.first ∷ l.others)))) (sym c.if-hidden.true ∙ c.is_hidden-hidden.ensures)))
+    (ap (λ (b : Bool). refuses all ⊹ (cond b nothing_found (locals c.args.env.now l.specifier (l.first ∷ l.others))))
+    (sym c.if-hidden.true ∙ c.is_hidden-hidden.ensures)))
 
 pub returns-else-hidden-clause-found : goal.returns-else-hidden-clause-found
 returns-else-hidden-clause-found c =
@@ -25,4 +26,5 @@ returns-else-hidden-clause-found c =
     let all = specifier_refusals_in c.args.env.now l.specifier in
     let first = refused all c.args.found.now c.specifier_refusals_in.new.first c.specifier_refusals_in.ensures in
     ends r _ _ first (ends_same r _ _ _ _ c.checked_locals.ensures.found
-    (ap (λ (b : Bool). cond b nothing_found (locals c.args.env.now l.specifier (l.first ∷ l.others))) (sym c.if-hidden.false ∙ c.is_hidden-hidden.ensures)))
+    (ap (λ (b : Bool). cond b nothing_found (locals c.args.env.now l.specifier (l.first ∷ l.others)))
+    (sym c.if-hidden.false ∙ c.is_hidden-hidden.ensures)))

@@ -16,21 +16,30 @@ loop-one-preserved c =
     let s = specifier_tree c.args.specifier.now in
     let next = λ (env : Env) (one : Initialized). behind_local env s (initialized_tree one) in
     record {
-      found = turned (λ (env : Env) (xs : List Initialized). locals env s (map initialized_tree xs)) (λ (env : Env) (one : Initialized). local env s (initialized_tree one)) next (λ env one xs. refl)
-          c.args.ones.now c.loop-one.one-index c.one-item.result within c.one-item.is c.loop-one.env c.local.new.env c.in_ok-local.ensures.env
+      found =
+          turned (λ (env : Env) (xs : List Initialized). locals env s (map initialized_tree xs))
+          (λ (env : Env) (one : Initialized). local env s (initialized_tree one)) next (λ env one xs. refl)
+          c.args.ones.now c.loop-one.one-index c.one-item.result within c.one-item.is c.loop-one.env c.local.new.env
+          c.in_ok-local.ensures.env
           c.loop-one.invariant.found c.in_ok-local.ensures.found;
       env = passed (λ (env : Env) (xs : List Initialized). behind_locals env s (map initialized_tree xs)) next (λ env one xs. refl)
-          c.args.ones.now c.loop-one.one-index c.one-item.result within c.one-item.is c.loop-one.env c.local.new.env c.in_ok-local.ensures.env
+          c.args.ones.now c.loop-one.one-index c.one-item.result within c.one-item.is c.loop-one.env c.local.new.env
+          c.in_ok-local.ensures.env
           _ c.loop-one.invariant.env;
     }
 
 pub returns-clause-found : goal.returns-clause-found
 returns-clause-found c =
     let past : length c.args.ones.now ≤ c.loop-one.one-index = search rules in
-    over c.loop-one.invariant.found (at_drop_all (λ (xs : List Initialized). locals c.loop-one.env (specifier_tree c.args.specifier.now) (map initialized_tree xs)) c.args.ones.now c.loop-one.one-index past)
+    over c.loop-one.invariant.found
+    (at_drop_all
+    (λ (xs : List Initialized). locals c.loop-one.env (specifier_tree c.args.specifier.now)
+    (map initialized_tree xs)) c.args.ones.now c.loop-one.one-index past)
 
 pub returns-clause-env : goal.returns-clause-env
 returns-clause-env c =
     let past : length c.args.ones.now ≤ c.loop-one.one-index = search rules in
-    sym (at_drop_all (λ (xs : List Initialized). behind_locals c.loop-one.env (specifier_tree c.args.specifier.now) (map initialized_tree xs)) c.args.ones.now c.loop-one.one-index past)
+    sym (at_drop_all
+    (λ (xs : List Initialized). behind_locals c.loop-one.env (specifier_tree c.args.specifier.now)
+    (map initialized_tree xs)) c.args.ones.now c.loop-one.one-index past)
     ∙ c.loop-one.invariant.env

@@ -16,72 +16,89 @@ use Rattle.c_types_stmts.proofs.stmts.+stmts.Goals as goal
 
 pub block-leave-requires : goal.block-leave-requires
 block-leave-requires t c =
-    may_leave c.args.env.now c.enter-begin.new.self c.stmts.new.env c.enter-begin.result c.enter-begin.ensures.scopes (stmts_kept _ _ (stmts_tree c.args.body.now.stmts.items) c.in_ok-stmts.ensures.env) c.enter-begin.ensures.around
+    may_leave c.args.env.now c.enter-begin.new.self c.stmts.new.env c.enter-begin.result c.enter-begin.ensures.scopes
+    (stmts_kept _ _ (stmts_tree c.args.body.now.stmts.items) c.in_ok-stmts.ensures.env) c.enter-begin.ensures.around
 
 pub block-returns-clause-env : goal.block-returns-clause-env
 block-returns-clause-env t c =
-    left c.args.env.now c.enter-begin.new.self c.stmts.new.env c.leave.new.self c.enter-begin.result c.enter-begin.ensures.scopes (stmts_kept _ _ (stmts_tree c.args.body.now.stmts.items) c.in_ok-stmts.ensures.env) c.enter-begin.ensures.around
+    left c.args.env.now c.enter-begin.new.self c.stmts.new.env c.leave.new.self c.enter-begin.result c.enter-begin.ensures.scopes
+    (stmts_kept _ _ (stmts_tree c.args.body.now.stmts.items) c.in_ok-stmts.ensures.env) c.enter-begin.ensures.around
     c.leave.ensures
 
 pub nested-leave-requires : goal.nested-leave-requires
 nested-leave-requires t c =
-    may_leave c.args.env.now c.enter-begin.new.self c.stmt.new.env c.enter-begin.result c.enter-begin.ensures.scopes (stmt_kept _ _ (stmt_tree c.deref.result.now) c.in_ok-stmt.ensures.env) c.enter-begin.ensures.around
+    may_leave c.args.env.now c.enter-begin.new.self c.stmt.new.env c.enter-begin.result c.enter-begin.ensures.scopes
+    (stmt_kept _ _ (stmt_tree c.deref.result.now) c.in_ok-stmt.ensures.env) c.enter-begin.ensures.around
 
 pub nested-returns-clause-env : goal.nested-returns-clause-env
 nested-returns-clause-env t c =
-    left c.args.env.now c.enter-begin.new.self c.stmt.new.env c.leave.new.self c.enter-begin.result c.enter-begin.ensures.scopes (stmt_kept _ _ (stmt_tree c.deref.result.now) c.in_ok-stmt.ensures.env) c.enter-begin.ensures.around
+    left c.args.env.now c.enter-begin.new.self c.stmt.new.env c.leave.new.self c.enter-begin.result c.enter-begin.ensures.scopes
+    (stmt_kept _ _ (stmt_tree c.deref.result.now) c.in_ok-stmt.ensures.env) c.enter-begin.ensures.around
     c.leave.ensures
 
 pub stmt-leave-requires : goal.stmt-leave-requires
 stmt-leave-requires t c =
     may_leave c.args.env.now c.enter-begin.new.self c.nested-in-For.new.env c.enter-begin.result c.enter-begin.ensures.scopes
-    (kept_again _ _ _ c.in_ok-nested-in-For.ensures.env (init_kept _ _ (init_tree c.in-For.first) c.in_ok-init-in-For.ensures.env)) c.enter-begin.ensures.around
+    (kept_again _ _ _ c.in_ok-nested-in-For.ensures.env
+    (init_kept _ _ (init_tree c.in-For.first) c.in_ok-init-in-For.ensures.env)) c.enter-begin.ensures.around
 
 pub stmt-returns-in_ok-nested-in-For-clause-env : goal.stmt-returns-in_ok-nested-in-For-clause-env
 stmt-returns-in_ok-nested-in-For-clause-env t c =
     let s = c.in-For in
     left c.args.env.now c.enter-begin.new.self c.nested-in-For.new.env c.leave.new.self c.enter-begin.result c.enter-begin.ensures.scopes
-    (kept_again _ _ _ c.in_ok-nested-in-For.ensures.env (init_kept _ _ (init_tree c.in-For.first) c.in_ok-init-in-For.ensures.env)) c.enter-begin.ensures.around c.leave.ensures
+    (kept_again _ _ _ c.in_ok-nested-in-For.ensures.env
+    (init_kept _ _ (init_tree c.in-For.first) c.in_ok-init-in-For.ensures.env)) c.enter-begin.ensures.around c.leave.ensures
     ∙ ap (behind_stmt c.args.env.now) (sym (ap stmt_tree s.is ∙ for_is s.place s.first s.condition s.step s.body))
 
 pub stmt-returns-in_ok-nested-in-For-clause-found : goal.stmt-returns-in_ok-nested-in-For-clause-found
 stmt-returns-in_ok-nested-in-For-clause-found t c =
     let s = c.in-For in
-    tree_found c.args.env.now (kind_seen c.args.answer) c.args.loops _ _ (ap stmt_tree s.is ∙ for_is s.place s.first s.condition s.step s.body)
-    (for_found c.args.env.now c.enter-begin.new.self c.init.new.env (kind_seen c.args.answer) c.args.loops s.place (init_tree s.first) (option_map expr_tree s.condition) (option_map for_step_tree s.step) (stmt_tree s.body.value)
-    c.enter-begin.ensures.scopes c.in_ok-init-in-For.ensures.env c.in_ok-init-in-For.ensures.found c.in_ok-maybe_test-in-For.ensures c.in_ok-maybe_simple-in-For.ensures c.in_ok-nested-in-For.ensures.found)
+    tree_found c.args.env.now (kind_seen c.args.answer) c.args.loops _ _
+    (ap stmt_tree s.is ∙ for_is s.place s.first s.condition s.step s.body)
+    (for_found c.args.env.now c.enter-begin.new.self c.init.new.env (kind_seen c.args.answer) c.args.loops s.place (init_tree s.first)
+    (option_map expr_tree s.condition) (option_map for_step_tree s.step) (stmt_tree s.body.value)
+    c.enter-begin.ensures.scopes c.in_ok-init-in-For.ensures.env c.in_ok-init-in-For.ensures.found c.in_ok-maybe_test-in-For.ensures
+    c.in_ok-maybe_simple-in-For.ensures c.in_ok-nested-in-For.ensures.found)
 
 pub stmt-returns-in-Empty-clause-found : goal.stmt-returns-in-Empty-clause-found
 stmt-returns-in-Empty-clause-found t c =
-    tree_found c.args.env.now (kind_seen c.args.answer) c.args.loops _ _ (ap stmt_tree c.in-Empty.is ∙ empty_is c.in-Empty.field-0) (nothing c.args.found.now)
+    tree_found c.args.env.now (kind_seen c.args.answer) c.args.loops _ _ (ap stmt_tree c.in-Empty.is ∙ empty_is c.in-Empty.field-0)
+    (nothing c.args.found.now)
 
 pub stmt-returns-in-None-clause-found : goal.stmt-returns-in-None-clause-found
 stmt-returns-in-None-clause-found t c =
     let s = c.in-If in
     let whole : c.args.one.now ≡ If s.place s.condition s.body None = s.is ∙ ap (λ o. If s.place s.condition s.body o) c.in-None.is in
-    tree_found c.args.env.now (kind_seen c.args.answer) c.args.loops _ _ (ap stmt_tree whole ∙ if_is s.place s.condition s.body) (then c.in_ok-test-in-If.ensures c.in_ok-nested-in-If.ensures.found)
+    tree_found c.args.env.now (kind_seen c.args.answer) c.args.loops _ _ (ap stmt_tree whole ∙ if_is s.place s.condition s.body)
+    (then c.in_ok-test-in-If.ensures c.in_ok-nested-in-If.ensures.found)
 
 pub stmt-returns-in-Some-clause-found : goal.stmt-returns-in-Some-clause-found
 stmt-returns-in-Some-clause-found t c =
     let s = c.in-If in
-    let whole : c.args.one.now ≡ If s.place s.condition s.body (Some c.in-Some.other) = s.is ∙ ap (λ o. If s.place s.condition s.body o) c.in-Some.is in
-    tree_ends c.nested-in-Some.result c.args.env.now (kind_seen c.args.answer) c.args.loops _ _ _ _ (ap stmt_tree whole ∙ if_else s.place s.condition s.body c.in-Some.other)
+    let whole : c.args.one.now ≡ If s.place s.condition s.body (Some c.in-Some.other) =
+    s.is ∙ ap (λ o. If s.place s.condition s.body o) c.in-Some.is in
+    tree_ends c.nested-in-Some.result c.args.env.now (kind_seen c.args.answer) c.args.loops _ _ _ _
+    (ap stmt_tree whole ∙ if_else s.place s.condition s.body c.in-Some.other)
     (ends c.nested-in-Some.result _ _ c.in_ok-test-in-If.ensures (ends c.nested-in-Some.result _ _ c.in_ok-nested-in-If.ensures.found
     (ends_same c.nested-in-Some.result _ _ _ _ c.nested-in-Some.ensures.found
-    (ap (λ (e : Env). stmt (entered e) (kind_seen c.args.answer) c.args.loops (stmt_tree c.in-Some.other.value)) c.in_ok-nested-in-If.ensures.env))))
+    (ap (λ (e : Env). stmt (entered e) (kind_seen c.args.answer) c.args.loops
+    (stmt_tree c.in-Some.other.value)) c.in_ok-nested-in-If.ensures.env))))
 
 pub stmt-returns-in_ok-test-in-While-clause-found : goal.stmt-returns-in_ok-test-in-While-clause-found
 stmt-returns-in_ok-test-in-While-clause-found t c =
     let s = c.in-While in
-    tree_ends c.nested-in-While.result c.args.env.now (kind_seen c.args.answer) c.args.loops _ _ _ _ (ap stmt_tree s.is ∙ while_is s.place s.condition s.body)
+    tree_ends c.nested-in-While.result c.args.env.now (kind_seen c.args.answer) c.args.loops _ _ _ _
+    (ap stmt_tree s.is ∙ while_is s.place s.condition s.body)
     (ends c.nested-in-While.result _ _ c.in_ok-test-in-While.ensures c.nested-in-While.ensures.found)
 
 pub stmt-returns-in_ok-nested-in-DoWhile-clause-found : goal.stmt-returns-in_ok-nested-in-DoWhile-clause-found
 stmt-returns-in_ok-nested-in-DoWhile-clause-found t c =
     let s = c.in-DoWhile in
-    tree_ends c.test-in-DoWhile.result c.args.env.now (kind_seen c.args.answer) c.args.loops _ _ _ _ (ap stmt_tree s.is ∙ do_while_is s.place s.body s.condition)
+    tree_ends c.test-in-DoWhile.result c.args.env.now (kind_seen c.args.answer) c.args.loops _ _ _ _
+    (ap stmt_tree s.is ∙ do_while_is s.place s.body s.condition)
     (ends c.test-in-DoWhile.result _ _ c.in_ok-nested-in-DoWhile.ensures.found
-    (ends_same c.test-in-DoWhile.result _ _ _ _ c.test-in-DoWhile.ensures (ap (λ (e : Env). test e (expr_tree s.condition)) c.in_ok-nested-in-DoWhile.ensures.env)))
+    (ends_same c.test-in-DoWhile.result _ _ _ _ c.test-in-DoWhile.ensures
+    (ap (λ (e : Env). test e (expr_tree s.condition)) c.in_ok-nested-in-DoWhile.ensures.env)))
 
 pub stmts-loop-one-preserved : goal.stmts-loop-one-preserved
 stmts-loop-one-preserved t c =
@@ -89,10 +106,15 @@ stmts-loop-one-preserved t c =
     let within : c.loop-one.one-index < length xs = search rules in
     let next = λ (env : Env) (one : Stmt). behind_stmt env (stmt_tree one) in
     record {
-      found = turned (λ (env : Env) (list : List Stmt). stmts env (kind_seen c.args.answer) c.args.loops (stmts_tree list)) (λ (env : Env) (one : Stmt). stmt env (kind_seen c.args.answer) c.args.loops (stmt_tree one)) next
-          (λ env one list. refl) xs c.loop-one.one-index c.one-item.result within c.one-item.is c.loop-one.env c.stmt.new.env c.in_ok-stmt.ensures.env
+      found =
+          turned (λ (env : Env) (list : List Stmt). stmts env (kind_seen c.args.answer) c.args.loops (stmts_tree list))
+          (λ (env : Env) (one : Stmt). stmt env (kind_seen c.args.answer) c.args.loops (stmt_tree one)) next
+          (λ env one list. refl) xs c.loop-one.one-index c.one-item.result within c.one-item.is c.loop-one.env c.stmt.new.env
+          c.in_ok-stmt.ensures.env
           c.loop-one.invariant.found c.in_ok-stmt.ensures.found;
-      env = passed (λ (env : Env) (list : List Stmt). behind_stmts env (stmts_tree list)) next (λ env one list. refl) xs c.loop-one.one-index c.one-item.result within c.one-item.is c.loop-one.env c.stmt.new.env
+      env =
+          passed (λ (env : Env) (list : List Stmt). behind_stmts env (stmts_tree list)) next
+          (λ env one list. refl) xs c.loop-one.one-index c.one-item.result within c.one-item.is c.loop-one.env c.stmt.new.env
           c.in_ok-stmt.ensures.env _ c.loop-one.invariant.env;
     }
 
@@ -100,5 +122,8 @@ pub stmts-returns-clause-found : goal.stmts-returns-clause-found
 stmts-returns-clause-found t c =
     let xs = c.deref-one-items.result.now in
     let past : length xs ≤ c.loop-one.one-index = search rules in
-    same (over c.loop-one.invariant.found (at_drop_all (λ (list : List Stmt). stmts c.loop-one.env (kind_seen c.args.answer) c.args.loops (stmts_tree list)) xs c.loop-one.one-index past)) _
-    (ap (λ (list : List Stmt). stmts c.args.env.now (kind_seen c.args.answer) c.args.loops (stmts_tree list)) c.deref-one-items.ensures.value)
+    same (over c.loop-one.invariant.found
+    (at_drop_all
+    (λ (list : List Stmt). stmts c.loop-one.env (kind_seen c.args.answer) c.args.loops (stmts_tree list)) xs c.loop-one.one-index past)) _
+    (ap (λ (list : List Stmt). stmts c.args.env.now (kind_seen c.args.answer) c.args.loops
+    (stmts_tree list)) c.deref-one-items.ensures.value)

@@ -6,4 +6,5 @@ use Rattle.c_types_stmts.proofs.Adding.{nothing, same}
 use Rattle.c_types_stmts.proofs.stmts.maybe_test.Goals as goal
 
 pub returns-in-None : goal.returns-in-None
-returns-in-None c = same (nothing c.args.found.now) _ (ap (λ (v : Option Expr). maybe_test c.args.env.now (option_map expr_tree v)) (sym c.in-None.is))
+returns-in-None c =
+    same (nothing c.args.found.now) _ (ap (λ (v : Option Expr). maybe_test c.args.env.now (option_map expr_tree v)) (sym c.in-None.is))

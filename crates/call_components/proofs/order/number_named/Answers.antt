@@ -11,10 +11,13 @@ pub returns-in-Ok : goal.returns-in-Ok
 returns-in-Ok c =
     sym
     (looked_up c.args.names.now c.requires.apart c.args.order.now c.requires.order c.args.name.now (Ok c.in-Ok.place) c.in-Ok.ensures.bound
-    (c.in-Ok.ensures.position (λ number. slice_cmp nat_cmp (slice_index_or c.args.names.now number []) c.args.name.now) (always_returns_same _ _ _ (λ a r f called. search rules))))
+    (c.in-Ok.ensures.position (λ number. slice_cmp nat_cmp (slice_index_or c.args.names.now number []) c.args.name.now)
+    (always_returns_same _ _ _ (λ a r f called. search rules))))
 
 pub returns-in-Err : goal.returns-in-Err
 returns-in-Err c =
     sym
-    (looked_up c.args.names.now c.requires.apart c.args.order.now c.requires.order c.args.name.now (Err c.in-Err.field-0) c.in-Err.ensures.bound
-    (c.in-Err.ensures.position (λ number. slice_cmp nat_cmp (slice_index_or c.args.names.now number []) c.args.name.now) (always_returns_same _ _ _ (λ a r f called. search rules))))
+    (looked_up c.args.names.now c.requires.apart c.args.order.now c.requires.order c.args.name.now
+    (Err c.in-Err.field-0) c.in-Err.ensures.bound
+    (c.in-Err.ensures.position (λ number. slice_cmp nat_cmp (slice_index_or c.args.names.now number []) c.args.name.now)
+    (always_returns_same _ _ _ (λ a r f called. search rules))))

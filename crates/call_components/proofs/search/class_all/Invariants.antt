@@ -9,5 +9,7 @@ abbrev pub invariant-loop-number : goal.invariant-loop-number
 invariant-loop-number l =
     record {
       lengths : length l.marks.items ≡ length l.initial.marks.items;
-      classed : (number : ℕ) → mark_of l.marks.items number ≡ (if holds (take l.number-index l.numbers) number then Done l.class else mark_of l.initial.marks.items number);
+      classed : (number : ℕ)
+          → mark_of l.marks.items number
+          ≡ (if holds (take l.number-index l.numbers) number then Done l.class else mark_of l.initial.marks.items number);
     }

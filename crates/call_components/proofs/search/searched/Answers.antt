@@ -7,4 +7,8 @@ pub returns : goal.returns
 returns c =
     let counted : length (rows c.args.calls.now) ≡ length c.args.calls.now = length-map c.args.calls.now (λ row. row.items) in
     let all : length c.args.calls.now ≤ c.loop-number.number = c.loop-number-test.false in
-    record { search = c.loop-number.invariant.search; closed = c.loop-number.invariant.closed; met = λ number lt. c.loop-number.invariant.met number (omega (arith, counted, all, lt)) }
+    record {
+      search = c.loop-number.invariant.search;
+      closed = c.loop-number.invariant.closed;
+      met = λ number lt. c.loop-number.invariant.met number (omega (arith, counted, all, lt));
+    }

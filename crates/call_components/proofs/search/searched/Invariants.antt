@@ -6,4 +6,8 @@ use Rattle.call_components.proofs.search.searched.Given as goal
 
 abbrev pub invariant-loop-number : goal.invariant-loop-number
 invariant-loop-number l =
-    record { search : IsSearch (rows l.calls) l.search; closed : l.search.entries.items ≡ []; met : (number : ℕ) → number < l.number → mark_of l.search.marks.items number ≢ New }
+    record {
+      search : IsSearch (rows l.calls) l.search;
+      closed : l.search.entries.items ≡ [];
+      met : (number : ℕ) → number < l.number → mark_of l.search.marks.items number ≢ New;
+    }

@@ -11,8 +11,18 @@ loop-top-init c =
     let root : c.args.root < length c.args.calls.now = c.requires.root in
     let same : length c.args.search.now.marks.items ≡ length (rows c.args.calls.now) = c.requires.search.lengths in
     record {
-      search = root_search (rows c.args.calls.now) c.requires.defined c.args.search.now.marks.items c.visit.new.search.marks.items c.args.search.now.stack.items c.visit.new.search.stack.items c.args.search.now.entries.items c.visit.new.search.entries.items c.args.search.now.todo.items c.visit.new.search.todo.items (length c.args.search.now.done.items) (length c.visit.new.search.done.items) c.args.root
-          c.requires.search c.requires.closed (omega (arith, counted, root)) c.requires.new c.in_ok-visit.ensures.marks c.in_ok-visit.ensures.stack c.in_ok-visit.ensures.entries c.in_ok-visit.ensures.todo (ap length c.visit.ensures.done);
-      met = subst (AreMet c.args.search.now.marks.items) (sym c.in_ok-visit.ensures.marks) (met_visit c.args.search.now.marks.items c.args.root (length c.args.search.now.stack.items));
-      root = open_not_new c.args.search.now.marks.items c.visit.new.search.marks.items c.args.root (length c.args.search.now.stack.items) (omega (arith, counted, root, same)) c.in_ok-visit.ensures.marks;
+      search =
+          root_search (rows c.args.calls.now) c.requires.defined c.args.search.now.marks.items c.visit.new.search.marks.items
+          c.args.search.now.stack.items c.visit.new.search.stack.items c.args.search.now.entries.items c.visit.new.search.entries.items
+          c.args.search.now.todo.items c.visit.new.search.todo.items (length c.args.search.now.done.items)
+          (length c.visit.new.search.done.items) c.args.root
+          c.requires.search c.requires.closed
+          (omega (arith, counted, root)) c.requires.new c.in_ok-visit.ensures.marks c.in_ok-visit.ensures.stack
+          c.in_ok-visit.ensures.entries c.in_ok-visit.ensures.todo (ap length c.visit.ensures.done);
+      met =
+          subst (AreMet c.args.search.now.marks.items) (sym c.in_ok-visit.ensures.marks)
+          (met_visit c.args.search.now.marks.items c.args.root (length c.args.search.now.stack.items));
+      root =
+          open_not_new c.args.search.now.marks.items c.visit.new.search.marks.items c.args.root (length c.args.search.now.stack.items)
+          (omega (arith, counted, root, same)) c.in_ok-visit.ensures.marks;
     }

@@ -9,7 +9,8 @@ abbrev pub invariant-loop-place : goal.invariant-loop-place
 invariant-loop-place l =
     record {
       own : (place : ℕ) → holds (places_in l.ready) place ≡ true → holds (places_in l.initial.ready) place ≡ true;
-      kept : (place : ℕ) → holds (places_in l.initial.ready) place ≡ true → (is_listed l.listed (rows l.all) place ≡ true) ⊎ (holds (places_in l.ready) place ≡ true);
+      kept : (place : ℕ) → holds (places_in l.initial.ready) place ≡ true
+          → (is_listed l.listed (rows l.all) place ≡ true) ⊎ (holds (places_in l.ready) place ≡ true);
     }
 
 abbrev pub decreases-loop-place : goal.decreases-loop-place

@@ -7,5 +7,6 @@ abbrev pub invariant-loop-place : goal.invariant-loop-place
 invariant-loop-place l =
     record {
       bounded : IsBounded (length l.initial.waiting.needs.items) (length l.initial.waiting.waits.items) l.waiting;
-      looked : (all outs : List (List ℕ)) (wakes : List ℕ) → AreWaiting all outs l.listed wakes l.places l.initial.waiting → AreWaiting all outs l.listed wakes (drop l.place-index l.places) l.waiting;
+      looked : (all outs : List (List ℕ)) (wakes : List ℕ) → AreWaiting all outs l.listed wakes l.places l.initial.waiting
+          → AreWaiting all outs l.listed wakes (drop l.place-index l.places) l.waiting;
     }

@@ -1,4 +1,5 @@
-use Rattle.certificate_laws.proofs.ResultLaws.{at_exit_is_well_formed, at_node_is_well_formed, normal_post_is_well_formed, normal_state_is_well_formed, start_at_node_is_well_formed, start_is_well_formed}
+use Rattle.certificate_laws.proofs.ResultLaws.{at_exit_is_well_formed, at_node_is_well_formed, normal_post_is_well_formed}
+use Rattle.certificate_laws.proofs.ResultLaws.{normal_state_is_well_formed, start_at_node_is_well_formed, start_is_well_formed}
 use Rattle.certificate_laws.proofs.results.results_are_well_formed.Goals as goal
 
 pub returns-clause-normal_state : goal.returns-clause-normal_state

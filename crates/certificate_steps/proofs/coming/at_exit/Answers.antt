@@ -13,5 +13,6 @@ abstract_exit-requires-clause-sizes c = post-room (task_in c.args.task.now) c.re
 
 pub returns-clause-well_formed : goal.returns-clause-well_formed
 returns-clause-well_formed c =
-    IfOk-weaker c.abstract_exit.result (λ (form : Option Post). form ≡ coming.at_exit (task_in c.args.task.now) c.args.exit.now) (λ (form : Option Post). IfSome form (IsTaskPost (task_in c.args.task.now)))
+    IfOk-weaker c.abstract_exit.result (λ (form : Option Post). form ≡ coming.at_exit (task_in c.args.task.now) c.args.exit.now)
+    (λ (form : Option Post). IfSome form (IsTaskPost (task_in c.args.task.now)))
     (λ form is. exit-given (task_in c.args.task.now) c.requires.task c.args.exit.now c.requires.exit form is) c.abstract_exit.ensures

@@ -13,5 +13,9 @@ abstract_head-requires-clause-sizes c = state-room (task_in c.args.task.now) c.r
 
 pub returns-in-Some-head-clause-well_formed : goal.returns-in-Some-head-clause-well_formed
 returns-in-Some-head-clause-well_formed c =
-    IfOk-weaker c.abstract_head.result (λ (form : Option SymState). form ≡ abstract_head c.args.state.now c.args.task.now.flow.now c.in-Some-head.mark c.args.task.now.structs.now) (λ (form : Option SymState). IfSome form (IsTaskState (task_in c.args.task.now)))
-    (λ form is. head-given (task_in c.args.task.now) c.requires.task c.args.state.now c.in-Some-head.mark c.requires.state form is) c.abstract_head.ensures
+    IfOk-weaker c.abstract_head.result
+    (λ (form : Option SymState). form
+    ≡ abstract_head c.args.state.now c.args.task.now.flow.now c.in-Some-head.mark c.args.task.now.structs.now)
+    (λ (form : Option SymState). IfSome form (IsTaskState (task_in c.args.task.now)))
+    (λ form is. head-given
+    (task_in c.args.task.now) c.requires.task c.args.state.now c.in-Some-head.mark c.requires.state form is) c.abstract_head.ensures

@@ -8,5 +8,7 @@ use Rattle.certificate_steps.proofs.coverings.covers_state.Goals as goal
 
 pub returns : goal.returns
 returns c =
-    IfOk-weaker c.covers_state.result (λ (covers : Bool). IsTrue covers ↔ StateCovers c.args.cover.now c.args.state.now) (λ (covers : Bool). covers ≡ covers_state c.args.cover.now c.args.state.now)
-    (λ (covers : Bool) is. same_from_decides covers (covers_state c.args.cover.now c.args.state.now) is (covers_state-Decides c.args.cover.now c.args.state.now)) c.covers_state.ensures
+    IfOk-weaker c.covers_state.result (λ (covers : Bool). IsTrue covers ↔ StateCovers c.args.cover.now c.args.state.now)
+    (λ (covers : Bool). covers ≡ covers_state c.args.cover.now c.args.state.now)
+    (λ (covers : Bool) is. same_from_decides covers (covers_state c.args.cover.now c.args.state.now) is
+    (covers_state-Decides c.args.cover.now c.args.state.now)) c.covers_state.ensures

@@ -6,4 +6,5 @@ use Rattle.claim_replay.proofs.known.given.Given as goal
 
 abbrev pub invariant-loop-one : goal.invariant-loop-one
 invariant-loop-one l =
-    given_rows (flows_of l.program) (map slot_value l.slots) l.known l.outer ≡ prepended l.callees (given_rows (flows_of l.program) (map slot_value l.slots) l.known (drop l.one-index l.outer))
+    given_rows (flows_of l.program) (map slot_value l.slots) l.known l.outer
+    ≡ prepended l.callees (given_rows (flows_of l.program) (map slot_value l.slots) l.known (drop l.one-index l.outer))

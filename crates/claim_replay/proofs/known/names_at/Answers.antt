@@ -21,6 +21,10 @@ loop-number-preserved c =
     sym (ap names_of
     (more_at (flows_of c.args.program.now) c.args.members.now c.loop-number.number-index flow c.loop-number-test.true
     (at_map (λ (proc : Proc). proc.flow) c.args.program.now.procs place ∙
-    ap (option_map (λ (proc : Proc). proc.flow)) (slice_get-get_or c.args.program.now.procs place c.index-deref-number.result (c.requires c.loop-number.number-index 0 c.loop-number-test.true)))) ∙
+    ap (option_map (λ (proc : Proc). proc.flow))
+    (slice_get-get_or c.args.program.now.procs place c.index-deref-number.result
+    (c.requires c.loop-number.number-index 0 c.loop-number-test.true)))) ∙
     (map_push (λ (f : Flow). f.name) before flow ∙
-    ap (λ n. names_of before ++ n ∷ []) (ap (λ (procs : List Proc). (get_or procs place c.index-deref-number.result).flow.name) (sym c.deref.ensures) ∙ sym c.in_ok-copy_of.ensures))))
+    ap (λ n. names_of before ++ n ∷ [])
+    (ap (λ (procs : List Proc). (get_or procs place c.index-deref-number.result).flow.name) (sym c.deref.ensures)
+    ∙ sym c.in_ok-copy_of.ensures))))

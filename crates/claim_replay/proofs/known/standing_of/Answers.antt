@@ -10,4 +10,7 @@ pub returns-clause-settled : goal.returns-clause-settled
 returns-clause-settled c =
     c.settling-settled.ensures ∙
     ap (λ o. settled_by o c.match-callees.due)
-    (c.slot_place.ensures ∙ ap (slot_of (map slot_value c.args.slots.now)) (c.deref-3.ensures ∙ c.in_ok-names.ensures ∙ ap (λ l. names_of (filter_map (slice_get (flows_of c.args.program.now)) l)) c.deref.ensures.value))
+    (c.slot_place.ensures
+    ∙ ap (slot_of (map slot_value c.args.slots.now))
+    (c.deref-3.ensures ∙ c.in_ok-names.ensures
+    ∙ ap (λ l. names_of (filter_map (slice_get (flows_of c.args.program.now)) l)) c.deref.ensures.value))

@@ -17,26 +17,37 @@ returns-in_default c =
     is_gone c.args.present.now.world c.args.present.now.rows.items c.requires.components c.args.claim.now c.deref-5.result.now
     (c.deref-5.ensures ∙ (c.in_ok-names.ensures ∙ ap names_of (c.deref-2.ensures ∙ ap (λ (k : Key). k.procs) c.deref.ensures)))
     (sym c.in_default.is ∙
-    subst (λ (l : List Component). c.in_ok-place.field-0 ≡ position (λ row. same_names (row_names c.args.present.now.world.program.value row) c.deref-5.result.now) l) c.deref-4.ensures.value
-    (subst (λ (p : Program). c.in_ok-place.field-0 ≡ position (λ row. same_names (row_names p row) c.deref-5.result.now) c.deref-4.result.now) c.deref-3.ensures c.in_ok-place.ensures.first))
+    subst (λ (l : List Component). c.in_ok-place.field-0
+    ≡ position (λ row. same_names (row_names c.args.present.now.world.program.value row) c.deref-5.result.now) l) c.deref-4.ensures.value
+    (subst (λ (p : Program). c.in_ok-place.field-0
+    ≡ position (λ row. same_names
+    (row_names p row) c.deref-5.result.now) c.deref-4.result.now) c.deref-3.ensures c.in_ok-place.ensures.first))
 
 pub outcome_at-requires : goal.outcome_at-requires
 outcome_at-requires c =
     let lt : c.in-Some.place < length c.args.present.now.rows.items =
-    subst (λ (l : List Component). c.in-Some.place < length l) c.deref-4.ensures.value (subst (λ o. IfSome o (λ place. place < length c.deref-4.result.now)) c.in-Some.is c.in_ok-place.ensures.within) in
+    subst (λ (l : List Component). c.in-Some.place < length l) c.deref-4.ensures.value
+    (subst (λ o. IfSome o (λ place. place < length c.deref-4.result.now)) c.in-Some.is c.in_ok-place.ensures.within) in
     (c.requires.within c.in-Some.place c.index.result.now
-    (slice_get-get_or c.args.present.now.rows.items c.in-Some.place c.index.result.now lt ∙ ap (λ (r : Component). Some r) (sym c.index.ensures))).members
+    (slice_get-get_or c.args.present.now.rows.items c.in-Some.place c.index.result.now lt
+    ∙ ap (λ (r : Component). Some r) (sym c.index.ensures))).members
 
 pub returns : goal.returns
 returns c =
     let lt : c.in-Some.place < length c.args.present.now.rows.items =
-    subst (λ (l : List Component). c.in-Some.place < length l) c.deref-4.ensures.value (subst (λ o. IfSome o (λ place. place < length c.deref-4.result.now)) c.in-Some.is c.in_ok-place.ensures.within) in
+    subst (λ (l : List Component). c.in-Some.place < length l) c.deref-4.ensures.value
+    (subst (λ o. IfSome o (λ place. place < length c.deref-4.result.now)) c.in-Some.is c.in_ok-place.ensures.within) in
     IfOk-weaker c.outcome_at.result _ _
     (λ said is. is ∙
-    outcome_known c.args.present.now.world c.args.present.now.rows.items c.requires.components c.args.claim.now c.deref-5.result.now c.in_ok-known.known.items c.in-Some.place c.index.result.now c.index-2.result.now
+    outcome_known c.args.present.now.world c.args.present.now.rows.items c.requires.components c.args.claim.now c.deref-5.result.now
+    c.in_ok-known.known.items c.in-Some.place c.index.result.now c.index-2.result.now
     (c.deref-5.ensures ∙ (c.in_ok-names.ensures ∙ ap names_of (c.deref-2.ensures ∙ ap (λ (k : Key). k.procs) c.deref.ensures)))
     (sym c.in-Some.is ∙
-    subst (λ (l : List Component). c.in_ok-place.field-0 ≡ position (λ row. same_names (row_names c.args.present.now.world.program.value row) c.deref-5.result.now) l) c.deref-4.ensures.value
-    (subst (λ (p : Program). c.in_ok-place.field-0 ≡ position (λ row. same_names (row_names p row) c.deref-5.result.now) c.deref-4.result.now) c.deref-3.ensures c.in_ok-place.ensures.first))
-    c.in_ok-known.ensures.are c.in_ok-known.ensures.len lt c.index.ensures (subst (λ n. c.in-Some.place < n) (sym c.in_ok-known.ensures.rows) lt) c.index-2.ensures)
+    subst (λ (l : List Component). c.in_ok-place.field-0
+    ≡ position (λ row. same_names (row_names c.args.present.now.world.program.value row) c.deref-5.result.now) l) c.deref-4.ensures.value
+    (subst (λ (p : Program). c.in_ok-place.field-0
+    ≡ position (λ row. same_names
+    (row_names p row) c.deref-5.result.now) c.deref-4.result.now) c.deref-3.ensures c.in_ok-place.ensures.first))
+    c.in_ok-known.ensures.are c.in_ok-known.ensures.len lt c.index.ensures
+    (subst (λ n. c.in-Some.place < n) (sym c.in_ok-known.ensures.rows) lt) c.index-2.ensures)
     c.outcome_at.ensures

@@ -11,4 +11,5 @@ returns-then-claim-slot-clause-put c = λ slot same.
 pub returns-clause-put : goal.returns-clause-put
 returns-clause-put c = λ slot same.
     put_last slot c.args.slots.now
-    (λ k d lt. subst (λ n. (get_or c.args.slots.now k d).claim ≤ n) (sym same) (c.loop-place.invariant k d (omega (arith, lt, c.loop-place-test.false))))
+    (λ k d lt. subst (λ n. (get_or c.args.slots.now k d).claim ≤ n) (sym same)
+    (c.loop-place.invariant k d (omega (arith, lt, c.loop-place-test.false))))

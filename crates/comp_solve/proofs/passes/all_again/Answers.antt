@@ -5,7 +5,8 @@ use Rattle.comp_solve.proofs.FormedLaws.{formed-length}
 use Rattle.comp_solve.proofs.passes.all_again.Goals as goal
 
 pub table_with-requires : goal.table_with-requires
-table_with-requires c = ap length c.as_slice.ensures ∙ c.in_ok-specs.ensures.len ∙ formed-length c.args.key.now c.args.attempts.now c.requires.formed
+table_with-requires c = ap length c.as_slice.ensures ∙ c.in_ok-specs.ensures.len
+    ∙ formed-length c.args.key.now c.args.attempts.now c.requires.formed
 
 pub attempts_again-requires-clause-tasks : goal.attempts_again-requires-clause-tasks
 attempts_again-requires-clause-tasks c =

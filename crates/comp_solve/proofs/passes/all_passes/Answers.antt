@@ -7,8 +7,11 @@ use Rattle.comp_solve.proofs.passes.all_passes.Goals as goal
 
 pub loop-turn-init : goal.loop-turn-init
 loop-turn-init c =
-    let none : c.count_standing-most.result - 0 ≡ c.count_standing-most.result = omega arith in
-    (ap (λ n. passes n c.args.key.now c.args.attempts) (none ∙ c.count_standing-most.ensures ∙ ap count_of c.as_slice-all.ensures), c.requires.formed)
+    let none : c.count_standing-most.result - 0 ≡ c.count_standing-most.result = omega arith in (
+      ap (λ n. passes n c.args.key.now c.args.attempts)
+          (none ∙ c.count_standing-most.ensures ∙ ap count_of c.as_slice-all.ensures),
+      c.requires.formed,
+    )
 
 pub pass-requires-clause-formed : goal.pass-requires-clause-formed
 pass-requires-clause-formed c = subst (AreFormed c.args.key.now) (sym c.as_slice-before.ensures) c.loop-turn.invariant.1
@@ -21,22 +24,27 @@ count_standing-were-requires-clause-formed c = subst (AreFormed c.args.key.now) 
 
 pub returns-then-left-were-clause-value : goal.returns-then-left-were-clause-value
 returns-then-left-were-clause-value c =
-    passes-end c.args.key.now c.loop-turn.standing c.loop-turn._turn c.count_standing-most.result (all_passes c.args.key.now c.args.attempts) c.loop-turn.invariant.0 c.loop-turn-test.true c.in_ok-after.after
+    passes-end c.args.key.now c.loop-turn.standing c.loop-turn._turn c.count_standing-most.result
+    (all_passes c.args.key.now c.args.attempts) c.loop-turn.invariant.0 c.loop-turn-test.true c.in_ok-after.after
     (c.in_ok-after.ensures.value ∙ ap (pass c.args.key.now) c.as_slice-before.ensures)
-    (sym (c.count_standing-left.ensures ∙ ap count_of c.as_slice-rest.ensures) ∙ c.if-left-were.true ∙ c.count_standing-were.ensures ∙ ap count_of c.as_slice-before.ensures)
+    (sym (c.count_standing-left.ensures ∙ ap count_of c.as_slice-rest.ensures) ∙ c.if-left-were.true ∙ c.count_standing-were.ensures
+    ∙ ap count_of c.as_slice-before.ensures)
 
 pub loop-turn-preserved : goal.loop-turn-preserved
 loop-turn-preserved c = (
-  passes-go c.args.key.now c.loop-turn.standing c.loop-turn._turn c.count_standing-most.result (all_passes c.args.key.now c.args.attempts) c.loop-turn.invariant.0 c.loop-turn-test.true c.in_ok-after.after
+  passes-go c.args.key.now c.loop-turn.standing c.loop-turn._turn c.count_standing-most.result
+      (all_passes c.args.key.now c.args.attempts) c.loop-turn.invariant.0 c.loop-turn-test.true c.in_ok-after.after
       (c.in_ok-after.ensures.value ∙ ap (pass c.args.key.now) c.as_slice-before.ensures)
       (λ same. c.if-left-were.false
-      ((c.count_standing-left.ensures ∙ ap count_of c.as_slice-rest.ensures) ∙ same ∙ sym (c.count_standing-were.ensures ∙ ap count_of c.as_slice-before.ensures))),
+      ((c.count_standing-left.ensures ∙ ap count_of c.as_slice-rest.ensures) ∙ same
+      ∙ sym (c.count_standing-were.ensures ∙ ap count_of c.as_slice-before.ensures))),
   c.in_ok-after.ensures.formed,
 )
 
 pub returns-clause-value : goal.returns-clause-value
 returns-clause-value c =
-    passes-spent c.args.key.now c.loop-turn.standing c.loop-turn._turn c.count_standing-most.result (all_passes c.args.key.now c.args.attempts) c.loop-turn.invariant.0 c.loop-turn-test.false
+    passes-spent c.args.key.now c.loop-turn.standing c.loop-turn._turn c.count_standing-most.result
+    (all_passes c.args.key.now c.args.attempts) c.loop-turn.invariant.0 c.loop-turn-test.false
 
 pub returns-clause-formed : goal.returns-clause-formed
 returns-clause-formed c = c.loop-turn.invariant.1

@@ -8,5 +8,6 @@ use Rattle.comp_solve.proofs.passes.strictly.Goals as goal
 pub returns-clause-formed : goal.returns-clause-formed
 returns-clause-formed c =
     IfOk-weaker c.all_again.result (λ (made : List Attempt). made ≡ strictly c.args.key.now c.args.attempts.now) (AreFormed c.args.key.now)
-    (λ (made : List Attempt) is. subst (AreFormed c.args.key.now) (sym is) (c.standing_is_well_formed.ensures.kept c.args.key.now c.args.attempts.now c.requires.key c.requires.formed).0)
+    (λ (made : List Attempt) is. subst (AreFormed c.args.key.now) (sym is)
+    (c.standing_is_well_formed.ensures.kept c.args.key.now c.args.attempts.now c.requires.key c.requires.formed).0)
     c.all_again.ensures

@@ -5,4 +5,5 @@ use Rattle.comp_solve.specs.Tests.{test_of}
 use Rattle.comp_solve.proofs.passes.trials_again.Given as goal
 
 abbrev pub invariant-loop-trial : goal.invariant-loop-trial
-invariant-loop-trial l = l.made ++ map (again_with (test_of l.test) (task_in l.task)) (drop l.trial-index l.trials) ≡ map (again_with (test_of l.test) (task_in l.task)) l.trials
+invariant-loop-trial l = l.made ++ map (again_with (test_of l.test) (task_in l.task)) (drop l.trial-index l.trials)
+    ≡ map (again_with (test_of l.test) (task_in l.task)) l.trials

@@ -12,12 +12,14 @@ attempts_under-requires c =
 
 pub returns-clause-value : goal.returns-clause-value
 returns-clause-value c =
-    IfOk-weaker c.attempts_under.result (λ (made : List Attempt). made ≡ attempts_under c.args.key.now c.in_ok-table.table) (λ (made : List Attempt). made ≡ round c.args.key.now c.args.before.now)
+    IfOk-weaker c.attempts_under.result (λ (made : List Attempt). made ≡ attempts_under c.args.key.now c.in_ok-table.table)
+    (λ (made : List Attempt). made ≡ round c.args.key.now c.args.before.now)
     (λ (made : List Attempt) is. is ∙ ap (attempts_under c.args.key.now) c.in_ok-table.ensures) c.attempts_under.ensures
 
 pub returns-clause-formed : goal.returns-clause-formed
 returns-clause-formed c =
-    IfOk-weaker c.attempts_under.result (λ (made : List Attempt). made ≡ attempts_under c.args.key.now c.in_ok-table.table) (AreFormed c.args.key.now)
+    IfOk-weaker c.attempts_under.result (λ (made : List Attempt). made ≡ attempts_under c.args.key.now c.in_ok-table.table)
+    (AreFormed c.args.key.now)
     (λ (made : List Attempt) is.
     subst (AreFormed c.args.key.now) (sym (is ∙ ap (attempts_under c.args.key.now) c.in_ok-table.ensures))
     (c.standing_is_well_formed.ensures.made c.args.key.now c.args.before.now true c.requires.key c.requires.fit))

@@ -4,4 +4,6 @@ use Rattle.comp_solve.proofs.FormedLaws.{same_specs-Decides}
 use Rattle.comp_solve.proofs.standing.same_specs.Goals as goal
 
 pub returns : goal.returns
-returns c = same_from_decides c.is_same.result (same_specs c.args.left.now c.args.right.now) c.is_same.ensures (same_specs-Decides c.args.left.now c.args.right.now)
+returns c =
+    same_from_decides c.is_same.result (same_specs c.args.left.now c.args.right.now) c.is_same.ensures
+    (same_specs-Decides c.args.left.now c.args.right.now)

@@ -5,4 +5,5 @@ use Rattle.composed_keys.specs.declared.rows.Outer.{Outer as OuterRow}
 use Rattle.composed_keys.proofs.callees.calls_of.Given as goal
 
 abbrev pub invariant-loop-component : goal.invariant-loop-component
-invariant-loop-component l = rows l.calls.items ≡ map (λ (row : ComponentRow). map (λ (one : OuterRow). one.component) row.outer.items) (take l.component-index l.components)
+invariant-loop-component l = rows l.calls.items
+    ≡ map (λ (row : ComponentRow). map (λ (one : OuterRow). one.component) row.outer.items) (take l.component-index l.components)

@@ -12,9 +12,12 @@ use Rattle.composed_keys.proofs.outside.callers_of.Goals as goal
 pub note_caller-requires : goal.note_caller-requires
 note_caller-requires c = λ k d lt.
     let held : holds (calls_of (rows c.args.calls.now) c.loop-caller.caller) (get_or c.callees_of.result.now k d) ≡ true =
-    subst (λ l. holds l (get_or c.callees_of.result.now k d) ≡ true) c.callees_of.ensures (holds_at c.callees_of.result.now k (get_or c.callees_of.result.now k d) (slice_get-get_or c.callees_of.result.now k d lt)) in
-    let below : get_or c.callees_of.result.now k d < length (rows c.args.calls.now) = c.requires.defined c.loop-caller.caller (get_or c.callees_of.result.now k d) held in
-    subst (λ n. get_or c.callees_of.result.now k d < n) (length-map c.args.calls.now (λ row. row.items) ∙ sym c.loop-caller.invariant.lengths) below
+    subst (λ l. holds l (get_or c.callees_of.result.now k d) ≡ true) c.callees_of.ensures
+    (holds_at c.callees_of.result.now k (get_or c.callees_of.result.now k d) (slice_get-get_or c.callees_of.result.now k d lt)) in
+    let below : get_or c.callees_of.result.now k d < length (rows c.args.calls.now) =
+    c.requires.defined c.loop-caller.caller (get_or c.callees_of.result.now k d) held in
+    subst (λ n. get_or c.callees_of.result.now k d < n)
+    (length-map c.args.calls.now (λ row. row.items) ∙ sym c.loop-caller.invariant.lengths) below
 
 pub loop-caller-preserved : goal.loop-caller-preserved
 loop-caller-preserved c =
@@ -22,6 +25,9 @@ loop-caller-preserved c =
     let same : length (rows c.args.calls.now) ≡ length c.args.calls.now = length-map c.args.calls.now (λ row. row.items) in
     record {
       lengths = c.in_ok-note_caller.ensures.lengths ∙ c.loop-caller.invariant.lengths;
-      callers = more_callers (rows c.args.calls.now) c.loop-caller.caller (rows c.loop-caller.callers.items) (rows c.note_caller.new.callers.items) c.loop-caller.invariant.callers (omega (arith, less, same))
-          (subst (λ l. AreNoted l c.loop-caller.caller (rows c.loop-caller.callers.items) (rows c.note_caller.new.callers.items)) c.callees_of.ensures c.in_ok-note_caller.ensures.noted);
+      callers =
+          more_callers (rows c.args.calls.now) c.loop-caller.caller (rows c.loop-caller.callers.items)
+          (rows c.note_caller.new.callers.items) c.loop-caller.invariant.callers (omega (arith, less, same))
+          (subst (λ l. AreNoted l c.loop-caller.caller (rows c.loop-caller.callers.items)
+          (rows c.note_caller.new.callers.items)) c.callees_of.ensures c.in_ok-note_caller.ensures.noted);
     }

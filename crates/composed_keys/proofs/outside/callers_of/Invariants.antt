@@ -4,4 +4,5 @@ use Rattle.composed_keys.specs.Outside.{AreCallers}
 use Rattle.composed_keys.proofs.outside.callers_of.Given as goal
 
 abbrev pub invariant-loop-caller : goal.invariant-loop-caller
-invariant-loop-caller l = record { lengths : length l.callers.items ≡ length l.calls; callers : AreCallers (take l.caller (rows l.calls)) (rows l.callers.items) }
+invariant-loop-caller l =
+    record { lengths : length l.callers.items ≡ length l.calls; callers : AreCallers (take l.caller (rows l.calls)) (rows l.callers.items) }

@@ -12,16 +12,21 @@ use Rattle.composed_keys.proofs.outside.note_at.Goals as goal
 pub returns-clause-members : goal.returns-clause-members
 returns-clause-members c =
     on_ok c.note_once.result _ _
-    (λ same. map-set_same (λ (row : Row). row.members.items) c.args.made.now.items c.args.place c.note_once.new.component c.index_mut.result.now (same ∙ ap (λ (row : Row). row.members.items) c.index_mut.ensures.value))
+    (λ same. map-set_same
+    (λ (row : Row). row.members.items) c.args.made.now.items c.args.place c.note_once.new.component c.index_mut.result.now
+    (same ∙ ap (λ (row : Row). row.members.items) c.index_mut.ensures.value))
     c.note_once.ensures.members
 
 pub returns-clause-outer : goal.returns-clause-outer
 returns-clause-outer c =
     let old : c.index_mut.result.now.outer.items ≡ slice_index_or (outers c.args.made.now.items) c.args.place [] =
-    ap (λ (row : Row). row.outer.items) c.index_mut.ensures.value ∙ sym (get_or-map (λ (row : Row). row.outer.items) c.args.made.now.items c.args.place c.index_mut.result.now [] c.requires) in
+    ap (λ (row : Row). row.outer.items) c.index_mut.ensures.value
+    ∙ sym (get_or-map (λ (row : Row). row.outer.items) c.args.made.now.items c.args.place c.index_mut.result.now [] c.requires) in
     on_ok c.note_once.result _ _
     (λ put.
     map-set (λ (row : Row). row.outer.items) c.args.made.now.items c.args.place c.note_once.new.component ∙
     ap (set (outers c.args.made.now.items) c.args.place) (put ∙ ap (λ l. noted_once l c.args.outer) old) ∙
-    sym (put_else c.args.place c.args.outer.component (outers c.args.made.now.items) (set (outers c.args.made.now.items) c.args.place (noted_once (slice_index_or (outers c.args.made.now.items) c.args.place []) c.args.outer)) c.if-place-outer.false))
+    sym (put_else c.args.place c.args.outer.component (outers c.args.made.now.items)
+    (set (outers c.args.made.now.items) c.args.place
+    (noted_once (slice_index_or (outers c.args.made.now.items) c.args.place []) c.args.outer)) c.if-place-outer.false))
     c.note_once.ensures.outer

@@ -5,4 +5,7 @@ use Rattle.composed_keys.proofs.outside.note_caller.Given as goal
 
 abbrev pub invariant-loop-callee : goal.invariant-loop-callee
 invariant-loop-callee l =
-    record { lengths : length l.callers.items ≡ length l.initial.callers.items; noted : AreNoted (take l.callee-index l.callees) l.caller (rows l.initial.callers.items) (rows l.callers.items) }
+    record {
+      lengths : length l.callers.items ≡ length l.initial.callers.items;
+      noted : AreNoted (take l.callee-index l.callees) l.caller (rows l.initial.callers.items) (rows l.callers.items);
+    }

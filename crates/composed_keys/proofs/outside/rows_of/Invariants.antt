@@ -10,5 +10,7 @@ abbrev pub invariant-loop-number : goal.invariant-loop-number
 invariant-loop-number l =
     record {
       members : map (λ (row : Row). row.members.items) l.made.items ≡ rows l.fn.all.items;
-      outer : (place : ℕ) → place < length (rows l.fn.all.items) → slice_index_or (outers l.made.items) place [] ≡ outer_in (rows l.calls) l.places (take l.number-index l.order) (slice_index_or (rows l.fn.all.items) place []);
+      outer : (place : ℕ) → place < length (rows l.fn.all.items)
+          → slice_index_or (outers l.made.items) place []
+          ≡ outer_in (rows l.calls) l.places (take l.number-index l.order) (slice_index_or (rows l.fn.all.items) place []);
     }

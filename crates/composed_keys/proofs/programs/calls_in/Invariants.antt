@@ -6,4 +6,5 @@ use Rattle.composed_keys.specs.Programs.{called_in}
 use Rattle.composed_keys.proofs.programs.calls_in.Given as goal
 
 abbrev pub invariant-loop-proc : goal.invariant-loop-proc
-invariant-loop-proc l = rows l.calls.items ≡ map (λ (proc : Proc). filter_map (called_in l.names) proc.flow.nodes) (take l.proc-index l.procs)
+invariant-loop-proc l = rows l.calls.items
+    ≡ map (λ (proc : Proc). filter_map (called_in l.names) proc.flow.nodes) (take l.proc-index l.procs)

@@ -5,5 +5,7 @@ use Rattle.composed_keys.proofs.structures.note_posts.Goals as goal
 
 pub loop-post-preserved : goal.loop-post-preserved
 loop-post-preserved c =
-    more_names c.args.structs.now (λ (post : Post). named_by_heap post.heap) c.args.posts.now c.loop-post.post-index c.post-item.result c.args.numbers.now.items c.loop-post.numbers.items c.note_heap.new.numbers.items c.loop-post.invariant c.loop-post-test.true c.post-item.is
+    more_names c.args.structs.now
+    (λ (post : Post). named_by_heap post.heap) c.args.posts.now c.loop-post.post-index c.post-item.result c.args.numbers.now.items
+    c.loop-post.numbers.items c.note_heap.new.numbers.items c.loop-post.invariant c.loop-post-test.true c.post-item.is
     c.in_ok-note_heap.ensures

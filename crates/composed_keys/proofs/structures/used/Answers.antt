@@ -15,7 +15,8 @@ use Rattle.composed_keys.proofs.structures.used.Goals as goal
 pub reach-requires-clause-starts : goal.reach-requires-clause-starts
 reach-requires-clause-starts c =
     let count : length c.args.structs.now ≡ length c.deref.result.now =
-    sym (length-map c.args.structs.now (pointed_by c.args.structs.now)) ∙ ap length (sym c.requires.table.pointed) ∙ length-map c.args.table.now.pointed.items (λ row. row.items) ∙ ap length (sym c.deref.ensures.value) in
+    sym (length-map c.args.structs.now (pointed_by c.args.structs.now)) ∙ ap length (sym c.requires.table.pointed)
+    ∙ length-map c.args.table.now.pointed.items (λ row. row.items) ∙ ap length (sym c.deref.ensures.value) in
     subst (λ n. All (λ number. number < n) c.deref-2.result.now) count
     (subst (All (λ number. number < length c.args.structs.now)) (sym (c.deref-2.ensures.value ∙ c.in_ok-numbers.ensures))
     (numbers_below c.args.structs.now (flat_map named_by_flow c.args.flows.now ++ flat_map named_by_callee c.args.callees.now)))
@@ -34,5 +35,7 @@ returns c =
     IfOk-weaker c.marked_structs.result _ _
     (λ used is.
     is ∙ ap (λ m. shown_at c.args.structs.now m c.deref-3.result.now) c.deref-4.ensures.value ∙
-    used_are c.args.structs.now c.args.flows.now c.args.callees.now c.deref-2.result.now c.deref-3.result.now c.in_ok-marks.marks.items (rows c.deref.result.now) (ap rows c.deref.ensures.value ∙ c.requires.table.pointed)
-    (c.deref-2.ensures.value ∙ c.in_ok-numbers.ensures) (c.deref-3.ensures.value ∙ c.requires.table.order) c.in_ok-marks.ensures) c.marked_structs.ensures
+    used_are c.args.structs.now c.args.flows.now c.args.callees.now c.deref-2.result.now c.deref-3.result.now c.in_ok-marks.marks.items
+    (rows c.deref.result.now) (ap rows c.deref.ensures.value ∙ c.requires.table.pointed)
+    (c.deref-2.ensures.value ∙ c.in_ok-numbers.ensures)
+    (c.deref-3.ensures.value ∙ c.requires.table.order) c.in_ok-marks.ensures) c.marked_structs.ensures

@@ -3,4 +3,5 @@ use Rattle.exec_laws.proofs.RoomLemmas.{few_fields}
 use Rattle.exec_cells.proofs.exposing.unfolded.Goals as goal
 
 pub unfolded_of_def-requires-clause-few : goal.unfolded_of_def-requires-clause-few
-unfolded_of_def-requires-clause-few c = few_fields c.args.setting.now.structs.now c.args.kind.now c.in-Some.def.now c.requires.setting.structs (sym c.in-Some.ensures)
+unfolded_of_def-requires-clause-few c =
+    few_fields c.args.setting.now.structs.now c.args.kind.now c.in-Some.def.now c.requires.setting.structs (sym c.in-Some.ensures)

@@ -4,4 +4,5 @@ use Rattle.sym_renaming.specs.Calls.{variables_from}
 use Rattle.exec_cells.proofs.exposing.variables.Given as goal
 
 abbrev pub invariant-loop-turn : goal.invariant-loop-turn
-invariant-loop-turn l = (map Var (variables_from l.first l.count) ≡ l.all ++ map Var (variables_from l.x (l.count - l.turn))) × (l.x ≡ l.first + l.turn)
+invariant-loop-turn l = (map Var (variables_from l.first l.count) ≡ l.all ++ map Var (variables_from l.x (l.count - l.turn)))
+    × (l.x ≡ l.first + l.turn)

@@ -7,4 +7,5 @@ use Rattle.flow_json.proofs.lists.read_list.Given as goal
 
 abbrev pub invariant-loop-item : goal.invariant-loop-item
 invariant-loop-item g l =
-    with_front l.things (read_each g.T.Form.reader (map view (drop l.item-index l.item-items))) ≡ read_each g.T.Form.reader (map view l.item-items)
+    with_front l.things (read_each g.T.Form.reader (map view (drop l.item-index l.item-items)))
+    ≡ read_each g.T.Form.reader (map view l.item-items)

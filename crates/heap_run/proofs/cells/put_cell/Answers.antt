@@ -11,7 +11,8 @@ pub unreachable-requires : goal.unreachable-requires
 unreachable-requires c =
     let fits : SFits w128 c.args.cell.at = search rules in
     let placed = rw (c.in-Ok.is, to_z-of_z w128 c.args.cell.at fits, c.deref.ensures) at c.place_of.ensures in
-    let live : true ≡ is_some (cell_at c.args.heap.now c.args.cell.at) = is_some-place c.args.heap.now c.args.cell.at (Ok c.in-Ok.field-0) c.requires.rising placed in
+    let live : true ≡ is_some (cell_at c.args.heap.now c.args.cell.at) =
+    is_some-place c.args.heap.now c.args.cell.at (Ok c.in-Ok.field-0) c.requires.rising placed in
     let wrong : true ≡ false = rw c.requires.unowned at live in
     cc
 

@@ -9,11 +9,16 @@ use Rattle.heapan_top.proofs.leading.answer_commands.Given as goal
 
 abbrev pub invariant-loop-status : goal.invariant-loop-status
 invariant-loop-status g l = record {
-  under_way : IsUnderWay (setting_of l.fn.loaded.value l.fn.path) (g.S.Source.left l.fn.source) (g.K.Sink.held l.fn.sink) (course_of l.commands l.session) (stream_left l.commands (g.S.Source.left l.source)) (g.K.Sink.held l.sink);
-  done : IsDone (setting_of l.fn.loaded.value l.fn.path) (g.S.Source.left l.fn.source) (g.K.Sink.held l.fn.sink) (course_of l.commands l.session) (stream_left l.commands (g.S.Source.left l.source)) (g.K.Sink.held l.sink) l.hands.seen;
+  under_way : IsUnderWay (setting_of l.fn.loaded.value l.fn.path) (g.S.Source.left l.fn.source) (g.K.Sink.held l.fn.sink)
+      (course_of l.commands l.session) (stream_left l.commands (g.S.Source.left l.source)) (g.K.Sink.held l.sink);
+  done : IsDone (setting_of l.fn.loaded.value l.fn.path) (g.S.Source.left l.fn.source) (g.K.Sink.held l.fn.sink)
+      (course_of l.commands l.session) (stream_left l.commands (g.S.Source.left l.source)) (g.K.Sink.held l.sink) l.hands.seen;
   fed :
-      IsFedOn (setting_of l.fn.loaded.value l.fn.path) (g.S.Source.left l.fn.source) (g.K.Sink.held l.fn.sink) (course_of l.commands l.session) (stream_left l.commands (g.S.Source.left l.source)) (g.K.Sink.held l.sink)
-      (path_told (g.P.Keeper.kept l.fn.keeper) (path_bytes l.fn.path)) (path_told (g.P.Keeper.kept l.keeper) (path_bytes l.fn.path)) (l.reporters.items ≡ l.fn.reporters.items) (map (λ one. (goal.Reporter-dyn g (one.vtable, one.value)).known one.value) l.fn.reporters.items)
+      IsFedOn (setting_of l.fn.loaded.value l.fn.path) (g.S.Source.left l.fn.source) (g.K.Sink.held l.fn.sink)
+      (course_of l.commands l.session) (stream_left l.commands (g.S.Source.left l.source)) (g.K.Sink.held l.sink)
+      (path_told (g.P.Keeper.kept l.fn.keeper) (path_bytes l.fn.path)) (path_told (g.P.Keeper.kept l.keeper) (path_bytes l.fn.path))
+      (l.reporters.items ≡ l.fn.reporters.items)
+      (map (λ one. (goal.Reporter-dyn g (one.vtable, one.value)).known one.value) l.fn.reporters.items)
       (map (λ one. (goal.Reporter-dyn g (one.vtable, one.value)).known one.value) l.reporters.items);
   steady :
       steady_count (map (λ one. (goal.Reporter-dyn g (one.vtable, one.value)).known one.value) l.reporters.items)

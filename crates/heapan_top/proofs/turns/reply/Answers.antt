@@ -19,7 +19,8 @@ loop-told-preserved g c =
     let here : place < length all = search rules in
     let own : item ≡ get_or all place item = search rules in
     let element : one ≡ get_or all place one = c.entry.ensures ∙ own ∙ ap (λ (k : Entry). get_or all place k) (sym c.entry.ensures) in
-    let taken : take (place + 1) all ≡ take place all ++ one ∷ [] = take_more all place one here ∙ ap (λ (k : Entry). take place all ++ k ∷ []) (sym element) in
+    let taken : take (place + 1) all ≡ take place all ++ one ∷ [] =
+    take_more all place one here ∙ ap (λ (k : Entry). take place all ++ k ∷ []) (sym element) in
     record {
       fed = fed_to _ _ _ _ _ (sym taken) (fed_one_more _ _ (take place all) one _ _ _ c.loop-told.invariant.fed c.feed_all.ensures.fed);
       steady = c.feed_all.ensures.steady ∙ c.loop-told.invariant.steady;
@@ -32,7 +33,12 @@ returns-after-loop-told-clause-feeds g c =
     let same : all ≡ c.in-Ok.entries.items = search rules in
     let feeds : Feeds c.args.session.now c.args.asked c.in-Ok.entries.items =
     subst (λ r. IfOk r (λ entries. Feeds c.args.session.now c.args.asked entries.items)) c.in-Ok.is c.write_reply.ensures.entries in (
-      (all, subst (λ (fed : List Entry). Feeds c.args.session.now c.args.asked fed) (sym same) feeds, fed_to _ _ _ _ _ whole c.loop-told.invariant.fed),
+      (
+        all,
+        subst (λ (fed : List Entry). Feeds c.args.session.now c.args.asked fed)
+            (sym same) feeds,
+        fed_to _ _ _ _ _ whole c.loop-told.invariant.fed,
+      ),
       saved_as c.args.session.now c.args.asked _ _ c.write_reply.result (Ok c.in-Ok.entries) c.in-Ok.is c.write_reply.ensures.saved,
     )
 
@@ -40,5 +46,8 @@ pub returns-after-loop-told-clause-steady : goal.returns-after-loop-told-clause-
 returns-after-loop-told-clause-steady g c = c.loop-told.invariant.steady
 
 pub returns-in-Err-clause-feeds : goal.returns-in-Err-clause-feeds
-returns-in-Err-clause-feeds g c =
-    (unfed _ _ refl, saved_as c.args.session.now c.args.asked _ _ c.write_reply.result (Err c.in-Err.status) c.in-Err.is c.write_reply.ensures.saved)
+returns-in-Err-clause-feeds g c = (
+  unfed _ _ refl,
+  saved_as c.args.session.now c.args.asked _ _ c.write_reply.result
+      (Err c.in-Err.status) c.in-Err.is c.write_reply.ensures.saved,
+)

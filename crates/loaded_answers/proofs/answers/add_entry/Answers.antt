@@ -14,5 +14,7 @@ returns-then-contains_key c = λ loaded are.
 pub returns : goal.returns
 returns c = λ loaded are.
     let none : is_some (get key_test.0 c.args.found.now c.args.entry.now.key.value) ≡ false = search rules in
-    found_more (λ answer. answer.value) loaded c.args.found.now are (solution_of c.args.entry.now) c.insert.new.self c.in_ok-share-2.field-0 c.in_ok-share-2.ensures none
-    (subst (λ key. Updates key_test.0 c.args.found.now c.insert.new.self key (Some c.in_ok-share-2.field-0)) (c.of-key.ensures ∙ c.in_ok-share.ensures) c.in_ok-insert.ensures.updates)
+    found_more (λ answer. answer.value) loaded c.args.found.now are
+    (solution_of c.args.entry.now) c.insert.new.self c.in_ok-share-2.field-0 c.in_ok-share-2.ensures none
+    (subst (λ key. Updates key_test.0 c.args.found.now c.insert.new.self key (Some c.in_ok-share-2.field-0))
+    (c.of-key.ensures ∙ c.in_ok-share.ensures) c.in_ok-insert.ensures.updates)

@@ -7,4 +7,6 @@ use Rattle.matching.proofs.cells.take_fields.Goals as goal
 pub returns-then-place-haves : goal.returns-then-place-haves
 returns-then-place-haves c =
     let past : length c.args.haves.now ≤ c.loop-place.place = c.if-place-haves.true in
-    sym (c.loop-place.invariant ∙ fields_end (rules_in c.args.setting.now) c.args.number c.loop-place.place (drop c.loop-place.place c.args.wants.now) c.args.haves.now c.loop-place.current past)
+    sym (c.loop-place.invariant
+    ∙ fields_end (rules_in c.args.setting.now) c.args.number c.loop-place.place
+    (drop c.loop-place.place c.args.wants.now) c.args.haves.now c.loop-place.current past)

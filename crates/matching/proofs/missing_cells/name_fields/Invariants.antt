@@ -5,5 +5,6 @@ use Rattle.matching.proofs.missing_cells.name_fields.Given as goal
 
 abbrev pub invariant-loop-want : goal.invariant-loop-want
 invariant-loop-want l =
-    (name_fields (rules_with l.setting.mode l.setting.facts.now l.setting.flexible.now) l.wants l.fn.m ≡ name_fields (rules_with l.setting.mode l.setting.facts.now l.setting.flexible.now) (drop l.want-index l.wants) l.current)
+    (name_fields (rules_with l.setting.mode l.setting.facts.now l.setting.flexible.now) l.wants l.fn.m
+    ≡ name_fields (rules_with l.setting.mode l.setting.facts.now l.setting.flexible.now) (drop l.want-index l.wants) l.current)
     × (l.current.next + (length l.wants - l.want-index) < 4294967296)

@@ -18,11 +18,13 @@ use Rattle.plain_answers.proofs.answers.plain.Goals as goal
 
 pub aimed_in-requires-clause-rows : goal.aimed_in-requires-clause-rows
 aimed_in-requires-clause-rows g c =
-    subst (AreRows c.args.program.now) (sym c.deref.ensures.value) (record { are = c.in_ok-components.ensures.are; within = c.in_ok-components.ensures.within })
+    subst (AreRows c.args.program.now) (sym c.deref.ensures.value)
+    (record { are = c.in_ok-components.ensures.are; within = c.in_ok-components.ensures.within })
 
 pub table_of-requires-clause-rows : goal.table_of-requires-clause-rows
 table_of-requires-clause-rows g c =
-    subst (AreRows c.args.program.now) (sym c.deref-2.ensures.value) (record { are = c.in_ok-components.ensures.are; within = c.in_ok-components.ensures.within })
+    subst (AreRows c.args.program.now) (sym c.deref-2.ensures.value)
+    (record { are = c.in_ok-components.ensures.are; within = c.in_ok-components.ensures.within })
 
 pub table_of-requires-clause-closed : goal.table_of-requires-clause-closed
 table_of-requires-clause-closed g c =
@@ -31,11 +33,16 @@ table_of-requires-clause-closed g c =
 
 pub returns-clause-known : goal.returns-clause-known
 returns-clause-known g c =
-    IfOk-weaker c.entries_in.result (λ (kept : Vec Kept). kept.items ≡ filter_map (λ (entry : Option Kept). entry) c.in_ok-table.table.items)
+    IfOk-weaker c.entries_in.result
+    (λ (kept : Vec Kept). kept.items ≡ filter_map (λ (entry : Option Kept). entry) c.in_ok-table.table.items)
     (λ (kept : Vec Kept). solutions_of kept.items ≡ aimed_known (lookup c.args.loaded.now) c.args.program.now c.args.aim.now)
     (λ kept is.
-    gathered_in (lookup c.args.loaded.now) c.args.program.now c.args.aim.now c.deref-2.result.now c.in_ok-components.components.items c.deref-2.ensures.value
-    (record { are = c.in_ok-components.ensures.are; within = c.in_ok-components.ensures.within }) c.deref-3.result.now c.in_ok-marks.marks.items c.deref-3.ensures.value
+    gathered_in (lookup c.args.loaded.now) c.args.program.now c.args.aim.now c.deref-2.result.now c.in_ok-components.components.items
+    c.deref-2.ensures.value
+    (record {
+      are = c.in_ok-components.ensures.are;
+      within = c.in_ok-components.ensures.within;
+    }) c.deref-3.result.now c.in_ok-marks.marks.items c.deref-3.ensures.value
     c.in_ok-marks.ensures c.in_ok-table.table.items c.in_ok-table.ensures kept.items is)
     c.entries_in.ensures
 
@@ -43,11 +50,16 @@ pub returns-clause-storable : goal.returns-clause-storable
 returns-clause-storable g c =
     let loaded = c.args.loaded.now in
     let program = c.args.program.now in
-    IfOk-weaker c.entries_in.result (λ (kept : Vec Kept). kept.items ≡ filter_map (λ (entry : Option Kept). entry) c.in_ok-table.table.items)
+    IfOk-weaker c.entries_in.result
+    (λ (kept : Vec Kept). kept.items ≡ filter_map (λ (entry : Option Kept). entry) c.in_ok-table.table.items)
     (λ (kept : Vec Kept). All (λ (one : Kept). IsStorable (solution_of one)) kept.items)
     (λ kept is.
-    entries_fit loaded program (c.known_is_storable.ensures loaded c.requires.loaded program c.requires.formed c.requires.sizes) c.args.aim.now kept.items
+    entries_fit loaded program
+    (c.known_is_storable.ensures loaded c.requires.loaded program c.requires.formed c.requires.sizes) c.args.aim.now kept.items
     (gathered_in (lookup loaded) program c.args.aim.now c.deref-2.result.now c.in_ok-components.components.items c.deref-2.ensures.value
-    (record { are = c.in_ok-components.ensures.are; within = c.in_ok-components.ensures.within }) c.deref-3.result.now c.in_ok-marks.marks.items c.deref-3.ensures.value
+    (record {
+      are = c.in_ok-components.ensures.are;
+      within = c.in_ok-components.ensures.within;
+    }) c.deref-3.result.now c.in_ok-marks.marks.items c.deref-3.ensures.value
     c.in_ok-marks.ensures c.in_ok-table.table.items c.in_ok-table.ensures kept.items is))
     c.entries_in.ensures

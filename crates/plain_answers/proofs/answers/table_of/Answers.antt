@@ -17,12 +17,14 @@ use Rattle.plain_answers.proofs.answers.table_of.Goals as goal
 pub key_in-requires-clause-members : goal.key_in-requires-clause-members
 key_in-requires-clause-members g c =
     (c.requires.rows.within c.loop-place.place c.index-components-place.result
-    (row_at c.args.components.now c.args.components.now c.loop-place.place c.index-components-place.result refl c.loop-place-test.true c.index-components-place.is)).members
+    (row_at c.args.components.now c.args.components.now c.loop-place.place c.index-components-place.result refl c.loop-place-test.true
+    c.index-components-place.is)).members
 
 pub key_in-requires-clause-outer : goal.key_in-requires-clause-outer
 key_in-requires-clause-outer g c =
     (c.requires.rows.within c.loop-place.place c.index-components-place.result
-    (row_at c.args.components.now c.args.components.now c.loop-place.place c.index-components-place.result refl c.loop-place-test.true c.index-components-place.is)).outer
+    (row_at c.args.components.now c.args.components.now c.loop-place.place c.index-components-place.result refl c.loop-place-test.true
+    c.index-components-place.is)).outer
 
 pub entry_for-requires : goal.entry_for-requires
 entry_for-requires g c =
@@ -32,19 +34,22 @@ entry_for-requires g c =
     let part : Component = component_value (flows_of program) c.index-components-place.result in
     let at : slice_get (program_components program) place ≡ Some part =
     part_at program c.args.components.now c.requires.rows place c.index-components-place.result
-    (row_at c.args.components.now c.args.components.now place c.index-components-place.result refl c.loop-place-test.true c.index-components-place.is) in
+    (row_at c.args.components.now c.args.components.now place c.index-components-place.result refl c.loop-place-test.true
+    c.index-components-place.is) in
     subst IsStorableKey
     (sym
     (c.in_ok-key.ensures ∙ ap (λ (l : List (Option Kept)). key_by program.structs (answer_at l) part) c.deref-in-loop-place.ensures.value ∙
     key_is (lookup loaded) program (marked c.args.marks.now) c.requires.closed place part c.loop-place.table.items at c.loop-place.invariant
     (sym c.is_marked.ensures ∙ c.if-not-is_marked.false)))
-    (key_fits loaded program (c.known_is_storable.ensures loaded c.requires.loaded program c.requires.formed c.requires.sizes) place part at)
+    (key_fits loaded program
+    (c.known_is_storable.ensures loaded c.requires.loaded program c.requires.formed c.requires.sizes) place part at)
 
 pub loop-place-preserved-then-not-is_marked : goal.loop-place-preserved-then-not-is_marked
 loop-place-preserved-then-not-is_marked g c =
     let known = known_by (lookup c.args.loaded.now) c.args.program.now in
     subst (IsTable (marked c.args.marks.now) known (c.loop-place.place + 1)) (sym c.in_ok-push.ensures.items)
-    (none_more (lookup c.args.loaded.now) c.args.program.now (marked c.args.marks.now) c.loop-place.place c.loop-place.table.items c.loop-place.invariant
+    (none_more (lookup c.args.loaded.now) c.args.program.now
+    (marked c.args.marks.now) c.loop-place.place c.loop-place.table.items c.loop-place.invariant
     (sym c.is_marked.ensures ∙ c.if-not-is_marked.true))
 
 pub loop-place-preserved : goal.loop-place-preserved
@@ -56,9 +61,13 @@ loop-place-preserved g c =
     let part : Component = component_value (flows_of program) c.index-components-place.result in
     let at : slice_get (program_components program) place ≡ Some part =
     part_at program c.args.components.now c.requires.rows place c.index-components-place.result
-    (row_at c.args.components.now c.args.components.now place c.index-components-place.result refl c.loop-place-test.true c.index-components-place.is) in
+    (row_at c.args.components.now c.args.components.now place c.index-components-place.result refl c.loop-place-test.true
+    c.index-components-place.is) in
     subst (IsTable (marked c.args.marks.now) known (place + 1)) (sym c.in_ok-push-2.ensures.items)
-    (one_more (lookup loaded) program (marked c.args.marks.now) c.requires.closed place part c.loop-place.table.items c.in_ok-entry.entry at c.loop-place.invariant
+    (one_more (lookup loaded) program
+    (marked c.args.marks.now) c.requires.closed place part c.loop-place.table.items c.in_ok-entry.entry at c.loop-place.invariant
     (sym c.is_marked.ensures ∙ c.if-not-is_marked.false)
     (c.in_ok-entry.ensures ∙
-    ap (answered (lookup loaded)) (c.in_ok-key.ensures ∙ ap (λ (l : List (Option Kept)). key_by program.structs (answer_at l) part) c.deref-in-loop-place.ensures.value)))
+    ap (answered (lookup loaded))
+    (c.in_ok-key.ensures
+    ∙ ap (λ (l : List (Option Kept)). key_by program.structs (answer_at l) part) c.deref-in-loop-place.ensures.value)))

@@ -5,4 +5,5 @@ use Rattle.plain_answers.specs.Table.{answer_at, callee_over}
 use Rattle.plain_answers.proofs.keys.callees_of.Given as goal
 
 abbrev pub invariant-loop-outer : goal.invariant-loop-outer
-invariant-loop-outer l = l.callees ≡ map (callee_over (answer_at l.table)) (filter_map (outer_value (flows_of l.program)) (take l.outer-index l.outers))
+invariant-loop-outer l = l.callees
+    ≡ map (callee_over (answer_at l.table)) (filter_map (outer_value (flows_of l.program)) (take l.outer-index l.outers))

@@ -11,10 +11,12 @@ pub returns-in-Some-clause-value : goal.returns-in-Some-clause-value
 unfolding annotate
 returns-in-Some-clause-value c =
     let ended : ◌≡◌ {A = Course} (Ends (annotated_by c.in-Some.ended)) (started (task_in c.args.task.now) c.args.pre.now) = search rules in
-    start-ended (turns 2048 (task_in c.args.task.now)) (started (task_in c.args.task.now) c.args.pre.now) (annotated_by c.in-Some.ended) ended
+    start-ended (turns 2048 (task_in c.args.task.now)) (started (task_in c.args.task.now) c.args.pre.now)
+    (annotated_by c.in-Some.ended) ended
 
 pub returns-clause-value : goal.returns-clause-value
 unfolding annotate
 returns-clause-value c =
     let goes : ◌≡◌ {A = Course} (Goes (listing_in c.start.new.listing)) (started (task_in c.args.task.now) c.args.pre.now) = search rules in
-    start-more c.turns.result (turns 2048 (task_in c.args.task.now)) (started (task_in c.args.task.now) c.args.pre.now) (listing_in c.start.new.listing) (listing_in c.turns.new.listing) goes c.turns.ensures.value
+    start-more c.turns.result (turns 2048 (task_in c.args.task.now)) (started (task_in c.args.task.now) c.args.pre.now)
+    (listing_in c.start.new.listing) (listing_in c.turns.new.listing) goes c.turns.ensures.value

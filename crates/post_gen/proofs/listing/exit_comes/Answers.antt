@@ -24,4 +24,5 @@ pub returns-clause-listing : goal.returns-clause-listing
 returns-clause-listing c =
     let small : ltb 96 (parts_of c.args.post.heap) ≡ false = search rules in
     subst (IsListing (task_in c.args.task.now)) (sym c.in_ok-list_exit.ensures)
-    (exit-listed (task_in c.args.task.now) (listing_in c.args.listing.now) c.requires.listing c.args.post (post-narrow (task_in c.args.task.now) c.args.post c.requires.post (ltb-false 96 (parts_of c.args.post.heap) small)))
+    (exit-listed (task_in c.args.task.now) (listing_in c.args.listing.now) c.requires.listing c.args.post
+    (post-narrow (task_in c.args.task.now) c.args.post c.requires.post (ltb-false 96 (parts_of c.args.post.heap) small)))

@@ -15,7 +15,8 @@ use Rattle.post_gen.proofs.listing.state_comes.Goals as goal
 pub is_covered-requires-clause-states : goal.is_covered-requires-clause-states
 is_covered-requires-clause-states c =
     All-same IsStateWithinSizes c.as_slice-states.result.now c.index.result.now c.as_slice-states.ensures
-    (node-within (task_in c.args.task.now) (listing_in c.args.listing.now) c.requires.listing c.requires.task c.args.node c.index.result.now c.requires.node c.index.ensures)
+    (node-within (task_in c.args.task.now)
+    (listing_in c.args.listing.now) c.requires.listing c.requires.task c.args.node c.index.result.now c.requires.node c.index.ensures)
 
 pub is_covered-requires-clause-state : goal.is_covered-requires-clause-state
 is_covered-requires-clause-state c = state-sizes (task_in c.args.task.now) c.requires.task c.args.state c.requires.state

@@ -10,7 +10,8 @@ use Rattle.post_gen.proofs.turns.turns.Goals as goal
 
 pub turn_of-requires-clause-listing : goal.turn_of-requires-clause-listing
 turn_of-requires-clause-listing c =
-    rest-given (task_in c.args.task.now) (listing_in c.loop-turn.listing) c.loop-turn.invariant.listing (c.in-Some.node, c.in-Some.state) c.pop_front.new.self.items c.in-Some.ensures.items
+    rest-given (task_in c.args.task.now) (listing_in c.loop-turn.listing) c.loop-turn.invariant.listing
+    (c.in-Some.node, c.in-Some.state) c.pop_front.new.self.items c.in-Some.ensures.items
 
 pub returns-in-Some-2-clause-value : goal.returns-in-Some-2-clause-value
 returns-in-Some-2-clause-value c =
@@ -20,8 +21,12 @@ returns-in-Some-2-clause-value c =
     let left = c.args.most - c.loop-turn._turn in
     let more = c.args.most - (c.loop-turn._turn + 1) in
     let is_more : left ≡ suc more = omega (arith, c.loop-turn-test.true) in
-    let ends : ◌≡◌ {A = Course} (Ends (annotated_by c.in-Some-2.ended)) (turn_of task c.in-Some.node c.in-Some.state (taken before rest)) = search rules in
-    turn-ended task before (turns c.args.most task (listing_in c.args.listing.now)) left more c.in-Some.node c.in-Some.state rest c.in-Some.ensures.items is_more c.loop-turn.invariant.whole
+    let ends : ◌≡◌ {A = Course} (Ends (annotated_by c.in-Some-2.ended)) (turn_of task c.in-Some.node c.in-Some.state (taken before rest)) =
+    search rules in
+    turn-ended task before
+    (turns c.args.most task
+    (listing_in c.args.listing.now)) left more c.in-Some.node c.in-Some.state rest c.in-Some.ensures.items is_more
+    c.loop-turn.invariant.whole
     (annotated_by c.in-Some-2.ended) ends
 
 pub loop-turn-preserved : goal.loop-turn-preserved
@@ -32,8 +37,13 @@ loop-turn-preserved c =
     let left = c.args.most - c.loop-turn._turn in
     let more = c.args.most - (c.loop-turn._turn + 1) in
     let is_more : left ≡ suc more = omega (arith, c.loop-turn-test.true) in
-    let goes : ◌≡◌ {A = Course} (Goes (listing_in c.turn_of.new.listing)) (turn_of task c.in-Some.node c.in-Some.state (taken before rest)) = search rules in record {
-      whole = turn-more task before (turns c.args.most task (listing_in c.args.listing.now)) left more c.in-Some.node c.in-Some.state rest c.in-Some.ensures.items is_more c.loop-turn.invariant.whole
+    let goes : ◌≡◌ {A = Course} (Goes (listing_in c.turn_of.new.listing))
+    (turn_of task c.in-Some.node c.in-Some.state (taken before rest)) = search rules in record {
+      whole =
+          turn-more task before
+          (turns c.args.most task
+          (listing_in c.args.listing.now)) left more c.in-Some.node c.in-Some.state rest c.in-Some.ensures.items is_more
+          c.loop-turn.invariant.whole
           (listing_in c.turn_of.new.listing) goes;
       listing = c.in_ok-ended.ensures.listing;
     }

@@ -13,4 +13,5 @@ use Rattle.pre_gen.proofs.coming.start_pair_at_node.Goals as goal
 pub pair_at_node-requires-clause-pair : goal.pair_at_node-requires-clause-pair
 pair_at_node-requires-clause-pair c =
     let is : ◌≡◌ {A = Option SymState} (Some c.in-Some.start) (start_form c.args.task.now.flow.now emp) = search rules in
-    subst IsPairWithinRoom (sym c.in_ok-pair-in-Some.ensures) (start-comes (task_in c.args.task.now) c.requires c.in-Some.start (sym is)).room
+    subst IsPairWithinRoom (sym c.in_ok-pair-in-Some.ensures)
+    (start-comes (task_in c.args.task.now) c.requires c.in-Some.start (sym is)).room

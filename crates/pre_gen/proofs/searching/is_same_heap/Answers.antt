@@ -4,4 +4,5 @@ use Rattle.certificate_laws.proofs.SamenessLaws.{same_heap-Decides}
 use Rattle.pre_gen.proofs.searching.is_same_heap.Goals as goal
 
 pub returns : goal.returns
-returns c = same_from_decides c.is_same.result (same_heap c.args.a.now c.args.b.now) c.is_same.ensures (same_heap-Decides c.args.a.now c.args.b.now)
+returns c =
+    same_from_decides c.is_same.result (same_heap c.args.a.now c.args.b.now) c.is_same.ensures (same_heap-Decides c.args.a.now c.args.b.now)

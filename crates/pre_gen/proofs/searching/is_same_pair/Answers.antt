@@ -4,4 +4,5 @@ use Rattle.pre_gen.proofs.Same.{same_pair-Decides}
 use Rattle.pre_gen.proofs.searching.is_same_pair.Goals as goal
 
 pub returns : goal.returns
-returns c = same_from_decides c.is_same.result (same_pair c.args.a.now c.args.b.now) c.is_same.ensures (same_pair-Decides c.args.a.now c.args.b.now)
+returns c =
+    same_from_decides c.is_same.result (same_pair c.args.a.now c.args.b.now) c.is_same.ensures (same_pair-Decides c.args.a.now c.args.b.now)

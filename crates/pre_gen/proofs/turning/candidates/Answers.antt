@@ -8,7 +8,10 @@ use Rattle.pre_gen.proofs.TurnSteps.{all-turns}
 use Rattle.pre_gen.proofs.turning.candidates.Goals as goal
 
 pub turns-requires-clause-search : goal.turns-requires-clause-search
-turns-requires-clause-search c = subst (IsSearch (task_in c.args.task.now)) (sym c.in_ok-search.ensures) (started-fine (task_in c.args.task.now) c.requires)
+turns-requires-clause-search c =
+    subst (IsSearch (task_in c.args.task.now)) (sym c.in_ok-search.ensures) (started-fine (task_in c.args.task.now) c.requires)
 
 pub returns : goal.returns
-returns c = all-turns (task_in c.args.task.now) (search_in c.turns.new.search) (c.in_ok-turns.ensures ∙ ap (turns MOST_TURNS (task_in c.args.task.now)) c.in_ok-search.ensures)
+returns c =
+    all-turns (task_in c.args.task.now) (search_in c.turns.new.search)
+    (c.in_ok-turns.ensures ∙ ap (turns MOST_TURNS (task_in c.args.task.now)) c.in_ok-search.ensures)

@@ -15,10 +15,12 @@ use Rattle.pre_gen.proofs.turning.cases_of_pair.Goals as goal
 pub search_cases-requires-clause-state : goal.search_cases-requires-clause-state
 search_cases-requires-clause-state c =
     let is : ◌≡◌ {A = Option SymState} (Some c.in-Some.form) (normal_state c.args.pair.state) = search rules in
-    state-wide (task_in c.args.task.now) c.requires.task c.in-Some.form (executed-given (task_in c.args.task.now) c.requires.task c.args.pair c.in-Some.form c.requires.pair (sym is)).state
+    state-wide (task_in c.args.task.now) c.requires.task c.in-Some.form
+    (executed-given (task_in c.args.task.now) c.requires.task c.args.pair c.in-Some.form c.requires.pair (sym is)).state
 
 pub search_cases-requires-clause-missing : goal.search_cases-requires-clause-missing
-search_cases-requires-clause-missing c = limits.heap analysable widest limits.storable_is_analysable.1 _ _ c.args.pair.missing c.requires.pair.missing
+search_cases-requires-clause-missing c =
+    limits.heap analysable widest limits.storable_is_analysable.1 _ _ c.args.pair.missing c.requires.pair.missing
 
 pub search_cases-requires-clause-table : goal.search_cases-requires-clause-table
 search_cases-requires-clause-table c = table-wide (task_in c.args.task.now) c.requires.task

@@ -18,7 +18,8 @@ returns-in-Some-clause-files c =
     let gone : c.remove.new.self.items ≡ remove c.args.files.now.items c.in-Some.place = search rules in
     let without = gone ∙ sym (dropped-is c.args.name.now c.args.files.now.items c.in-Some.place there) in
     subst (λ (files : List KeptFile). AreFiles (sources_of files)) (sym without)
-    (subst AreFiles (sym (without_kept-sources c.args.name.now c.args.files.now.items)) (dropped-AreFiles c.args.name.now (sources_of c.args.files.now.items) c.requires))
+    (subst AreFiles (sym (without_kept-sources c.args.name.now c.args.files.now.items))
+    (dropped-AreFiles c.args.name.now (sources_of c.args.files.now.items) c.requires))
 
 pub returns-in-Some-clause-dropped : goal.returns-in-Some-clause-dropped
 returns-in-Some-clause-dropped c =

@@ -14,9 +14,11 @@ returns-then-others-len-gt-MOST_BYTES-clause-fault c =
     let sums = replaced-bytes name files bytes c.args.place c.index.result.now c.requires.there in
     let all : c.total.result ≡ sum_by kept_length files = search rules in
     let before = bytes-kept files in
-    let one : c.len.result ≡ length (get_or files c.args.place c.index.result.now).file.bytes = c.len.ensures.exact ∙ ap (λ (k : KeptFile). length k.file.bytes) element in
+    let one : c.len.result ≡ length (get_or files c.args.place c.index.result.now).file.bytes =
+    c.len.ensures.exact ∙ ap (λ (k : KeptFile). length k.file.bytes) element in
     let size : c.len-2.result ≡ length bytes = search rules in
-    refused-full name bytes (sources_of files) c.requires.short (inl (there-has name files c.args.place c.requires.there)) (omega (arith, sums, all, before, one, size))
+    refused-full name bytes (sources_of files) c.requires.short (inl (there-has name files c.args.place c.requires.there))
+    (omega (arith, sums, all, before, one, size))
 
 pub returns-clause-put : goal.returns-clause-put
 returns-clause-put c =
@@ -34,6 +36,8 @@ returns-clause-may c =
     let sums = replaced-bytes name files bytes c.args.place c.index.result.now c.requires.there in
     let all : c.total.result ≡ sum_by kept_length files = search rules in
     let before = bytes-kept files in
-    let one : c.len.result ≡ length (get_or files c.args.place c.index.result.now).file.bytes = c.len.ensures.exact ∙ ap (λ (k : KeptFile). length k.file.bytes) element in
+    let one : c.len.result ≡ length (get_or files c.args.place c.index.result.now).file.bytes =
+    c.len.ensures.exact ∙ ap (λ (k : KeptFile). length k.file.bytes) element in
     let size : c.len-2.result ≡ length bytes = search rules in
-    not_refused name bytes (sources_of files) c.requires.short (inl (there-has name files c.args.place c.requires.there)) (omega (arith, sums, all, before, one, size))
+    not_refused name bytes (sources_of files) c.requires.short (inl (there-has name files c.args.place c.requires.there))
+    (omega (arith, sums, all, before, one, size))

@@ -17,7 +17,8 @@ returns-in-Err-Tokens-clause-noted c =
     let lost : c.args.file.now.is_kept ≡ false = search rules in
     let is : IsRead c.args.file.now.file.bytes (NoTokens c.in-Err-Tokens.refusal) = search rules in
     let named : c.name.result.now ≡ c.args.file.now.file.name = search rules in
-    noted-tokens c.note.result c.args.file.now c.read.new.self c.name.result.now c.in-Err-Tokens.refusal c.args.firsts.now c.note.new.first same lost is named c.note.ensures
+    noted-tokens c.note.result c.args.file.now c.read.new.self c.name.result.now c.in-Err-Tokens.refusal c.args.firsts.now c.note.new.first
+    same lost is named c.note.ensures
 
 pub returns-in-Err-Syntax-clause-noted : goal.returns-in-Err-Syntax-clause-noted
 returns-in-Err-Syntax-clause-noted c =
@@ -25,4 +26,5 @@ returns-in-Err-Syntax-clause-noted c =
     let lost : c.args.file.now.is_kept ≡ false = search rules in
     let is : IsRead c.args.file.now.file.bytes (NoFile c.in-Err-Syntax.refusal) = search rules in
     let named : c.name-in-Err-Syntax.result.now ≡ c.args.file.now.file.name = search rules in
-    noted-syntax c.note-in-Err-Syntax.result c.args.file.now c.read.new.self c.name-in-Err-Syntax.result.now c.in-Err-Syntax.refusal c.args.firsts.now c.note-in-Err-Syntax.new.first same lost is named c.note-in-Err-Syntax.ensures
+    noted-syntax c.note-in-Err-Syntax.result c.args.file.now c.read.new.self c.name-in-Err-Syntax.result.now c.in-Err-Syntax.refusal
+    c.args.firsts.now c.note-in-Err-Syntax.new.first same lost is named c.note-in-Err-Syntax.ensures

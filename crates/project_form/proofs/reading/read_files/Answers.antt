@@ -18,11 +18,13 @@ loop-place-preserved c =
     let place = c.loop-place.place in
     let one = c.read_file.new.file in
     let inside : place < length files = search rules in
-    let is : Follows (get_or files place c.index_mut.result.now) one = subst (λ (kept : KeptFile). Follows kept one) c.index_mut.ensures.value c.read_file.ensures.follows in
+    let is : Follows (get_or files place c.index_mut.result.now) one =
+    subst (λ (kept : KeptFile). Follows kept one) c.index_mut.ensures.value c.read_file.ensures.follows in
     let front : take (place + 1) (set files place one) ≡ take place files ++ one ∷ [] = take_more_set files place one inside in
     record {
       noted = subst (λ (all : List KeptFile). AreNoted all c.read_file.new.firsts) (sym front)
-          (noted-more (take place files) one c.loop-place.firsts c.read_file.new.firsts c.loop-place.invariant.noted c.in_ok-read_file.ensures.noted);
+          (noted-more (take place files) one c.loop-place.firsts c.read_file.new.firsts c.loop-place.invariant.noted
+          c.in_ok-read_file.ensures.noted);
       follow = follow-set c.args.files.now.items files place c.index_mut.result.now one inside c.loop-place.invariant.follow is;
     }
 
@@ -32,7 +34,8 @@ returns-in_err-read_file-clause-follow c =
     let place = c.loop-place.place in
     let one = c.read_file.new.file in
     let inside : place < length files = search rules in
-    let is : Follows (get_or files place c.index_mut.result.now) one = subst (λ (kept : KeptFile). Follows kept one) c.index_mut.ensures.value c.read_file.ensures.follows in
+    let is : Follows (get_or files place c.index_mut.result.now) one =
+    subst (λ (kept : KeptFile). Follows kept one) c.index_mut.ensures.value c.read_file.ensures.follows in
     follow-set c.args.files.now.items files place c.index_mut.result.now one inside c.loop-place.invariant.follow is
 
 pub returns-in_err-read_file-clause-files : goal.returns-in_err-read_file-clause-files
@@ -41,7 +44,8 @@ returns-in_err-read_file-clause-files c =
     let place = c.loop-place.place in
     let one = c.read_file.new.file in
     let inside : place < length files = search rules in
-    let is : Follows (get_or files place c.index_mut.result.now) one = subst (λ (kept : KeptFile). Follows kept one) c.index_mut.ensures.value c.read_file.ensures.follows in
+    let is : Follows (get_or files place c.index_mut.result.now) one =
+    subst (λ (kept : KeptFile). Follows kept one) c.index_mut.ensures.value c.read_file.ensures.follows in
     follow-sources c.args.files.now.items (set files place one)
     (follow-set c.args.files.now.items files place c.index_mut.result.now one inside c.loop-place.invariant.follow is)
 

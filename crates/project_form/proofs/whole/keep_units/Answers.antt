@@ -16,6 +16,9 @@ loop-file-preserved c =
     let kept : c.keep_unit.new.self ≡ with_parse one = search rules in
     let next : into_iter_items c.loop-file.units ≡ c.in-Some.unit ∷ into_iter_items c.next.new.self = search rules in
     record {
-      files = ap (λ f. slice_set so_far place f) kept ∙ map_over_more with_parse files so_far place one inside c.loop-file.invariant.files c.file-item.is;
-      units = units-left files (into_iter_items c.loop-file.units) (into_iter_items c.next.new.self) place one c.in-Some.unit inside next c.loop-file.invariant.units;
+      files = ap (λ f. slice_set so_far place f) kept
+          ∙ map_over_more with_parse files so_far place one inside c.loop-file.invariant.files c.file-item.is;
+      units =
+          units-left files (into_iter_items c.loop-file.units)
+          (into_iter_items c.next.new.self) place one c.in-Some.unit inside next c.loop-file.invariant.units;
     }

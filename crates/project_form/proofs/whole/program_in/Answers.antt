@@ -7,4 +7,5 @@ use Rattle.project_form.specs.Parts.{IsLowerable}
 use Rattle.project_form.proofs.whole.program_in.Goals as goal
 
 pub lowered_files-requires-clause-lowerable : goal.lowered_files-requires-clause-lowerable
-lowered_files-requires-clause-lowerable c = subst (λ (units : List UnitValue). All IsLowerable (files_of units)) (sym c.in_ok-typed.ensures.units) c.requires.lowerable
+lowered_files-requires-clause-lowerable c =
+    subst (λ (units : List UnitValue). All IsLowerable (files_of units)) (sym c.in_ok-typed.ensures.units) c.requires.lowerable

@@ -38,7 +38,8 @@ pub program_in-program-requires-clause-lowerable : goal.program_in-program-requi
 program_in-program-requires-clause-lowerable c =
     let units : c.as_slice-2.result.now ≡ c.in_ok-units.units.items = search rules in
     subst (λ (us : List UnitValue). All IsLowerable (map unit_tree us)) (sym units)
-    (units-lowerable c.parsed_files_are_texts.ensures c.args.files.now c.in_ok-units.units.items c.requires.files c.in_ok-units.ensures.units)
+    (units-lowerable c.parsed_files_are_texts.ensures c.args.files.now c.in_ok-units.units.items c.requires.files
+    c.in_ok-units.ensures.units)
 
 pub keep_units-requires : goal.keep_units-requires
 keep_units-requires c =
@@ -49,14 +50,17 @@ pub returns-clause-program : goal.returns-clause-program
 returns-clause-program c =
     let names : c.as_slice.result.now ≡ names_of (sources_of c.args.files.now) = search rules in
     let units : c.as_slice-2.result.now ≡ c.in_ok-units.units.items = search rules in
-    program-reads c.program_in-program.result c.args.files.now c.in_ok-units.units.items c.as_slice-2.result.now c.as_slice.result.now names units c.in_ok-units.ensures.units c.program_in-program.ensures.program
+    program-reads c.program_in-program.result c.args.files.now c.in_ok-units.units.items c.as_slice-2.result.now c.as_slice.result.now names
+    units c.in_ok-units.ensures.units c.program_in-program.ensures.program
 
 pub returns-clause-fault : goal.returns-clause-fault
 returns-clause-fault c =
     let names : c.as_slice.result.now ≡ names_of (sources_of c.args.files.now) = search rules in
     let units : c.as_slice-2.result.now ≡ c.in_ok-units.units.items = search rules in
-    fault-reads c.program_in-program.result c.args.files.now c.in_ok-units.units.items c.as_slice-2.result.now c.as_slice.result.now names units c.in_ok-units.ensures.units c.program_in-program.ensures.fault
+    fault-reads c.program_in-program.result c.args.files.now c.in_ok-units.units.items c.as_slice-2.result.now c.as_slice.result.now names
+    units c.in_ok-units.ensures.units c.program_in-program.ensures.fault
 
 pub returns-clause-same : goal.returns-clause-same
 returns-clause-same c =
-    c.keep_units.ensures ∙ ap (λ (files : List KeptFile). map with_parse files) c.in_ok-units.ensures.taken ∙ parses-back c.args.files.now c.requires.kept
+    c.keep_units.ensures ∙ ap (λ (files : List KeptFile). map with_parse files) c.in_ok-units.ensures.taken
+    ∙ parses-back c.args.files.now c.requires.kept

@@ -31,7 +31,9 @@ returns-in-None-clause-kept c =
     let read = c.read_files.new.files.items in
     let files = c.program_of.new.files in
     let none : option_or c.in_ok-firsts.firsts.tokens c.in_ok-firsts.firsts.syntax ≡ None = search rules in
-    let same = written-back read c.as_mut_slice.result.now files c.read_files.new.files.len c.as_mut_slice.ensures.value c.program_of.ensures.same c.as_mut_slice.ensures.len in
+    let same =
+    written-back read c.as_mut_slice.result.now files c.read_files.new.files.len c.as_mut_slice.ensures.value c.program_of.ensures.same
+    c.as_mut_slice.ensures.len in
     subst (λ (files : List KeptFile). OnOk c.program_of.result (AreAllKept files)) (sym same)
     (ok_any c.program_of.result (AreAllKept read) (noted-all_kept read c.in_ok-firsts.firsts c.in_ok-firsts.ensures.noted none))
 
@@ -39,6 +41,8 @@ pub returns-in-None-clause-kept_behind_refusal : goal.returns-in-None-clause-kep
 returns-in-None-clause-kept_behind_refusal c =
     let read = c.read_files.new.files.items in
     let files = c.program_of.new.files in
-    let same = written-back read c.as_mut_slice.result.now files c.read_files.new.files.len c.as_mut_slice.ensures.value c.program_of.ensures.same c.as_mut_slice.ensures.len in
+    let same =
+    written-back read c.as_mut_slice.result.now files c.read_files.new.files.len c.as_mut_slice.ensures.value c.program_of.ensures.same
+    c.as_mut_slice.ensures.len in
     subst (λ (files : List KeptFile). IfErr c.program_of.result (λ fault. KeepsWhatIsRead files fault)) (sym same)
     (keeps-read c.program_of.result read (noted-kept read c.in_ok-firsts.firsts c.in_ok-firsts.ensures.noted))

@@ -20,9 +20,11 @@ loop-file-preserved c =
     let read : IsUnitOf one.file.bytes (unit_tree c.take_unit.result) = search rules in
     let more : c.push_reserved.new.self.items ≡ c.loop-file.units.items ++ c.take_unit.result ∷ [] = search rules in
     record {
-      files = ap (λ f. slice_set so_far place f) without ∙ map_over_more without_parse files so_far place one inside c.loop-file.invariant.files c.file-item.is;
+      files = ap (λ f. slice_set so_far place f) without
+          ∙ map_over_more without_parse files so_far place one inside c.loop-file.invariant.files c.file-item.is;
       units = subst (λ (units : List UnitValue). AreUnits (take (place + 1) files) units) (sym more)
-          (units-taken files so_far c.loop-file.units.items place one c.take_unit.result inside c.loop-file.invariant.files c.file-item.is c.loop-file.invariant.units read);
+          (units-taken files so_far c.loop-file.units.items place one c.take_unit.result inside c.loop-file.invariant.files c.file-item.is
+          c.loop-file.invariant.units read);
       len = search rules;
       room = search rules;
     }

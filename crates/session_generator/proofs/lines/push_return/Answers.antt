@@ -11,6 +11,7 @@ returns c =
     IfOk-weaker c.push_callee.result
     (λ _. c.push_callee.new.text.items ≡ c.push_named.new.text.items ++ (proc_name (c.args.number - 2) ++ codes "(x); }\n"))
     (λ _. c.push_callee.new.text.items ≡ c.args.text.now.items ++ return_line c.args.number)
-    (λ _ is. joined c.args.text.now.items c.push_named.new.text.items c.push_callee.new.text.items (codes "int " ++ proc_name c.args.number ++ codes "(struct cell *x) { return ")
+    (λ _ is. joined c.args.text.now.items c.push_named.new.text.items c.push_callee.new.text.items
+    (codes "int " ++ proc_name c.args.number ++ codes "(struct cell *x) { return ")
     (proc_name (c.args.number - 2)) (codes "(x); }\n") c.in_ok-push_named.ensures is)
     c.push_callee.ensures

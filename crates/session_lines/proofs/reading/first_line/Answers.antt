@@ -9,5 +9,8 @@ returns-else-place-le-MOST_LINE_BYTES-clause-ends g c =
     (absent_front 10 257 c.in-Some.place c.loop-place.ahead (omega arith) at.first, omega (arith, at.within))
 
 pub returns-then-bytes-gt-MOST_LINE_BYTES-clause-ends : goal.returns-then-bytes-gt-MOST_LINE_BYTES-clause-ends
-returns-then-bytes-gt-MOST_LINE_BYTES-clause-ends g c =
-    (absent_in_front 10 257 c.loop-place.ahead (rw c.bytes.ensures.value at c.in_default.ensures.none), omega (arith, ap length c.bytes-in-loop-place.ensures.value))
+returns-then-bytes-gt-MOST_LINE_BYTES-clause-ends g c = (
+  absent_in_front 10 257 c.loop-place.ahead (rw c.bytes.ensures.value at c.in_default.ensures.none),
+  omega
+      (arith, ap length c.bytes-in-loop-place.ensures.value),
+)

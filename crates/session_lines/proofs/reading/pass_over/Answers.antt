@@ -17,7 +17,9 @@ loop-count-preserved g c =
       within = omega arith;
       stream = (
         inv.stream.0 ++ take c.min-some.result ahead,
-        more_taken inv.stream.0 c.min-some.result ahead _ _ _ inv.stream.1 c.fill_if_empty.ensures.stream ∙ ap (λ xs. before_left (inv.stream.0 ++ take c.min-some.result ahead) (before_left xs (g.S.Source.left c.fill_if_empty.new.source))) (sym c.skip.ensures),
+        more_taken inv.stream.0 c.min-some.result ahead _ _ _ inv.stream.1 c.fill_if_empty.ensures.stream
+            ∙ ap (λ xs. before_left (inv.stream.0 ++ take c.min-some.result ahead)
+            (before_left xs (g.S.Source.left c.fill_if_empty.new.source))) (sym c.skip.ensures),
         length_taken inv.stream.0 ahead c.min-some.result within ∙ ap (λ n. n + c.min-some.result) inv.stream.2,
       );
       never_falls = omega (arith, c.fill_if_empty.ensures.never_falls, inv.never_falls);

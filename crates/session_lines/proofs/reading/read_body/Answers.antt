@@ -17,7 +17,8 @@ loop-ahead-preserved g c =
     let within : count ≤ length ahead = omega arith in
     let skipped = ap length c.skip.ensures in
     let dropped = length-drop count ahead in
-    let added : c.extend_from_slice.new.self.items ≡ c.loop-ahead.bytes.items ++ take count ahead = grind (arith, common_steps, c.in_ok-extend_from_slice.ensures.items, c.bytes-in-loop-ahead.ensures.value) in
+    let added : c.extend_from_slice.new.self.items ≡ c.loop-ahead.bytes.items ++ take count ahead =
+    grind (arith, common_steps, c.in_ok-extend_from_slice.ensures.items, c.bytes-in-loop-ahead.ensures.value) in
     let longer = c.in_ok-extend_from_slice.ensures.len in
     record {
       within = omega (arith, ap length added, length_taken c.loop-ahead.bytes.items ahead count within);
@@ -28,6 +29,9 @@ loop-ahead-preserved g c =
       never_falls = omega (arith, c.fill_if_empty.ensures.never_falls, inv.never_falls);
       unread = λ all.
           let (same, enough) = inv.unread all in
-          let kept = c.fill_if_empty.ensures.unread (omega (arith, enough, c.loop-ahead-test.true)) in
-          (kept.0 ∙ same, omega (arith, ap length kept.1, enough, ap length added, length_taken c.loop-ahead.bytes.items ahead count within));
+          let kept = c.fill_if_empty.ensures.unread (omega (arith, enough, c.loop-ahead-test.true)) in (
+            kept.0 ∙ same,
+            omega
+                (arith, ap length kept.1, enough, ap length added, length_taken c.loop-ahead.bytes.items ahead count within),
+          );
     }

@@ -6,7 +6,8 @@ use Rattle.session_lines.proofs.reading.read_body.Given as goal
 abbrev pub invariant-loop-ahead : goal.invariant-loop-ahead
 invariant-loop-ahead g l = record {
   within : vec_len l.bytes ≤ l.size;
-  stream : before_left l.fn.ahead (g.S.Source.left l.fn.source) ≡ before_left l.bytes.items (before_left l.ahead (g.S.Source.left l.source));
+  stream : before_left l.fn.ahead (g.S.Source.left l.fn.source)
+      ≡ before_left l.bytes.items (before_left l.ahead (g.S.Source.left l.source));
   never_falls : g.S.Source.faults l.fn.source ≤ g.S.Source.faults l.source;
   unread : l.size ≤ length l.fn.ahead → (l.source ≡ l.fn.source) × (l.size ≤ vec_len l.bytes + length l.ahead);
 }

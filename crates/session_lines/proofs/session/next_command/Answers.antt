@@ -1,12 +1,14 @@
 -- What stands first in the stream was taken, or is no command; and where all of it stood ahead, nothing was read.
-use Rattle.std.proofs.Common.{◌≡◌, ◌≢◌, ◌∙◌, ◌+◌, ◌<◌, List, ℕ, [], ◌++◌, Option, Some, sym, ap, arith, refl, inr, length, take, drop, subst}
+use Rattle.std.proofs.Common.{◌≡◌, ◌≢◌, ◌∙◌, ◌+◌, ◌<◌, List, ℕ, [], ◌++◌, Option, Some, sym, ap, arith, refl, inr, length, take, drop}
+use Rattle.std.proofs.Common.{subst}
 use Rattle.std.proofs.lemmas.Result.{IfOk-weaker}
 use Rattle.std.specs.Prelude.{IfSome}
 use Rattle.io_ports.specs.Bytes.{before_left}
 use Rattle.session_lines.specs.Lines.{line_text}
 use Rattle.session_lines.specs.Parts.{IsLineIn, IsNoCommand, TakesLine}
 use Rattle.session_lines.specs.Reading.{IsCounted, Reading, Takes, stream_left}
-use Rattle.session_lines.proofs.FirstLemmas.{cut_at, ended_size, if_told, last_cut, line_counted, line_takes, none_counted, long_ahead, nothing_behind}
+use Rattle.session_lines.proofs.FirstLemmas.{cut_at, ended_size, if_told, last_cut, line_counted, line_takes, none_counted, long_ahead}
+use Rattle.session_lines.proofs.FirstLemmas.{nothing_behind}
 use Rattle.session_lines.proofs.LineLemmas.{not_absent}
 use Rattle.session_lines.proofs.Streams.{not_empty}
 use Rattle.session_lines.proofs.session.next_command.Goals as goal
@@ -24,22 +26,29 @@ returns-in_ok-line-in-Ended-clause-takes g c =
     let ends = rw c.in-Ended.is at c.in_ok-place.ensures.ends in
     let taken = ap (λ (r : Reading). r.taken) c.commands.view_is in
     let few : c.args.commands.now.taken < 65536 = omega (arith, c.commands.invariant) in
-    let is_found : IsLineIn (take place ahead) found = subst (λ (xs : List ℕ). IsLineIn (take place xs) found) c.bytes.ensures.value c.in_ok-line-in-Ended.ensures in
+    let is_found : IsLineIn (take place ahead) found =
+    subst (λ (xs : List ℕ). IsLineIn (take place xs) found) c.bytes.ensures.value c.in_ok-line-in-Ended.ensures in
     if_told _ _ (λ stream told.
     let told' : before_left ahead left ≡ Some stream =
     sym c.first_line.ensures.stream ∙ ap (λ xs. before_left xs (g.S.Source.left c.args.source.now)) same ∙ told in
     let cut = cut_at stream ahead place left told' ends.0 in
     IfOk-weaker c.take_line.result (TakesLine found (place + 1) _ new before after) (Takes c.args.commands.now new stream after)
     (λ answer takes. line_takes found (place + 1) c.args.commands.now _ new before after answer stream (take place ahead) cut.behind
-    (ap (λ (r : Reading). r.taken) c.commands.view_is) (ap (λ (r : Reading). r.offset) c.commands.view_is) few is_found cut.cut ends.0.first cut.told cut.whole cut.some takes)
+    (ap (λ (r : Reading). r.taken) c.commands.view_is)
+    (ap (λ (r : Reading). r.offset) c.commands.view_is) few is_found cut.cut ends.0.first cut.told cut.whole cut.some takes)
     c.take_line.ensures.takes)
 
 pub returns-in_ok-line-in-Ended-clause-unread : goal.returns-in_ok-line-in-Ended-clause-unread
 returns-in_ok-line-in-Ended-clause-unread g c = λ line body rest allowed whole ended.
     let same : c.commands.inside.ahead ≡ c.args.commands.now.ahead = ap (λ (r : Reading). r.ahead) c.commands.view_is in
-    let (kept, unread) = c.first_line.ensures.unread (λ absent. not_absent 10 (line_text line) (body ++ rest) c.commands.inside.ahead (same ∙ ended) absent) in
+    let (kept, unread) =
+    c.first_line.ensures.unread (λ absent. not_absent 10 (line_text line) (body ++ rest) c.commands.inside.ahead (same ∙ ended) absent) in
     let ends = rw c.in-Ended.is at c.in_ok-place.ensures.ends in
-    let (is, size) = ended_size c.first_line.new.ahead c.in-Ended.place line body rest c.in_ok-line-in-Ended.line ends.0 (subst (λ (xs : List ℕ). IsLineIn (take c.in-Ended.place xs) c.in_ok-line-in-Ended.line) c.bytes.ensures.value c.in_ok-line-in-Ended.ensures) allowed whole (kept ∙ same ∙ ended) in
+    let (is, size) =
+    ended_size c.first_line.new.ahead c.in-Ended.place line body rest c.in_ok-line-in-Ended.line ends.0
+    (subst (λ (xs : List ℕ). IsLineIn
+    (take c.in-Ended.place xs) c.in_ok-line-in-Ended.line) c.bytes.ensures.value c.in_ok-line-in-Ended.ensures) allowed whole
+    (kept ∙ same ∙ ended) in
     let quiet = rw is at c.take_line.ensures.unread in
     quiet size ∙ unread
 
@@ -56,7 +65,8 @@ returns-in_ok-line-in-Last-clause-takes g c =
     let ends = rw c.in-Last.is at c.in_ok-place.ensures.ends in
     let taken = ap (λ (r : Reading). r.taken) c.commands.view_is in
     let few : c.args.commands.now.taken < 65536 = omega (arith, c.commands.invariant) in
-    let is_found : IsLineIn ahead found = subst (λ (xs : List ℕ). IsLineIn xs found) c.bytes-in-Last.ensures.value c.in_ok-line-in-Last.ensures in
+    let is_found : IsLineIn ahead found =
+    subst (λ (xs : List ℕ). IsLineIn xs found) c.bytes-in-Last.ensures.value c.in_ok-line-in-Last.ensures in
     let none = c.in_ok-place.ensures.last c.in-Last.is in
     if_told _ _ (λ stream told.
     let told' : before_left ahead left ≡ Some stream =
@@ -117,9 +127,12 @@ returns-in_ok-line-in-Ended-clause-counted g c =
     let found = c.in_ok-line-in-Ended.line in
     let taken = ap (λ (r : Reading). r.taken) c.commands.view_is in
     let few : c.args.commands.now.taken < 65536 = omega (arith, c.commands.invariant) in
-    let is_found : IsLineIn (take place ahead) found = subst (λ (xs : List ℕ). IsLineIn (take place xs) found) c.bytes.ensures.value c.in_ok-line-in-Ended.ensures in
-    IfOk-weaker c.take_line.result (TakesLine found (place + 1) _ c.take_line.new.commands _ _) (IsCounted c.args.commands.now c.take_line.new.commands)
-    (λ answer takes. line_counted found (place + 1) c.args.commands.now _ c.take_line.new.commands _ _ answer (take place ahead) taken (ap (λ (r : Reading). r.offset) c.commands.view_is) few is_found takes)
+    let is_found : IsLineIn (take place ahead) found =
+    subst (λ (xs : List ℕ). IsLineIn (take place xs) found) c.bytes.ensures.value c.in_ok-line-in-Ended.ensures in
+    IfOk-weaker c.take_line.result (TakesLine found (place + 1) _ c.take_line.new.commands _ _)
+    (IsCounted c.args.commands.now c.take_line.new.commands)
+    (λ answer takes. line_counted found (place + 1) c.args.commands.now _ c.take_line.new.commands _ _ answer (take place ahead) taken
+    (ap (λ (r : Reading). r.offset) c.commands.view_is) few is_found takes)
     c.take_line.ensures.takes
 
 pub returns-in_ok-line-in-Last-clause-counted : goal.returns-in_ok-line-in-Last-clause-counted
@@ -129,9 +142,12 @@ returns-in_ok-line-in-Last-clause-counted g c =
     let found = c.in_ok-line-in-Last.line in
     let taken = ap (λ (r : Reading). r.taken) c.commands.view_is in
     let few : c.args.commands.now.taken < 65536 = omega (arith, c.commands.invariant) in
-    let is_found : IsLineIn ahead found = subst (λ (xs : List ℕ). IsLineIn xs found) c.bytes-in-Last.ensures.value c.in_ok-line-in-Last.ensures in
-    IfOk-weaker c.take_line-in-Last.result (TakesLine found size _ c.take_line-in-Last.new.commands _ _) (IsCounted c.args.commands.now c.take_line-in-Last.new.commands)
-    (λ answer takes. line_counted found size c.args.commands.now _ c.take_line-in-Last.new.commands _ _ answer ahead taken (ap (λ (r : Reading). r.offset) c.commands.view_is) few is_found takes)
+    let is_found : IsLineIn ahead found =
+    subst (λ (xs : List ℕ). IsLineIn xs found) c.bytes-in-Last.ensures.value c.in_ok-line-in-Last.ensures in
+    IfOk-weaker c.take_line-in-Last.result (TakesLine found size _ c.take_line-in-Last.new.commands _ _)
+    (IsCounted c.args.commands.now c.take_line-in-Last.new.commands)
+    (λ answer takes. line_counted found size c.args.commands.now _ c.take_line-in-Last.new.commands _ _ answer ahead taken
+    (ap (λ (r : Reading). r.offset) c.commands.view_is) few is_found takes)
     c.take_line-in-Last.ensures.takes
 
 pub returns-in_err-place-clause-unread : goal.returns-in_err-place-clause-unread
@@ -158,4 +174,5 @@ pub returns-then-commands-eq-MOST_COMMANDS-clause-counted : goal.returns-then-co
 returns-then-commands-eq-MOST_COMMANDS-clause-counted g c =
     let new : Reading = record { ahead = c.end_or_full.new.ahead; taken = c.commands.inside.taken; offset = c.commands.inside.offset } in
     IfOk-weaker c.end_or_full.result IsNoCommand (IsCounted c.args.commands.now new)
-    (none_counted c.args.commands.now new (ap (λ (r : Reading). r.taken) c.commands.view_is) (ap (λ (r : Reading). r.offset) c.commands.view_is)) c.end_or_full.ensures.no_command
+    (none_counted c.args.commands.now new (ap (λ (r : Reading). r.taken) c.commands.view_is)
+    (ap (λ (r : Reading). r.offset) c.commands.view_is)) c.end_or_full.ensures.no_command

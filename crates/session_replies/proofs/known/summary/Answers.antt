@@ -11,26 +11,49 @@ use Rattle.session_replies.proofs.known.summary.Goals as goal
 
 pub unreachable-requires : goal.unreachable-requires
 unreachable-requires g c =
-    let own = shown c.args.loaded.now (c.each_is_reported.ensures.looked_up c.args.loaded.now (c.stored_are_right.ensures c.args.loaded.now c.requires.loaded)).formed c.args.program.now.value c.requires.formed c.args.name.now c.requires.defined in
+    let own =
+    shown c.args.loaded.now
+    (c.each_is_reported.ensures.looked_up c.args.loaded.now
+    (c.stored_are_right.ensures c.args.loaded.now c.requires.loaded)).formed c.args.program.now.value c.requires.formed c.args.name.now
+    c.requires.defined in
     let none : None ≡ Some own.summary =
     sym c.in-None.is ∙ c.in_ok-summary.ensures ∙ ap (λ kept. summary_among (answers_kept kept) c.args.name.now) c.deref.ensures.value ∙
-    ap (λ answers. summary_among answers c.args.name.now) (answers_aimed (lookup c.args.loaded.now) c.args.program.now.value (One c.in_ok-copy_of.field-0) c.in_ok-kept.kept.items c.in_ok-kept.ensures.known) ∙
-    ap (λ name. summary_among (aimed_answers (lookup c.args.loaded.now) c.args.program.now.value (One name)) c.args.name.now) c.in_ok-copy_of.ensures ∙ own.among in
+    ap (λ answers. summary_among answers c.args.name.now)
+    (answers_aimed (lookup c.args.loaded.now) c.args.program.now.value
+    (One c.in_ok-copy_of.field-0) c.in_ok-kept.kept.items c.in_ok-kept.ensures.known) ∙
+    ap (λ name. summary_among
+    (aimed_answers (lookup c.args.loaded.now) c.args.program.now.value (One name)) c.args.name.now) c.in_ok-copy_of.ensures ∙ own.among in
     absurd cc
 
 pub returns-clause-value : goal.returns-clause-value
 returns-clause-value g c =
-    let own = shown c.args.loaded.now (c.each_is_reported.ensures.looked_up c.args.loaded.now (c.stored_are_right.ensures c.args.loaded.now c.requires.loaded)).formed c.args.program.now.value c.requires.formed c.args.name.now c.requires.defined in
+    let own =
+    shown c.args.loaded.now
+    (c.each_is_reported.ensures.looked_up c.args.loaded.now
+    (c.stored_are_right.ensures c.args.loaded.now c.requires.loaded)).formed c.args.program.now.value c.requires.formed c.args.name.now
+    c.requires.defined in
     own.known ∙
     sym (sym c.in-Some.is ∙ c.in_ok-summary.ensures ∙ ap (λ kept. summary_among (answers_kept kept) c.args.name.now) c.deref.ensures.value ∙
-    ap (λ answers. summary_among answers c.args.name.now) (answers_aimed (lookup c.args.loaded.now) c.args.program.now.value (One c.in_ok-copy_of.field-0) c.in_ok-kept.kept.items c.in_ok-kept.ensures.known) ∙
-    ap (λ name. summary_among (aimed_answers (lookup c.args.loaded.now) c.args.program.now.value (One name)) c.args.name.now) c.in_ok-copy_of.ensures ∙ own.among)
+    ap (λ answers. summary_among answers c.args.name.now)
+    (answers_aimed (lookup c.args.loaded.now) c.args.program.now.value
+    (One c.in_ok-copy_of.field-0) c.in_ok-kept.kept.items c.in_ok-kept.ensures.known) ∙
+    ap (λ name. summary_among
+    (aimed_answers (lookup c.args.loaded.now) c.args.program.now.value (One name)) c.args.name.now) c.in_ok-copy_of.ensures ∙ own.among)
 
 pub returns-clause-printable : goal.returns-clause-printable
 returns-clause-printable g c =
-    let own = shown c.args.loaded.now (c.each_is_reported.ensures.looked_up c.args.loaded.now (c.stored_are_right.ensures c.args.loaded.now c.requires.loaded)).formed c.args.program.now.value c.requires.formed c.args.name.now c.requires.defined in
-    named_is_printable c.each_is_reported.ensures.solved c.args.loaded.now (c.stored_are_right.ensures c.args.loaded.now c.requires.loaded) c.args.program.now.value c.requires.formed c.formed_is_printable.ensures c.args.name.now c.in-Some.summary
+    let own =
+    shown c.args.loaded.now
+    (c.each_is_reported.ensures.looked_up c.args.loaded.now
+    (c.stored_are_right.ensures c.args.loaded.now c.requires.loaded)).formed c.args.program.now.value c.requires.formed c.args.name.now
+    c.requires.defined in
+    named_is_printable c.each_is_reported.ensures.solved c.args.loaded.now
+    (c.stored_are_right.ensures c.args.loaded.now c.requires.loaded) c.args.program.now.value c.requires.formed
+    c.formed_is_printable.ensures c.args.name.now c.in-Some.summary
     (own.known ∙
     sym (sym c.in-Some.is ∙ c.in_ok-summary.ensures ∙ ap (λ kept. summary_among (answers_kept kept) c.args.name.now) c.deref.ensures.value ∙
-    ap (λ answers. summary_among answers c.args.name.now) (answers_aimed (lookup c.args.loaded.now) c.args.program.now.value (One c.in_ok-copy_of.field-0) c.in_ok-kept.kept.items c.in_ok-kept.ensures.known) ∙
-    ap (λ name. summary_among (aimed_answers (lookup c.args.loaded.now) c.args.program.now.value (One name)) c.args.name.now) c.in_ok-copy_of.ensures ∙ own.among))
+    ap (λ answers. summary_among answers c.args.name.now)
+    (answers_aimed (lookup c.args.loaded.now) c.args.program.now.value
+    (One c.in_ok-copy_of.field-0) c.in_ok-kept.kept.items c.in_ok-kept.ensures.known) ∙
+    ap (λ name. summary_among
+    (aimed_answers (lookup c.args.loaded.now) c.args.program.now.value (One name)) c.args.name.now) c.in_ok-copy_of.ensures ∙ own.among))

@@ -14,6 +14,9 @@ loop-number-preserved c =
     let here : number < length places = search rules in
     let put : c.push.new.self.items ≡ c.loop-number.all.items ++ entry ∷ [] = search rules in
     let told = c.in_ok-of.ensures in
-    let at : summary_in (answers_kept c.args.kept.now) (get_or places number place) ≡ Some entry.summary = sym c.answer_at-answer.ensures ∙ told.0 in
+    let at : summary_in (answers_kept c.args.kept.now) (get_or places number place) ≡ Some entry.summary =
+    sym c.answer_at-answer.ensures ∙ told.0 in
     put ∙ ap (λ all. all ++ entry ∷ []) c.loop-number.invariant ∙
-    told_more (summary_in (answers_kept c.args.kept.now)) c.args.procs.now places number c.index-procs-number.result place entry c.requires.one_each c.requires.there here c.index-procs-number.is at told.1
+    told_more (summary_in
+    (answers_kept c.args.kept.now)) c.args.procs.now places number c.index-procs-number.result place entry c.requires.one_each
+    c.requires.there here c.index-procs-number.is at told.1

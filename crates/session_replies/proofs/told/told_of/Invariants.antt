@@ -5,4 +5,5 @@ use Rattle.session_replies.specs.Entries.{entries_over}
 use Rattle.session_replies.proofs.told.told_of.Given as goal
 
 abbrev pub invariant-loop-number : goal.invariant-loop-number
-invariant-loop-number l = l.all.items ≡ entries_over (take l.number l.procs) (filter_map (summary_in (answers_kept l.kept)) (take l.number l.places))
+invariant-loop-number l = l.all.items
+    ≡ entries_over (take l.number l.procs) (filter_map (summary_in (answers_kept l.kept)) (take l.number l.places))

@@ -3,13 +3,22 @@ use Rattle.shape_laws.proofs.ContainingHolds.{holds-alike}
 use Rattle.shape_laws.proofs.structures.meets_alike.Goals as goal
 
 pub returns-clause-heap : goal.returns-clause-heap
-returns-clause-heap c = λ structs others s heap shape is_heap is_other.
-    (λ meets. (meets.0, meets.1, holds-alike structs others meets.0 heap shape is_other meets.2), λ meets. (meets.0, meets.1, holds-alike others structs meets.0 heap shape is_heap meets.2))
+returns-clause-heap c = λ structs others s heap shape is_heap is_other. (
+  λ meets. (meets.0, meets.1, holds-alike structs others meets.0 heap shape is_other meets.2),
+  λ meets.
+      (meets.0, meets.1, holds-alike others structs meets.0 heap shape is_heap meets.2),
+)
 
 pub returns-clause-state : goal.returns-clause-state
-returns-clause-state c = λ structs others s locals heap state is_heap is_other.
-    (λ meets. (meets.0, meets.1, meets.2, holds-alike structs others meets.0 heap state.heap is_other meets.3), λ meets. (meets.0, meets.1, meets.2, holds-alike others structs meets.0 heap state.heap is_heap meets.3))
+returns-clause-state c = λ structs others s locals heap state is_heap is_other. (
+  λ meets. (meets.0, meets.1, meets.2, holds-alike structs others meets.0 heap state.heap is_other meets.3),
+  λ meets.
+      (meets.0, meets.1, meets.2, holds-alike others structs meets.0 heap state.heap is_heap meets.3),
+)
 
 pub returns-clause-post : goal.returns-clause-post
-returns-clause-post c = λ structs others s ret heap post is_heap is_other.
-    (λ meets. (meets.0, meets.1, meets.2, holds-alike structs others meets.0 heap post.heap is_other meets.3), λ meets. (meets.0, meets.1, meets.2, holds-alike others structs meets.0 heap post.heap is_heap meets.3))
+returns-clause-post c = λ structs others s ret heap post is_heap is_other. (
+  λ meets. (meets.0, meets.1, meets.2, holds-alike structs others meets.0 heap post.heap is_other meets.3),
+  λ meets.
+      (meets.0, meets.1, meets.2, holds-alike others structs meets.0 heap post.heap is_heap meets.3),
+)

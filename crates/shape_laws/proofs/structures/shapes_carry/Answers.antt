@@ -1,4 +1,5 @@
-use Rattle.shape_laws.proofs.ContainingShapes.{atom-carries, callee-carries, callees-carry, cert-carries, post-carries, spec-carries, state-carries, states-carry, summary-carries, sym_heap-carries}
+use Rattle.shape_laws.proofs.ContainingShapes.{atom-carries, callee-carries, callees-carry, cert-carries, post-carries, spec-carries}
+use Rattle.shape_laws.proofs.ContainingShapes.{state-carries, states-carry, summary-carries, sym_heap-carries}
 use Rattle.shape_laws.proofs.structures.shapes_carry.Goals as goal
 
 pub returns-clause-atom : goal.returns-clause-atom

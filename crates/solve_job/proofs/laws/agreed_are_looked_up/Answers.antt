@@ -8,7 +8,8 @@ use Rattle.solve_laws.specs.Solving.{solve}
 use Rattle.solve_job.specs.Solves.{Solves}
 use Rattle.solve_job.proofs.laws.agreed_are_looked_up.Goals as goal
 
-by_found : (one : Solution) → Solves one.key one.answer → (found : Option Answer) → IsFoundOrSolved found one.answer → one.answer ≡ unwrap_or found (solve one.key)
+by_found : (one : Solution) → Solves one.key one.answer → (found : Option Answer) → IsFoundOrSolved found one.answer
+    → one.answer ≡ unwrap_or found (solve one.key)
 by_found one solves (Some found) same = same
 by_found one (inl is) None fresh = is
 by_found one (inr stored) None fresh = let clash : true ≡ false = sym stored.stored ∙ fresh in absurd cc

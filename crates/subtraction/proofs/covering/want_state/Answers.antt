@@ -8,8 +8,10 @@ use Rattle.subtraction.proofs.covering.want_state.Goals as goal
 
 pub want_heap-requires-clause-room : goal.want_heap-requires-clause-room
 want_heap-requires-clause-room c =
-    owed_room (rules_in c.args.setting.now) c.args.slots.now c.args.m c.in-On.n (fields_of_all c.args.b.now.spatial) (sym c.in_ok-n.ensures ∙ c.in-On.is) c.requires.room
+    owed_room (rules_in c.args.setting.now) c.args.slots.now c.args.m c.in-On.n (fields_of_all c.args.b.now.spatial)
+    (sym c.in_ok-n.ensures ∙ c.in-On.is) c.requires.room
 
 pub want_heap-requires-clause-names : goal.want_heap-requires-clause-names
 want_heap-requires-clause-names c =
-    owed_names (rules_in c.args.setting.now) c.args.slots.now c.args.m c.in-On.n (names_of_all c.args.b.now.spatial) (sym c.in_ok-n.ensures ∙ c.in-On.is) c.requires.names
+    owed_names (rules_in c.args.setting.now) c.args.slots.now c.args.m c.in-On.n (names_of_all c.args.b.now.spatial)
+    (sym c.in_ok-n.ensures ∙ c.in-On.is) c.requires.names

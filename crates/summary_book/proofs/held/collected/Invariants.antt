@@ -8,4 +8,5 @@ use Rattle.claim_core.specs.Views.{solution_of}
 use Rattle.summary_book.proofs.held.collected.Given as goal
 
 abbrev pub invariant-loop-place : goal.invariant-loop-place
-invariant-loop-place l = map solution_of l.all.items ≡ map slot_solution (filter_map (settled_at (replay (events_of l.log))) (filter (marked l.aim) (range_with_len 0 l.place)))
+invariant-loop-place l = map solution_of l.all.items
+    ≡ map slot_solution (filter_map (settled_at (replay (events_of l.log))) (filter (marked l.aim) (range_with_len 0 l.place)))

@@ -7,4 +7,5 @@ use Rattle.summary_book.proofs.held.holds.Given as goal
 
 abbrev pub invariant-loop-row : goal.invariant-loop-row
 invariant-loop-row l =
-    (program : Program) (claims : List Out) (k : ℕ) (out : Out) → AreOut l.log program l.out claims → k < l.row-index → slice_get claims k ≡ Some out → is_claim l.claim out ≡ false
+    (program : Program) (claims : List Out) (k : ℕ) (out : Out) → AreOut l.log program l.out claims → k < l.row-index
+    → slice_get claims k ≡ Some out → is_claim l.claim out ≡ false

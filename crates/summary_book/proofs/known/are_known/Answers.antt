@@ -9,12 +9,15 @@ pub returns-then-not-is_known : goal.returns-then-not-is_known
 returns-then-not-is_known c = (
   λ h. cc,
   λ e.
-      let less : c.loop-place.place < length c.args.callees.now = (let t = c.loop-place-test.true in let f = c.if-outer-callees.false in omega (arith, t, f)) in
+      let less : c.loop-place.place < length c.args.callees.now =
+      (let t = c.loop-place-test.true in let f = c.if-outer-callees.false in omega (arith, t, f)) in
       let t =
       c.is_known.ensures.1
-      (at_both (known_row c.args.program.now c.args.log.now c.args.slots.now) c.args.outer.now c.args.callees.now c.loop-place.place _ c.index-callees-place.result e
+      (at_both (known_row c.args.program.now c.args.log.now c.args.slots.now) c.args.outer.now c.args.callees.now c.loop-place.place _
+      c.index-callees-place.result e
       (slice_get-get_or c.args.outer.now c.loop-place.place _ c.loop-place-test.true)
-      (slice_get-get_or c.args.callees.now c.loop-place.place c.index-callees-place.result less ∙ ap (λ x. Some x) (sym c.index-callees-place.is))) in
+      (slice_get-get_or c.args.callees.now c.loop-place.place c.index-callees-place.result less
+      ∙ ap (λ x. Some x) (sym c.index-callees-place.is))) in
       let f = c.if-not-is_known.true in
       cc,
 )

@@ -12,5 +12,6 @@ returns c =
     let same =
     ap (λ p. filter_map (slice_get (flows_of p)) c.deref-2.result.now) c.deref.ensures ∙
     ap (λ m. filter_map (slice_get (flows_of c.args.parts.now.program.value)) m) c.deref-2.ensures.value in
-    fit_again c.args.parts.now c.requires.parts c.args.place c.index.result.now c.args.key.now c.are_flows.result at c.requires.composed (λ t. sym c.deref-3.ensures ∙ c.are_flows.ensures.0 t ∙ same)
+    fit_again c.args.parts.now c.requires.parts c.args.place c.index.result.now c.args.key.now c.are_flows.result at c.requires.composed
+    (λ t. sym c.deref-3.ensures ∙ c.are_flows.ensures.0 t ∙ same)
     (λ e. c.are_flows.ensures.1 (c.deref-3.ensures ∙ e ∙ sym same))

@@ -13,8 +13,13 @@ returns c =
     let at = row_at items items c.args.place c.index.result.now refl c.requires.within c.index.ensures in
     let same =
     ap (λ p. key_over p.structs (filter_map (slice_get (flows_of p)) c.deref-2.result.now) c.args.key.now.callees) c.deref.ensures ∙
-    ap (λ m. key_over c.args.parts.now.program.value.structs (filter_map (slice_get (flows_of c.args.parts.now.program.value)) m) c.args.key.now.callees) c.deref-2.ensures.value in
+    ap (λ m. key_over c.args.parts.now.program.value.structs
+    (filter_map (slice_get (flows_of c.args.parts.now.program.value)) m) c.args.key.now.callees) c.deref-2.ensures.value in
     IfOk-weaker c.is_key_of.result
-    (λ is. IsTrue is ↔ (c.args.key.now ≡ key_over c.deref.result.now.structs (filter_map (slice_get (flows_of c.deref.result.now)) c.deref-2.result.now) c.args.key.now.callees))
+    (λ is. IsTrue is
+    ↔ (c.args.key.now
+    ≡ key_over c.deref.result.now.structs
+    (filter_map (slice_get (flows_of c.deref.result.now)) c.deref-2.result.now) c.args.key.now.callees))
     (λ fits. fits ≡ is_fit_at c.args.parts.now.program.value (Some c.args.place) c.args.key.now)
-    (λ fits is. fit_there c.args.parts.now c.requires.parts c.args.place c.index.result.now c.args.key.now fits at (λ t. is.0 t ∙ same) (λ e. is.1 (e ∙ sym same))) c.is_key_of.ensures
+    (λ fits is. fit_there c.args.parts.now c.requires.parts c.args.place c.index.result.now c.args.key.now fits at (λ t. is.0 t ∙ same)
+    (λ e. is.1 (e ∙ sym same))) c.is_key_of.ensures

@@ -7,5 +7,8 @@ use Rattle.summary_book.proofs.meeting.out_in.Goals as goal
 
 pub loop-row-preserved : goal.loop-row-preserved
 loop-row-preserved c =
-    subst (AllZip (IsMoved c.args.log.now c.args.new.now.program.value) (take (c.loop-row.row-index + 1) c.args.out.now)) (sym c.in_ok-push.ensures.items)
-    (zipped_more (IsMoved c.args.log.now c.args.new.now.program.value) c.args.out.now c.loop-row.moved.items c.loop-row.row-index _ c.in_ok-out_row_in.field-0 c.loop-row-test.true c.loop-row.invariant c.in_ok-out_row_in.ensures)
+    subst (AllZip (IsMoved c.args.log.now c.args.new.now.program.value) (take (c.loop-row.row-index + 1) c.args.out.now))
+    (sym c.in_ok-push.ensures.items)
+    (zipped_more
+    (IsMoved c.args.log.now c.args.new.now.program.value) c.args.out.now c.loop-row.moved.items c.loop-row.row-index _
+    c.in_ok-out_row_in.field-0 c.loop-row-test.true c.loop-row.invariant c.in_ok-out_row_in.ensures)

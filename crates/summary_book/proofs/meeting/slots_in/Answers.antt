@@ -20,8 +20,10 @@ locate-requires-clause-composed c = λ t.
     elim c.if-same.branch [
       | then-same w ↦
           slot_composed c.args.log.now c.args.old.now c.args.slots.now c.requires.sight c.args.new.now.program.value
-          (ap (λ (p : Program). p.structs) (sym c.deref.ensures) ∙ c.is_same-same.ensures.0 w.if-same.true ∙ ap (λ (p : Program). p.structs) c.deref-2.ensures) c.loop-place.place c.in-Some.row
-          c.in-Some-key_at.key.now c.loop-place-test.true (sym c.slot_at.ensures ∙ c.in-Some.is) (sym c.key_at.ensures ∙ ap option_copied c.in-Some-key_at.is) (sym w.locate-is ∙ t)
+          (ap (λ (p : Program). p.structs) (sym c.deref.ensures) ∙ c.is_same-same.ensures.0 w.if-same.true
+          ∙ ap (λ (p : Program). p.structs) c.deref-2.ensures) c.loop-place.place c.in-Some.row
+          c.in-Some-key_at.key.now c.loop-place-test.true (sym c.slot_at.ensures ∙ c.in-Some.is)
+          (sym c.key_at.ensures ∙ ap option_copied c.in-Some-key_at.is) (sym w.locate-is ∙ t)
       | else-same w ↦ not_both t (w.locate-is ∙ w.if-same.false)
     ]
 
@@ -35,17 +37,22 @@ loop-place-preserved c =
     let key_is : key_at log row.claimed ≡ Some key = sym c.key_at.ensures ∙ ap option_copied c.in-Some-key_at.is in
     elim c.match-at.branch [
       | in-Some-here w ↦
-          subst (λ l. AreFound log (replay (events_of log)).slots program c.args.slots.now l (c.loop-place.place + 1)) (sym (ap (λ v. v.items) w.kept-is))
-          (found_here log c.args.old.now.program.value program c.args.slots.now c.loop-place.kept.items c.loop-place.place c.requires.sight.program_is c.requires.sight.slots_are c.loop-place.invariant row key
+          subst (λ l. AreFound log (replay (events_of log)).slots program c.args.slots.now l (c.loop-place.place + 1))
+          (sym (ap (λ v. v.items) w.kept-is))
+          (found_here log c.args.old.now.program.value program c.args.slots.now c.loop-place.kept.items c.loop-place.place
+          c.requires.sight.program_is c.requires.sight.slots_are c.loop-place.invariant row key
           c.loop-place-test.true row_is key_is w.in-Some-here.here c.in_ok-at.at.fits (sym c.in_ok-at.ensures.here ∙ w.in-Some-here.is)
           (c.in_ok-at.ensures.fits ∙ ap (λ o. is_fit_at program o key) w.in-Some-here.is))
       | in_default-here w ↦
-          subst (λ l. AreFound log (replay (events_of log)).slots program c.args.slots.now l (c.loop-place.place + 1)) (sym (ap (λ v. v.items) w.kept-is))
-          (found_none log (replay (events_of log)).slots program c.args.slots.now c.loop-place.kept.items c.loop-place.place c.loop-place.invariant
+          subst (λ l. AreFound log (replay (events_of log)).slots program c.args.slots.now l (c.loop-place.place + 1))
+          (sym (ap (λ v. v.items) w.kept-is))
+          (found_none log
+          (replay (events_of log)).slots program c.args.slots.now c.loop-place.kept.items c.loop-place.place c.loop-place.invariant
           (λ one its is its_is.
           let row_same : one ≡ row = some_same (sym is ∙ row_is) in
           let key_same : its ≡ key = some_same (sym its_is ∙ ap (λ (r : SlotRow). key_at log r.claimed) row_same ∙ key_is) in
-          ap (λ (k : Key). place_named (program_components program) (names_of k.procs)) key_same ∙ sym c.in_ok-at.ensures.here ∙ w.in_default-here.is))
+          ap (λ (k : Key). place_named (program_components program) (names_of k.procs)) key_same ∙ sym c.in_ok-at.ensures.here
+          ∙ w.in_default-here.is))
     ]
 
 pub returns : goal.returns
@@ -54,4 +61,6 @@ returns c =
     let most = c.loop-place.auto.place-end in
     let end : c.loop-place.place ≡ length c.args.slots.now = omega (arith, past, most) in
     found_all c.args.log.now c.args.new.now.program.value c.args.slots.now c.loop-place.kept.items c.requires.sight.slots_are
-    (subst (AreFound c.args.log.now (replay (events_of c.args.log.now)).slots c.args.new.now.program.value c.args.slots.now c.loop-place.kept.items) end c.loop-place.invariant)
+    (subst (AreFound c.args.log.now
+    (replay (events_of c.args.log.now)).slots c.args.new.now.program.value c.args.slots.now c.loop-place.kept.items) end
+    c.loop-place.invariant)

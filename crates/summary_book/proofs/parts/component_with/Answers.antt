@@ -18,23 +18,32 @@ pub returns-then-has_name-clause-number : goal.returns-then-has_name-clause-numb
 returns-then-has_name-clause-number c =
     let items = c.args.parts.now.components.items in
     let row = c.component-item.result in
-    let at = row_at c.deref-component-items.result.now items c.loop-place.place row c.deref-component-items.ensures.value c.loop-place-test.true c.component-item.is in
+    let at =
+    row_at c.deref-component-items.result.now items c.loop-place.place row c.deref-component-items.ensures.value c.loop-place-test.true
+    c.component-item.is in
     sym
     (has_here c.args.parts.now c.requires c.args.name.now c.loop-place.place row at c.loop-place.invariant
-    (ap (λ p. has_name c.args.name.now (filter_map (slice_get (flows_of p)) row.members.items)) (sym c.deref.ensures) ∙ ap (λ m. has_name c.args.name.now (filter_map (slice_get (flows_of c.deref.result.now)) m)) (sym c.deref-in-loop-place.ensures.value) ∙
+    (ap (λ p. has_name c.args.name.now (filter_map (slice_get (flows_of p)) row.members.items)) (sym c.deref.ensures)
+    ∙ ap (λ m. has_name c.args.name.now (filter_map (slice_get (flows_of c.deref.result.now)) m)) (sym c.deref-in-loop-place.ensures.value)
+    ∙
     sym c.has_name.ensures ∙ c.if-has_name.true))
 
 pub loop-place-preserved : goal.loop-place-preserved
 loop-place-preserved c =
     let items = c.args.parts.now.components.items in
     let row = c.component-item.result in
-    let at = row_at c.deref-component-items.result.now items c.loop-place.place row c.deref-component-items.ensures.value c.loop-place-test.true c.component-item.is in
+    let at =
+    row_at c.deref-component-items.result.now items c.loop-place.place row c.deref-component-items.ensures.value c.loop-place-test.true
+    c.component-item.is in
     none_has_more c.args.parts.now c.requires c.args.name.now c.loop-place.place row at c.loop-place.invariant
-    (ap (λ p. has_name c.args.name.now (filter_map (slice_get (flows_of p)) row.members.items)) (sym c.deref.ensures) ∙ ap (λ m. has_name c.args.name.now (filter_map (slice_get (flows_of c.deref.result.now)) m)) (sym c.deref-in-loop-place.ensures.value) ∙
+    (ap (λ p. has_name c.args.name.now (filter_map (slice_get (flows_of p)) row.members.items)) (sym c.deref.ensures)
+    ∙ ap (λ m. has_name c.args.name.now (filter_map (slice_get (flows_of c.deref.result.now)) m)) (sym c.deref-in-loop-place.ensures.value)
+    ∙
     sym c.has_name.ensures ∙ c.if-has_name.false)
 
 pub returns-clause-number : goal.returns-clause-number
 returns-clause-number c =
     sym
     (none_has c.args.parts.now c.requires c.args.name.now
-    (λ k part lt at. c.loop-place.invariant k part (let past = c.loop-place-test.false in let e = ap length c.deref-component-items.ensures.value in omega (arith, past, lt, e)) at))
+    (λ k part lt at. c.loop-place.invariant k part
+    (let past = c.loop-place-test.false in let e = ap length c.deref-component-items.ensures.value in omega (arith, past, lt, e)) at))

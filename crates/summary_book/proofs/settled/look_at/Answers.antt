@@ -15,22 +15,29 @@ pub returns-else-is_some-clause-exact : goal.returns-else-is_some-clause-exact
 returns-else-is_some-clause-exact c = λ are.
     let world = replay (events_of c.args.log.now) in
     let marks = c.args.marks.now.items in
-    let unmarked : marked marks c.args.place ≡ false = ap (λ m. marked m c.args.place) (sym c.deref.ensures.value) ∙ sym c.is_marked.ensures ∙ c.if-is_marked.false in
-    let exact = c.settling.ensures.exact (subst (λ m. IsExactAt world m c.args.place) (sym c.deref-2.ensures.value) (exact_below world marks c.args.place are)) in
-    exact_same world marks c.args.place are (unmarked ∙ sym (some_number (settled_at world c.args.place) c.settling.result exact ∙ sym c.is_some.ensures ∙ c.if-is_some.false))
+    let unmarked : marked marks c.args.place ≡ false =
+    ap (λ m. marked m c.args.place) (sym c.deref.ensures.value) ∙ sym c.is_marked.ensures ∙ c.if-is_marked.false in
+    let exact =
+    c.settling.ensures.exact
+    (subst (λ m. IsExactAt world m c.args.place) (sym c.deref-2.ensures.value) (exact_below world marks c.args.place are)) in
+    exact_same world marks c.args.place are
+    (unmarked ∙ sym (some_number (settled_at world c.args.place) c.settling.result exact ∙ sym c.is_some.ensures ∙ c.if-is_some.false))
 
 pub returns-then-is_marked-clause-found : goal.returns-then-is_marked-clause-found
-returns-then-is_marked-clause-found c = λ exact settled. ap (λ m. marked m c.args.place) (sym c.deref.ensures.value) ∙ sym c.is_marked.ensures ∙ c.if-is_marked.true
+returns-then-is_marked-clause-found c =
+    λ exact settled. ap (λ m. marked m c.args.place) (sym c.deref.ensures.value) ∙ sym c.is_marked.ensures ∙ c.if-is_marked.true
 
 pub returns-then-is_some-clause-stay : goal.returns-then-is_some-clause-stay
 returns-then-is_some-clause-stay c = λ other mark.
     marked_still c.args.marks.now.items c.args.place other
-    (within_marks c.args.log.now c.args.parts.now c.args.slots.now c.requires.sight c.args.marks.now.items c.args.place c.requires.marks c.requires.place) mark
+    (within_marks c.args.log.now c.args.parts.now c.args.slots.now c.requires.sight c.args.marks.now.items c.args.place c.requires.marks
+    c.requires.place) mark
 
 pub returns-then-is_some-clause-found : goal.returns-then-is_some-clause-found
 returns-then-is_some-clause-found c = λ exact settled.
     get_or-set_same c.args.marks.now.items c.args.place true false
-    (within_marks c.args.log.now c.args.parts.now c.args.slots.now c.requires.sight c.args.marks.now.items c.args.place c.requires.marks c.requires.place)
+    (within_marks c.args.log.now c.args.parts.now c.args.slots.now c.requires.sight c.args.marks.now.items c.args.place c.requires.marks
+    c.requires.place)
 
 pub returns-else-is_some-clause-found : goal.returns-else-is_some-clause-found
 returns-else-is_some-clause-found c = λ exact settled.

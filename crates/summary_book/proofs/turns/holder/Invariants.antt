@@ -9,4 +9,5 @@ use Rattle.summary_book.proofs.turns.holder.Given as goal
 
 abbrev pub invariant-loop-row : goal.invariant-loop-row
 invariant-loop-row l =
-    (key : Key) (k : ℕ) (claim : Out) → IsDueAt (replay (events_of l.log)) l.place key → k < l.row-index → slice_get (replay (events_of l.log)).out k ≡ Some claim → key_test.0 claim.key key ≡ false
+    (key : Key) (k : ℕ) (claim : Out) → IsDueAt (replay (events_of l.log)) l.place key → k < l.row-index
+    → slice_get (replay (events_of l.log)).out k ≡ Some claim → key_test.0 claim.key key ≡ false

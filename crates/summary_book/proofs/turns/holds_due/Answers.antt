@@ -22,7 +22,9 @@ returns-then-not-is_same c = λ key claim due is.
     let row = there_row c.args.parts.now.components.items c.args.place c.requires.place in
     same_answers _ (key_test.0 claim.key key) (λ t. cc)
     (λ t.
-    let has = holds_out c.args.log.now c.args.parts.now c.args.slots.now c.requires.sight c.args.place row.0 row.1 key c.args.row.now claim due is ((key_test.1 claim.key key).0 t) in
+    let has =
+    holds_out c.args.log.now c.args.parts.now c.args.slots.now c.requires.sight c.args.place row.0 row.1 key c.args.row.now claim due is
+    ((key_test.1 claim.key key).0 t) in
     not_both (c.is_same.ensures.1 has.0) c.if-not-is_same.true)
 
 pub returns-then-not-row : goal.returns-then-not-row
@@ -30,14 +32,17 @@ returns-then-not-row c = λ key claim due is.
     let row = there_row c.args.parts.now.components.items c.args.place c.requires.place in
     same_answers _ (key_test.0 claim.key key) (λ t. cc)
     (λ t.
-    let has = holds_out c.args.log.now c.args.parts.now c.args.slots.now c.requires.sight c.args.place row.0 row.1 key c.args.row.now claim due is ((key_test.1 claim.key key).0 t) in
+    let has =
+    holds_out c.args.log.now c.args.parts.now c.args.slots.now c.requires.sight c.args.place row.0 row.1 key c.args.row.now claim due is
+    ((key_test.1 claim.key key).0 t) in
     not_both has.1 c.if-not-row.true)
 
 pub has_known-requires : goal.has_known-requires
 has_known-requires c =
     let items = c.args.parts.now.components.items in
     let at = row_at items items c.args.place c.index-component.result.now refl c.requires.place c.index-component.ensures in
-    subst (All (λ (one : OuterRow). one.number < length c.args.parts.now.program.value.procs)) (sym c.deref.ensures.value) (c.requires.sight.parts_are.within c.args.place c.index-component.result.now at).outer
+    subst (All (λ (one : OuterRow). one.number < length c.args.parts.now.program.value.procs)) (sym c.deref.ensures.value)
+    (c.requires.sight.parts_are.within c.args.place c.index-component.result.now at).outer
 
 pub returns : goal.returns
 returns c = λ key claim due is.
@@ -47,8 +52,14 @@ returns c = λ key claim due is.
     same_answers c.has_known.result (key_test.0 claim.key key)
     (λ t.
     (key_test.1 claim.key key).1
-    (out_holds c.args.log.now c.args.parts.now c.args.slots.now c.requires.sight c.args.place row at key c.args.row.now claim due is (c.is_same.ensures.0 c.if-not-is_same.false) c.if-not-row.false
-    (subst (λ o. HasKnown c.args.parts.now.program.value c.args.log.now c.args.slots.now o (key_at c.args.log.now c.args.row.now.claimed)) c.deref.ensures.value (c.has_known.ensures.0 t))))
+    (out_holds c.args.log.now c.args.parts.now c.args.slots.now c.requires.sight c.args.place row at key c.args.row.now claim due is
+    (c.is_same.ensures.0 c.if-not-is_same.false) c.if-not-row.false
+    (subst (λ o. HasKnown c.args.parts.now.program.value c.args.log.now c.args.slots.now o
+    (key_at c.args.log.now c.args.row.now.claimed)) c.deref.ensures.value (c.has_known.ensures.0 t))))
     (λ t.
-    let has = holds_out c.args.log.now c.args.parts.now c.args.slots.now c.requires.sight c.args.place row at key c.args.row.now claim due is ((key_test.1 claim.key key).0 t) in
-    c.has_known.ensures.1 (subst (λ o. HasKnown c.args.parts.now.program.value c.args.log.now c.args.slots.now o (key_at c.args.log.now c.args.row.now.claimed)) (sym c.deref.ensures.value) has.2))
+    let has =
+    holds_out c.args.log.now c.args.parts.now c.args.slots.now c.requires.sight c.args.place row at key c.args.row.now claim due is
+    ((key_test.1 claim.key key).0 t) in
+    c.has_known.ensures.1
+    (subst (λ o. HasKnown c.args.parts.now.program.value c.args.log.now c.args.slots.now o (key_at c.args.log.now c.args.row.now.claimed))
+    (sym c.deref.ensures.value) has.2))

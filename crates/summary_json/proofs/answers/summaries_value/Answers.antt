@@ -22,6 +22,7 @@ loop-place-preserved c =
 
 pub returns : goal.returns
 returns c =
-    view-Array c.loop-place.values ∙ ap tuple (c.loop-place.invariant ∙ all_written c.args.structs.now c.args.flows.now c.args.summaries.now c.loop-place.place
+    view-Array c.loop-place.values
+    ∙ ap tuple (c.loop-place.invariant ∙ all_written c.args.structs.now c.args.flows.now c.args.summaries.now c.loop-place.place
     (let same = c.requires.summaries.one_each in let all = c.loop-place-test.false in omega arith)
     (let all = c.loop-place-test.false in omega arith))

@@ -23,6 +23,8 @@ loop-entry-preserved c =
 
 pub overflow_add-dropped : goal.overflow_add-dropped
 overflow_add-dropped c =
-    let few = dropped_so_far c.args.entries.now c.loop-entry.left c.loop-entry.entry-index c.loop-entry.dropped c.loop-entry-test.true c.loop-entry.invariant in
+    let few =
+    dropped_so_far c.args.entries.now c.loop-entry.left c.loop-entry.entry-index c.loop-entry.dropped c.loop-entry-test.true
+    c.loop-entry.invariant in
     let all = c.requires.few in
     omega (arith, few, all)

@@ -9,5 +9,6 @@ pub reduced-requires : goal.reduced-requires
 reduced-requires c = record {
   few =
       subst (λ (s : SymState). HaveFewFields s.heap.spatial) (sym c.in_ok-forget.ensures)
-      (forgotten-few c.args.structs.now (first_new c.args.state.now + length c.args.state.now.locals) c.args.state.now.heap.spatial c.requires.few);
+      (forgotten-few c.args.structs.now
+      (first_new c.args.state.now + length c.args.state.now.locals) c.args.state.now.heap.spatial c.requires.few);
 }

@@ -6,4 +6,6 @@ use Rattle.sym_abstract.proofs.joining.join_found.Goals as goal
 
 pub returns-in-Some : goal.returns-in-Some
 returns-in-Some c =
-    λ may there. found-goes may c.args.atoms.items c.in-Some.place (λ o. IfOk c.with_join_at.result (λ made. made.items ≡ with_join c.args.atoms.items o)) c.with_join_at.ensures (sym c.in-Some.is ∙ there)
+    λ may there. found-goes may c.args.atoms.items c.in-Some.place
+    (λ o. IfOk c.with_join_at.result (λ made. made.items ≡ with_join c.args.atoms.items o)) c.with_join_at.ensures
+    (sym c.in-Some.is ∙ there)

@@ -6,7 +6,8 @@ use Rattle.sym_abstract.proofs.occurrences.count_atom.Goals as goal
 
 pub returns-in_ok-count-in-Points : goal.returns-in_ok-count-in-Points
 returns-in_ok-count-in-Points c =
-    IfOk-weaker c.count_exps.result (λ _. Adds c.count.new.counts c.count_exps.new.counts c.as_slice.result.now) (λ _. Adds c.args.counts.now c.count_exps.new.counts (exps_of c.args.atom.now))
+    IfOk-weaker c.count_exps.result (λ _. Adds c.count.new.counts c.count_exps.new.counts c.as_slice.result.now)
+    (λ _. Adds c.args.counts.now c.count_exps.new.counts (exps_of c.args.atom.now))
     (λ _ k. rw (c.in-Points.is, ← c.as_slice.ensures) (adds-both _ _ _ _ _ c.in_ok-count-in-Points.ensures k)) c.count_exps.ensures
 
 pub returns-in_ok-count-in-Seg : goal.returns-in_ok-count-in-Seg

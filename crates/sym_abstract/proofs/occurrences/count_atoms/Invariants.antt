@@ -5,4 +5,5 @@ use Rattle.sym_abstract.proofs.occurrences.count_atoms.Given as goal
 
 -- whoever counts what is left has counted all
 abbrev pub invariant-loop-atom : goal.invariant-loop-atom
-invariant-loop-atom l = (last : Times) → Adds l.counts last (exps_of_atoms (drop l.atom-index l.atoms)) → Adds l.initial.counts last (exps_of_atoms l.atoms)
+invariant-loop-atom l = (last : Times) → Adds l.counts last (exps_of_atoms (drop l.atom-index l.atoms))
+    → Adds l.initial.counts last (exps_of_atoms l.atoms)

@@ -5,4 +5,5 @@ use Rattle.sym_abstract.proofs.occurrences.count_leads.Given as goal
 
 -- whoever counts what is left has counted all
 abbrev pub invariant-loop-atom : goal.invariant-loop-atom
-invariant-loop-atom l = (last : Times) → Adds l.counts last (all_lead_to (drop l.atom-index l.atoms)) → Adds l.initial.counts last (all_lead_to l.atoms)
+invariant-loop-atom l = (last : Times) → Adds l.counts last (all_lead_to (drop l.atom-index l.atoms))
+    → Adds l.initial.counts last (all_lead_to l.atoms)

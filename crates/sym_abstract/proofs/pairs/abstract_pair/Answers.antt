@@ -12,7 +12,8 @@ join_pair-requires-clause-missing c = subst (λ (p : Pair). HaveFewFields p.miss
 
 pub join_pair-requires-clause-state : goal.join_pair-requires-clause-state
 join_pair-requires-clause-state c =
-    subst (λ (p : Pair). HaveFewFields p.state.heap.spatial) (sym c.in_ok-reduced.ensures) (at_head-few c.args.structs.now c.args.mark.now c.args.pair.now.state c.requires.state.fields)
+    subst (λ (p : Pair). HaveFewFields p.state.heap.spatial) (sym c.in_ok-reduced.ensures)
+    (at_head-few c.args.structs.now c.args.mark.now c.args.pair.now.state c.requires.state.fields)
 
 pub last_steps-requires : goal.last_steps-requires
 last_steps-requires c = record {

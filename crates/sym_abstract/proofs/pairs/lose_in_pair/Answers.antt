@@ -14,6 +14,10 @@ returns c =
       state = record { locals = c.args.pair.state.locals; heap = record { pure = facts; spatial = c.args.pair.state.heap.spatial } };
     } in
     let same = without-same c.in_ok-counts.counts (exps_beside_facts c.args.pair) c.in_ok-counts.ensures c.args.params in
-    let one : c.in_ok-missing_pure.missing_pure.items ≡ without_disequalities (is_lost_by c.in_ok-counts.counts c.args.params) c.args.pair.missing.pure = rw c.as_slice.ensures at c.in_ok-missing_pure.ensures in
-    let two : c.in_ok-state_pure.state_pure.items ≡ without_disequalities (is_lost_by c.in_ok-counts.counts c.args.params) c.args.pair.state.heap.pure = rw c.as_slice-2.ensures at c.in_ok-state_pure.ensures in
+    let one : c.in_ok-missing_pure.missing_pure.items
+    ≡ without_disequalities (is_lost_by c.in_ok-counts.counts c.args.params) c.args.pair.missing.pure =
+    rw c.as_slice.ensures at c.in_ok-missing_pure.ensures in
+    let two : c.in_ok-state_pure.state_pure.items
+    ≡ without_disequalities (is_lost_by c.in_ok-counts.counts c.args.params) c.args.pair.state.heap.pure =
+    rw c.as_slice-2.ensures at c.in_ok-state_pure.ensures in
     ap₂ made (c.from_vec.ensures ∙ (one ∙ same c.args.pair.missing.pure)) (c.from_vec-2.ensures ∙ (two ∙ same c.args.pair.state.heap.pure))

@@ -5,4 +5,6 @@ use Rattle.sym_canon.specs.Placing.{is_placed_by}
 use Rattle.sym_canon.proofs.placing.part.Given as goal
 
 abbrev pub invariant-loop-atom : goal.invariant-loop-atom
-invariant-loop-atom l = (l.has_cell ≡ is_among l.e (addresses l.fn.left.items)) × (l.placed.items ≡ filter (is_placed_by l.has_cell l.e) l.yielded) × (l.others.items ≡ filter (λ atom. not (is_placed_by l.has_cell l.e atom)) l.yielded)
+invariant-loop-atom l = (l.has_cell ≡ is_among l.e (addresses l.fn.left.items))
+    × (l.placed.items ≡ filter (is_placed_by l.has_cell l.e) l.yielded)
+    × (l.others.items ≡ filter (λ atom. not (is_placed_by l.has_cell l.e atom)) l.yielded)

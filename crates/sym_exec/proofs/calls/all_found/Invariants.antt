@@ -7,6 +7,10 @@ use Rattle.sym_exec.proofs.calls.all_found.Given as goal
 
 abbrev pub invariant-loop-spec : goal.invariant-loop-spec
 invariant-loop-spec l =
-    (filter_map (found (setting_with l.setting.mode l.setting.params l.setting.structs.now l.setting.table.now) l.caller.args.now l.caller.pair.now) l.specs
-    ≡ map fit_in l.fits.items ++ filter_map (found (setting_with l.setting.mode l.setting.params l.setting.structs.now l.setting.table.now) l.caller.args.now l.caller.pair.now) (drop l.spec-index l.specs))
+    (filter_map (found
+    (setting_with l.setting.mode l.setting.params l.setting.structs.now l.setting.table.now) l.caller.args.now l.caller.pair.now) l.specs
+    ≡ map fit_in l.fits.items
+    ++ filter_map
+    (found (setting_with l.setting.mode l.setting.params l.setting.structs.now l.setting.table.now) l.caller.args.now l.caller.pair.now)
+    (drop l.spec-index l.specs))
     × All (IsRoomy l.caller) l.fits.items

@@ -10,6 +10,8 @@ use Rattle.sym_forms.proofs.pairs.with_missing.Goals as goal
 
 pub returns-in_ok-pair_of-in-Is : goal.returns-in_ok-pair_of-in-Is
 returns-in_ok-pair_of-in-Is c =
-    let read : c.in_ok-read.read ≡ on_state (read_through c.args.missing.pure) c.args.state.now = rw c.as_slice.ensures at c.in_ok-read.ensures in
+    let read : c.in_ok-read.read ≡ on_state (read_through c.args.missing.pure) c.args.state.now =
+    rw c.as_slice.ensures at c.in_ok-read.ensures in
     let form : normal c.in_ok-read.read ≡ Is c.in-Is.state = sym c.in_ok-normal.ensures ∙ c.in-Is.is in
-    ap (λ pair. Some pair) c.in_ok-pair_of-in-Is.ensures ∙ sym (ap (λ n. of_form (pair_of c.args.params c.args.missing) n) (ap normal (sym read) ∙ form))
+    ap (λ pair. Some pair) c.in_ok-pair_of-in-Is.ensures
+    ∙ sym (ap (λ n. of_form (pair_of c.args.params c.args.missing) n) (ap normal (sym read) ∙ form))

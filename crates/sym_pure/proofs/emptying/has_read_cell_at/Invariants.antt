@@ -6,4 +6,5 @@ use Rattle.sym_pure.specs.Solving.{read}
 use Rattle.sym_pure.proofs.emptying.has_read_cell_at.Given as goal
 
 abbrev pub invariant-loop-atom : goal.invariant-loop-atom
-invariant-loop-atom l = is_among l.e (addresses (map (on_atom (read l.solved)) l.atoms)) ≡ is_among l.e (addresses (map (on_atom (read l.solved)) (drop l.atom-index l.atoms)))
+invariant-loop-atom l = is_among l.e (addresses (map (on_atom (read l.solved)) l.atoms))
+    ≡ is_among l.e (addresses (map (on_atom (read l.solved)) (drop l.atom-index l.atoms)))

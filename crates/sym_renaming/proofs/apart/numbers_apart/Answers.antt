@@ -11,4 +11,5 @@ new_numbers-requires c =
 pub returns-clause-small : goal.returns-clause-small
 returns-clause-small c =
     let same : c.len.result ≡ length c.in_ok-variables.variables.items = search rules in
-    apart_small c.args.used.now c.args.list.now c.in_ok-variables.variables.items c.in_ok-numbers.numbers.items c.from_vec-2.result c.len.result c.requires c.in_ok-variables.ensures same c.in_ok-numbers.ensures c.from_vec-2.ensures
+    apart_small c.args.used.now c.args.list.now c.in_ok-variables.variables.items c.in_ok-numbers.numbers.items c.from_vec-2.result
+    c.len.result c.requires c.in_ok-variables.ensures same c.in_ok-numbers.ensures c.from_vec-2.ensures

@@ -5,4 +5,5 @@ use Rattle.sym_renaming.specs.Calls.{others_flexible}
 use Rattle.sym_renaming.proofs.calls.others_flexible.Given as goal
 
 abbrev pub invariant-loop-x : goal.invariant-loop-x
-invariant-loop-x l = others_flexible l.apart l.params ≡ l.names.items ++ map (number_of l.apart) (filter (λ x. leb l.params x) (drop l.x-index l.apart.variables))
+invariant-loop-x l = others_flexible l.apart l.params
+    ≡ l.names.items ++ map (number_of l.apart) (filter (λ x. leb l.params x) (drop l.x-index l.apart.variables))

@@ -1,4 +1,5 @@
-use Rattle.sym_renaming.proofs.SizeLemmas.{mapped_heap_is_well_formed, mapped_is_within_sizes, mapped_post_is_well_formed, mapped_state_is_well_formed}
+use Rattle.sym_renaming.proofs.SizeLemmas.{mapped_heap_is_well_formed, mapped_is_within_sizes, mapped_post_is_well_formed}
+use Rattle.sym_renaming.proofs.SizeLemmas.{mapped_state_is_well_formed}
 use Rattle.sym_renaming.proofs.laws.mapped_is_well_formed.Goals as goal
 
 pub returns-clause-sizes : goal.returns-clause-sizes

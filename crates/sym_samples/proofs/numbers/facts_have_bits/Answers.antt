@@ -8,7 +8,9 @@ use Rattle.sym_samples.proofs.NumberTurns.{all_done, all_more}
 use Rattle.sym_samples.proofs.numbers.facts_have_bits.Goals as goal
 
 pub loop-place-preserved : goal.loop-place-preserved
-loop-place-preserved c = all_more (EachInFact IsLow) c.args.facts.now c.loop-place.place (Eq (Var 0) (Var 0)) c.loop-place-test.true c.loop-place.invariant c.fact_has_bits.ensures
+loop-place-preserved c =
+    all_more (EachInFact IsLow) c.args.facts.now c.loop-place.place
+    (Eq (Var 0) (Var 0)) c.loop-place-test.true c.loop-place.invariant c.fact_has_bits.ensures
 
 pub returns : goal.returns
 returns c =

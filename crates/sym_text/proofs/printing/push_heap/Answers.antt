@@ -16,7 +16,9 @@ returns c =
       | else-is_empty-via-then-is_empty+else-is_empty-2 w ↦ grind (arith, nat_tests)
       | else-is_empty-via-else-is_empty w ↦ grind (arith, nat_tests)
     ] in
-    IfOk-weaker c.push_atoms.result _ _ (λ x second. led_heap c.args.text.now.items c.push_facts.new.text.items _ (map (fact_text c.args.params.now) facts) (map (atom_text c.args.structs.now c.args.params.now) atoms) _
+    IfOk-weaker c.push_atoms.result _ _
+    (λ x second. led_heap c.args.text.now.items c.push_facts.new.text.items _ (map (fact_text c.args.params.now) facts)
+    (map (atom_text c.args.structs.now c.args.params.now) atoms) _
     (led_by_facts facts (fact_text c.args.params.now) _ c.is_empty-2.ensures)
     (led_by_parts facts atoms (fact_text c.args.params.now) (atom_text c.args.structs.now c.args.params.now) some)
     f second) e

@@ -9,4 +9,5 @@ use Rattle.triple_check.proofs.answers.summary_gap.Given as goal
 abbrev pub invariant-loop-place : goal.invariant-loop-place
 invariant-loop-place l =
     summary_gap (task_in l.task) l.proc l.summary
-    ≡ first_found (λ place (both : Spec × Cert). option_map (placed l.proc place) (spec_gap (task_in l.task) both.0 both.1)) l.place (zip (drop l.place l.summary.specs) (drop l.place l.summary.certs))
+    ≡ first_found (λ place (both : Spec × Cert). option_map (placed l.proc place) (spec_gap (task_in l.task) both.0 both.1)) l.place
+    (zip (drop l.place l.summary.specs) (drop l.place l.summary.certs))

@@ -5,4 +5,5 @@ use Rattle.certificate_steps.specs.InTask.{task_in}
 use Rattle.triple_check.proofs.gaps.are_exits_covered.Given as goal
 
 abbrev pub invariant-loop-exit : goal.invariant-loop-exit
-invariant-loop-exit l = list_all (is_exit_covered (task_in l.task) l.cert) l.exits ≡ list_all (is_exit_covered (task_in l.task) l.cert) (drop l.exit-index l.exits)
+invariant-loop-exit l = list_all (is_exit_covered (task_in l.task) l.cert) l.exits
+    ≡ list_all (is_exit_covered (task_in l.task) l.cert) (drop l.exit-index l.exits)

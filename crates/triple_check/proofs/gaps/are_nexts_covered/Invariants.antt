@@ -5,4 +5,5 @@ use Rattle.certificate_steps.specs.InTask.{task_in}
 use Rattle.triple_check.proofs.gaps.are_nexts_covered.Given as goal
 
 abbrev pub invariant-loop-next : goal.invariant-loop-next
-invariant-loop-next l = list_all (is_next_covered (task_in l.task) l.cert) l.nexts ≡ list_all (is_next_covered (task_in l.task) l.cert) (drop l.next-index l.nexts)
+invariant-loop-next l = list_all (is_next_covered (task_in l.task) l.cert) l.nexts
+    ≡ list_all (is_next_covered (task_in l.task) l.cert) (drop l.next-index l.nexts)

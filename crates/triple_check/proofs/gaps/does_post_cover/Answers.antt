@@ -19,4 +19,5 @@ is_post_covered-requires-clause-posts c =
 pub is_post_covered-requires-clause-post : goal.is_post_covered-requires-clause-post
 is_post_covered-requires-clause-post c =
     let is : ◌≡◌ {A = Option Post} (Some c.in-Some.form) (normal_post c.args.exit.now) = search rules in
-    post-sizes (task_in c.args.task.now) c.requires.task c.in-Some.form (normal-post-given (task_in c.args.task.now) c.requires.task c.args.exit.now c.in-Some.form c.requires.exit is)
+    post-sizes (task_in c.args.task.now) c.requires.task c.in-Some.form
+    (normal-post-given (task_in c.args.task.now) c.requires.task c.args.exit.now c.in-Some.form c.requires.exit is)

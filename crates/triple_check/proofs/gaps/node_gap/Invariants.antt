@@ -5,4 +5,5 @@ use Rattle.triple_check.proofs.gaps.node_gap.Given as goal
 
 abbrev pub invariant-loop-state : goal.invariant-loop-state
 invariant-loop-state l =
-    node_gap (task_in l.task) l.cert l.at l.states ≡ first_found (λ place state. state_gap (task_in l.task) l.cert l.at state) l.state-index (drop l.state-index l.states)
+    node_gap (task_in l.task) l.cert l.at l.states
+    ≡ first_found (λ place state. state_gap (task_in l.task) l.cert l.at state) l.state-index (drop l.state-index l.states)

@@ -12,10 +12,13 @@ use Rattle.triple_check.proofs.gaps.state_gap.Goals as goal
 pub exec-requires-clause-state : goal.exec-requires-clause-state
 exec-requires-clause-state c =
     let is : ◌≡◌ {A = Option SymState} (Some c.in-Some.form) (normal_state c.args.state.now) = search rules in
-    state-wide (task_in c.args.task.now) c.requires.task c.in-Some.form (normal-given (task_in c.args.task.now) c.requires.task c.args.state.now c.in-Some.form c.requires.state is)
+    state-wide (task_in c.args.task.now) c.requires.task c.in-Some.form
+    (normal-given (task_in c.args.task.now) c.requires.task c.args.state.now c.in-Some.form c.requires.state is)
 
 pub step_gap-requires-clause-step : goal.step_gap-requires-clause-step
 step_gap-requires-clause-step c =
     let is : ◌≡◌ {A = Option SymState} (Some c.in-Some.form) (normal_state c.args.state.now) = search rules in
     let made : c.in_ok-step-in-Some.step ≡ execution (task_in c.args.task.now) c.args.at c.in-Some.form = search rules in
-    step-given (task_in c.args.task.now) c.requires.task c.args.at c.in-Some.form (normal-given (task_in c.args.task.now) c.requires.task c.args.state.now c.in-Some.form c.requires.state is) c.in_ok-step-in-Some.step made
+    step-given (task_in c.args.task.now) c.requires.task c.args.at c.in-Some.form
+    (normal-given
+    (task_in c.args.task.now) c.requires.task c.args.state.now c.in-Some.form c.requires.state is) c.in_ok-step-in-Some.step made

@@ -16,8 +16,13 @@ returns c = λ within lt.
     let place : c.min.result ≡ c.args.place = c.min.ensures ∙ min-eq_left le in
     ap (λ (o : Out). record o { loops = map loop_seen c.insert.new.self.items }) c.self.view_is
     ∙ ap (λ xs. record c.args.self.now { loops = map loop_seen xs })
-    (c.in_ok-insert.ensures.items ∙ ap (λ n. insert c.self.inside.loops.items n (record { head = c.args.head; past = c.here-past.result; visible = c.args.visible })) place)
+    (c.in_ok-insert.ensures.items
+    ∙ ap (λ n. insert c.self.inside.loops.items n
+    (record { head = c.args.head; past = c.here-past.result; visible = c.args.visible })) place)
     ∙ ap (λ ls. record c.args.self.now { loops = ls })
-    (map-insert loop_seen c.self.inside.loops.items c.args.place (record { head = c.args.head; past = c.here-past.result; visible = c.args.visible }))
-    ∙ ap (λ (o : Out). with_loop c.args.place (record { head = c.args.head; past = c.here-past.result; visible = c.args.visible.items }) (record c.args.self.now { loops = o.loops })) c.self.view_is
-    ∙ ap (λ n. with_loop c.args.place (record { head = c.args.head; past = n; visible = c.args.visible.items }) c.args.self.now) (c.here-past.ensures lt)
+    (map-insert loop_seen c.self.inside.loops.items c.args.place
+    (record { head = c.args.head; past = c.here-past.result; visible = c.args.visible }))
+    ∙ ap (λ (o : Out). with_loop c.args.place (record { head = c.args.head; past = c.here-past.result; visible = c.args.visible.items })
+    (record c.args.self.now { loops = o.loops })) c.self.view_is
+    ∙ ap (λ n. with_loop c.args.place (record { head = c.args.head; past = n; visible = c.args.visible.items }) c.args.self.now)
+    (c.here-past.ensures lt)

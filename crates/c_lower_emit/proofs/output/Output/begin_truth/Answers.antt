@@ -8,6 +8,7 @@ pub returns-in_ok-place-in-Value : goal.returns-in_ok-place-in-Value
 returns-in_ok-place-in-Value c =
     subst (λ u. BeginsTruth u c.args.spot.first_temp c.args.self.now c.take.new.self c.saturating_add.result) (sym c.in-Value.is)
     (λ room. (
-      slot_is c.args.spot.first_temp Int c.args.self.now c.in_ok-place-in-Value.place c.saturating_add.result room c.in_ok-place-in-Value.ensures.place c.saturating_add.ensures,
+      slot_is c.args.spot.first_temp Int c.args.self.now c.in_ok-place-in-Value.place c.saturating_add.result room
+          c.in_ok-place-in-Value.ensures.place c.saturating_add.ensures,
       c.in_ok-place-in-Value.ensures.temps,
     ))

@@ -7,4 +7,5 @@ use Rattle.c_parse.proofs.heads.Branch.or_else.Goals as goal
 pub returns : goal.returns
 returns c =
     if_else c.args.self.place c.args.self.test c.args.self.body c.in_ok-other.other
-    ∙ ap (λ s. tree.Stmt.IfElse c.args.self.place (expr_tree c.args.self.test) (stmt_tree c.args.self.body.value) (stmt_tree s)) c.in_ok-other.ensures.ok
+    ∙ ap (λ s. tree.Stmt.IfElse c.args.self.place (expr_tree c.args.self.test) (stmt_tree c.args.self.body.value)
+    (stmt_tree s)) c.in_ok-other.ensures.ok

@@ -10,6 +10,7 @@ loop-one-preserved c =
     let xs = c.deref-one-items.result.now in
     let within : c.loop-one.one-index < length xs = search rules in
     let kind = λ (one : Declarator). field_kind c.args.tables.now (specifier_tree c.args.line.now.specifier) (declarator_tree one) in
-    pushed (λ (list : List Declarator). map (field_kind c.args.tables.now (specifier_tree c.args.line.now.specifier)) (map declarator_tree list)) kind (λ one list. refl)
+    pushed (λ (list : List Declarator). map (field_kind c.args.tables.now (specifier_tree c.args.line.now.specifier))
+    (map declarator_tree list)) kind (λ one list. refl)
     xs c.loop-one.one-index c.one-item.result within c.one-item.is c.loop-one.self c.push-in-loop-one.new.self _
     (c.in_ok-push-2.ensures ∙ ap (λ (f : FieldKind). c.loop-one.self ++ f ∷ []) c.field_kind-in-loop-one.ensures) c.loop-one.invariant

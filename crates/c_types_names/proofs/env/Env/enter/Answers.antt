@@ -11,4 +11,5 @@ returns-clause-scopes c =
 
 pub returns-clause-around : goal.returns-clause-around
 returns-clause-around c =
-    sym (length_around c.self.inside.tables c.self.inside.begin c.self.inside.variables c.self.invariant) ∙ ap (λ (e : Env). length e.scopes.around) c.self.view_is
+    sym (length_around c.self.inside.tables c.self.inside.begin c.self.inside.variables c.self.invariant)
+    ∙ ap (λ (e : Env). length e.scopes.around) c.self.view_is

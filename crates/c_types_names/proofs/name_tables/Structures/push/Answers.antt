@@ -10,5 +10,6 @@ pub invariant_of-self-2 : goal.invariant_of-self-2
 invariant_of-self-2 c = λ n.
     let items : c.push.new.self.items ≡ c.self.inside.all.items ++ c.args.one ∷ [] = search rules in
     let kept = ap (λ es. option_map structure_seen (lookup (λ k. bytes_eq n k.now) es)) c.reserve-2.ensures.entries ∙ c.self.invariant n in
-    one_more structure_seen (λ y. bytes_eq y.tag n) (λ ys. structure_in ys n) refl (λ y ys. refl) _ _ _ c.args.one kept (c.add_first.ensures n)
+    one_more structure_seen (λ y. bytes_eq y.tag n) (λ ys. structure_in ys n) refl (λ y ys. refl) _ _ _ c.args.one kept
+    (c.add_first.ensures n)
     ∙ ap (λ xs. structure_in (map structure_seen xs) n) (sym items)

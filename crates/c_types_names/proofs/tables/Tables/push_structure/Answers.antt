@@ -10,7 +10,8 @@ use Rattle.c_types_names.proofs.tables.Tables.push_structure.Goals as goal
 
 pub invariant_of-self-in_err-push : goal.invariant_of-self-in_err-push
 invariant_of-self-in_err-push c = λ n.
-    ap (λ es. lookup (λ k. bytes_eq n k.now) es) c.reserve.ensures.entries ∙ c.self.invariant n ∙ ap (λ xs. option_map fields_of (structure_in xs n)) (sym c.in_err-push.ensures.same)
+    ap (λ es. lookup (λ k. bytes_eq n k.now) es) c.reserve.ensures.entries ∙ c.self.invariant n
+    ∙ ap (λ xs. option_map fields_of (structure_in xs n)) (sym c.in_err-push.ensures.same)
 
 pub invariant_of-self-2 : goal.invariant_of-self-2
 invariant_of-self-2 c = λ n.

@@ -19,9 +19,13 @@ store-requires-clause-field c =
 pub returns-in-Load : goal.returns-in-Load
 returns-in-Load c =
     let self = c.args.self in
-    subst (λ (cmd : Cmd). IfOk c.load.result (λ (stepped : Stepped). stepped ≡ step_cmd c.args.program.now self.below self.frame self.heap c.args.choice.now self.line cmd)) (sym c.in-Load.is) c.load.ensures
+    subst (λ (cmd : Cmd). IfOk c.load.result
+    (λ (stepped : Stepped). stepped ≡ step_cmd c.args.program.now self.below self.frame self.heap c.args.choice.now self.line cmd))
+    (sym c.in-Load.is) c.load.ensures
 
 pub returns-in-Store : goal.returns-in-Store
 returns-in-Store c =
     let self = c.args.self in
-    subst (λ (cmd : Cmd). IfOk c.store.result (λ (stepped : Stepped). stepped ≡ step_cmd c.args.program.now self.below self.frame self.heap c.args.choice.now self.line cmd)) (sym c.in-Store.is) c.store.ensures
+    subst (λ (cmd : Cmd). IfOk c.store.result
+    (λ (stepped : Stepped). stepped ≡ step_cmd c.args.program.now self.below self.frame self.heap c.args.choice.now self.line cmd))
+    (sym c.in-Store.is) c.store.ensures

@@ -10,7 +10,8 @@ use Rattle.project_form.proofs.file.File.read.Goals as goal
 pub returns-then-is_some-clause-unit : goal.returns-then-is_some-clause-unit
 returns-then-is_some-clause-unit c =
     let kept : is_some c.self.inside.unit ≡ true = search rules in
-    subst (λ (file : KeptFile). HasUnit file.file.bytes) c.self.view_is (kept-HasUnit c.self.inside.bytes.items c.self.inside.unit kept c.self.invariant.0)
+    subst (λ (file : KeptFile). HasUnit file.file.bytes) c.self.view_is
+    (kept-HasUnit c.self.inside.bytes.items c.self.inside.unit kept c.self.invariant.0)
 
 pub returns-clause-unit : goal.returns-clause-unit
 returns-clause-unit c =

@@ -10,7 +10,9 @@ use Rattle.session_replies.proofs.session.Session.drop_file.Goals as goal
 pub returns : goal.returns
 returns c = record {
   answers =
-      IfOk-weaker c.drop_text.result (λ text. text.items ≡ drop_line c.drop_file-there.result) (λ text. Answers c.args.self.now (command.DropFile c.args.name.now) text.items _)
-      (λ text says. drop_answers c.args.self.now _ _ c.self.inside.missing _ c.args.name.now text.items c.drop_file-there.result c.self.view_is c.drop_file-there.ensures.dropped c.drop_file-there.ensures.files says)
+      IfOk-weaker c.drop_text.result (λ text. text.items ≡ drop_line c.drop_file-there.result)
+      (λ text. Answers c.args.self.now (command.DropFile c.args.name.now) text.items _)
+      (λ text says. drop_answers c.args.self.now _ _ c.self.inside.missing _ c.args.name.now text.items c.drop_file-there.result
+      c.self.view_is c.drop_file-there.ensures.dropped c.drop_file-there.ensures.files says)
       c.drop_text.ensures;
 }

@@ -10,9 +10,12 @@ use Rattle.session_replies.proofs.session.Session.text.Goals as goal
 
 pub returns-in-PutTooLong-clause-answers : goal.returns-in-PutTooLong-clause-answers
 returns-in-PutTooLong-clause-answers g c =
-    IfOk-weaker c.error_text.result (λ text. text.items ≡ error_line 143) (λ text. Answers c.args.self.now c.args.asked text.items c.args.self.now)
+    IfOk-weaker c.error_text.result (λ text. text.items ≡ error_line 143)
+    (λ text. Answers c.args.self.now c.args.asked text.items c.args.self.now)
     (λ text says. subst (λ asked. Answers c.args.self.now asked text.items c.args.self.now) (sym c.in-PutTooLong.is)
-    (subst (λ (whole : List ℕ). Answers c.args.self.now (command.PutTooLong c.in-PutTooLong.name c.in-PutTooLong.size) whole c.args.self.now) (sym says) (Answers.put_too_long c.in-PutTooLong.name c.in-PutTooLong.size)))
+    (subst (λ (whole : List ℕ). Answers c.args.self.now
+    (command.PutTooLong c.in-PutTooLong.name c.in-PutTooLong.size) whole c.args.self.now) (sym says)
+    (Answers.put_too_long c.in-PutTooLong.name c.in-PutTooLong.size)))
     c.error_text.ensures
 
 pub returns-in-Blank-clause-answers : goal.returns-in-Blank-clause-answers
@@ -26,4 +29,5 @@ returns-in-Show-clause-worked g c =
 
 pub returns-in-Gen-clause-worked : goal.returns-in-Gen-clause-worked
 returns-in-Gen-clause-worked g c =
-    subst (λ asked. OnOk c.gen_file.result (IsWorked c.args.self.now asked c.gen_file.new.hands.seen)) (sym c.in-Gen.is) c.gen_file.ensures.worked
+    subst (λ asked. OnOk c.gen_file.result (IsWorked c.args.self.now asked c.gen_file.new.hands.seen))
+    (sym c.in-Gen.is) c.gen_file.ensures.worked

@@ -13,15 +13,19 @@ returns-in-Some-clause-solves c =
     let key = c.args.key.now in
     let answer = c.in-Some.answer.now.value in
     let is : first_answer c.deref.result.now key ≡ Some answer =
-    ap (λ loaded. first_answer loaded key) (sym c.answers.ensures.value) ∙ sym c.find.ensures ∙ ap (option_map (λ one. one.now.value)) c.in-Some.is in
+    ap (λ loaded. first_answer loaded key) (sym c.answers.ensures.value) ∙ sym c.find.ensures
+    ∙ ap (option_map (λ one. one.now.value)) c.in-Some.is in
     let entry = stored_found c.deref.result.now c.answers.ensures.stored key answer is in
-    IfOk-weaker c.share.result (λ shared. shared.value ≡ answer) (λ shared. Solves key shared.value) (λ shared same. subst (Solves key) (sym same) (inr entry.right)) c.share.ensures
+    IfOk-weaker c.share.result (λ shared. shared.value ≡ answer) (λ shared. Solves key shared.value)
+    (λ shared same. subst (Solves key) (sym same) (inr entry.right)) c.share.ensures
 
 pub returns-in-Some-clause-storable : goal.returns-in-Some-clause-storable
 returns-in-Some-clause-storable c =
     let key = c.args.key.now in
     let answer = c.in-Some.answer.now.value in
     let is : first_answer c.deref.result.now key ≡ Some answer =
-    ap (λ loaded. first_answer loaded key) (sym c.answers.ensures.value) ∙ sym c.find.ensures ∙ ap (option_map (λ one. one.now.value)) c.in-Some.is in
+    ap (λ loaded. first_answer loaded key) (sym c.answers.ensures.value) ∙ sym c.find.ensures
+    ∙ ap (option_map (λ one. one.now.value)) c.in-Some.is in
     let entry = stored_found c.deref.result.now c.answers.ensures.stored key answer is in
-    IfOk-weaker c.share.result (λ shared. shared.value ≡ answer) (λ shared. IsStorableAnswer key shared.value) (λ shared same. subst (IsStorableAnswer key) (sym same) entry.storable) c.share.ensures
+    IfOk-weaker c.share.result (λ shared. shared.value ≡ answer) (λ shared. IsStorableAnswer key shared.value)
+    (λ shared same. subst (IsStorableAnswer key) (sym same) entry.storable) c.share.ensures

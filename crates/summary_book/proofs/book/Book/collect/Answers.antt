@@ -11,4 +11,6 @@ use Rattle.summary_book.proofs.book.Book.collect.Goals as goal
 pub returns-clause-solutions : goal.returns-clause-solutions
 returns-clause-solutions g c =
     let legal = subst (λ l. IsLegal (IsSolution g.J.Meaning.solves) (events_of l)) (sym c.deref.ensures.value) c.self.invariant.legal in
-    IfOk-weaker c.collected.result _ _ (λ kept is. collected_solved (IsSolution g.J.Meaning.solves) (events_of c.deref.result.now) legal (marked c.deref-3.result.now) kept.items is) c.collected.ensures
+    IfOk-weaker c.collected.result _ _
+    (λ kept is. collected_solved (IsSolution g.J.Meaning.solves) (events_of c.deref.result.now) legal
+    (marked c.deref-3.result.now) kept.items is) c.collected.ensures

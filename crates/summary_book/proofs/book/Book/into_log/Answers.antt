@@ -10,10 +10,13 @@ pub returns-clause-legal : goal.returns-clause-legal
 returns-clause-legal g c =
     let inside = c.self.inside in
     subst (λ v. IsLegal g.J.Meaning.solves v.log) c.self.view_is
-    (book_legal (IsSolution g.J.Meaning.solves) inside.log inside.parts inside.slots inside.marks inside.out inside.revision inside.made c.self.invariant g.J.Meaning.solves (λ key answer is. is.right))
+    (book_legal (IsSolution g.J.Meaning.solves) inside.log inside.parts inside.slots inside.marks inside.out inside.revision inside.made
+    c.self.invariant g.J.Meaning.solves (λ key answer is. is.right))
 
 pub returns-clause-storable : goal.returns-clause-storable
 returns-clause-storable g c =
     let inside = c.self.inside in
     subst (λ v. IsStorableWorld (replay v.log)) c.self.view_is
-    (book_storable (IsSolution g.J.Meaning.solves) inside.log inside.parts inside.slots inside.marks inside.out inside.revision inside.made c.self.invariant (λ key answer is. is.storable_answer))
+    (book_storable
+    (IsSolution g.J.Meaning.solves) inside.log inside.parts inside.slots inside.marks inside.out inside.revision inside.made
+    c.self.invariant (λ key answer is. is.storable_answer))
