@@ -1,12 +1,14 @@
 -- Exits that are replaced.
-use Rattle.std.proofs.Common.{◌≡◌, ℕ, ◌+◌, ◌-◌, List, [], ◌∷◌, ◌++◌, length, map, take, drop, refl, sym, ap, ◌∙◌, append_assoc, arith}
-use Rattle.std.proofs.lemmas.List.{length-append}
+use Rattle.std.proofs.Common.{◌≡◌, ℕ, ◌+◌, ◌-◌, ◌≤◌, List, [], ◌∷◌, ◌++◌, length, map, take, drop, refl, sym, ap, ◌∙◌}
+use Rattle.std.proofs.Common.{append_assoc, arith}
+use Rattle.std.proofs.lemmas.List.{length-append, take-append-drop, drop-drop}
 use Rattle.c_lower_rules.specs.Code.{node}
 use Rattle.c_lower_emit.specs.declared.drafts.Draft.{Draft}
 use Rattle.c_lower_emit.specs.declared.drafts.Label.{Label}
 use Rattle.c_lower_emit.specs.declared.drafts.Label.TheVariants.{At, Next, Breaks, Continues, Holds, Fails}
 use Rattle.c_lower_emit.specs.declared.drafts.Ways.{Ways}
-use Rattle.c_lower_emit.specs.Drafts.{Places, resolve, redirect, redirected, led_between, aimed, laid}
+use Rattle.c_lower_emit.specs.Drafts.{Places, resolve, redirect, next_at, redirected, led_between, aimed, laid}
+use Rattle.c_lower_emit.specs.Emitting.{Out, led_out}
 
 -- where what the exits become leads
 abbrev pub led : Places → Ways → Places
@@ -60,3 +62,36 @@ middle_led w xs ys zs from past at there =
     ∙ ap (λ ds. (ds ++ map (redirected w) (take (length ys) (drop (length xs) (xs ++ (ys ++ zs))))) ++ zs) (take_front xs (ys ++ zs))
     ∙ ap (λ ds. (xs ++ map (redirected w) (take (length ys) ds)) ++ zs) (drop_front xs (ys ++ zs))
     ∙ ap (λ ds. (xs ++ map (redirected w) ds) ++ zs) (take_front ys zs)
+
+-- where each exit becomes itself, all is as it was
+label_kept : (t : Label) → redirect (next_at Next) t ≡ t
+label_kept (At place) = refl
+label_kept Next = refl
+label_kept Breaks = refl
+label_kept Continues = refl
+label_kept Holds = refl
+label_kept Fails = refl
+
+draft_kept : (d : Draft) → redirected (next_at Next) d ≡ d
+draft_kept d =
+    ap (λ t. record d { next = t; other = redirect (next_at Next) d.other }) (label_kept d.next)
+    ∙ ap (λ t. record d { other = t }) (label_kept d.other)
+
+drafts_kept : (ds : List Draft) → map (redirected (next_at Next)) ds ≡ ds
+drafts_kept [] = refl
+drafts_kept (d ∷ ds) = ap (λ e. e ∷ map (redirected (next_at Next)) ds) (draft_kept d) ∙ ap (λ es. d ∷ es) (drafts_kept ds)
+
+between_kept : (from past : ℕ) → from ≤ past → (ds : List Draft) → led_between from past (next_at Next) ds ≡ ds
+between_kept from past le ds =
+    let behind : past ≡ from + (past - from) = omega (arith, le) in
+    ap (λ es. (take from ds ++ es) ++ drop past ds) (drafts_kept (take (past - from) (drop from ds)))
+    ∙ ap (λ n. (take from ds ++ take (past - from) (drop from ds)) ++ drop n ds) behind
+    ∙ ap (λ es. (take from ds ++ take (past - from) (drop from ds)) ++ es) (sym (drop-drop (past - from) from ds))
+    ∙ append_assoc (take from ds) (take (past - from) (drop from ds)) (drop (past - from) (drop from ds))
+    ∙ ap (λ es. take from ds ++ es) (take-append-drop (past - from) (drop from ds))
+    ∙ take-append-drop from ds
+
+-- so nothing changes where pieces are to go on at their own exit
+pub next_led_to_next : (begin : Label) → begin ≡ Next → (from past : ℕ) → from ≤ past → (o : Out) → o ≡ led_out from past (next_at begin) o
+next_led_to_next begin is from past le o =
+    ap (λ ds. record o { nodes = ds }) (sym (between_kept from past le o.nodes)) ∙ ap (λ t. led_out from past (next_at t) o) (sym is)

@@ -160,6 +160,10 @@ impl<'a> Output<'a> {
     pub fn lead_next(&mut self, from: usize, past: usize, begin: Label)
         ensures { from ≤ past → past ≤ length self.old.nodes → self.new ≡ led_out from past (next_at begin) self.old }
     {
+        // These exits lead there already: nothing changes, so no piece is looked at, however many there are.
+        if let Label::Next = begin {
+            return;
+        }
         let ways = Ways {
             next: begin,
             ..AS_THEY_ARE

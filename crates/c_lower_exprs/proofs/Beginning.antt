@@ -10,7 +10,7 @@ use Rattle.c_types_rules.specs.Items.{listed}
 use Rattle.c_types_rules.specs.Programs.{known}
 use Rattle.c_types_names.specs.Behind.{behind_params}
 use Rattle.c_lower_rules.specs.Programs.{bound_params, at_body, result_type}
-use Rattle.c_lower_exprs.specs.declared.context.Bound.{Bound}
+use Rattle.c_lower_exprs.specs.declared.slots.Bound.{Bound}
 use Rattle.c_lower_exprs.specs.Seen.{stacked}
 use Rattle.c_lower_exprs.proofs.Stacking.{stacked-nil}
 

@@ -1,4 +1,5 @@
 mod Stacking
+mod SlotsOfNames
 mod Beginning
 mod Loading
 mod Operating

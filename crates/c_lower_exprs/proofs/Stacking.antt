@@ -7,9 +7,9 @@ use Rattle.c_types_rules.specs.Scopes as scopes
 use Rattle.c_types_rules.specs.Scopes.{Env, with_variable}
 use Rattle.c_types_rules.specs.Types.{Kind}
 use Rattle.c_types_rules.specs.Tables.{Tables}
-use Rattle.c_lower_rules.specs.Contexts.{Context, slot_of_bound, within_scope}
+use Rattle.c_lower_rules.specs.Contexts.{Context, within_scope}
 use Rattle.c_lower_rules.specs.Contexts as contexts
-use Rattle.c_lower_exprs.specs.declared.context.Bound.{Bound}
+use Rattle.c_lower_exprs.specs.declared.slots.Bound.{Bound}
 use Rattle.c_lower_exprs.specs.Seen.{bound_seen, stacked}
 use Rattle.c_lower_exprs.specs.Contexts.{behind_variable, IsWithin}
 
@@ -37,26 +37,6 @@ pub ruleset stacking = (stacked_more, stacked-nil, stacked-push)
 pub length-stacked : (bound : List Bound) → length (stacked bound) ≡ length bound
 unfolding stacked
 length-stacked bound = length-reverse (map bound_seen bound) ∙ length-map bound bound_seen
-
--- SLOTS
-
-abbrev pub slot_kept : Bound → ℕ
-slot_kept one = one.slot
-
--- a loop went through all
-pub all_kept : (bound : List Bound) (n : ℕ) → length bound ≤ n → map slot_kept (take n bound) ≡ map slot_kept bound
-all_kept [] zero = λ le. refl
-all_kept [] (suc n) = λ le. refl
-all_kept (b ∷ bs) zero = λ le. absurd (omega (arith, le))
-all_kept (b ∷ bs) (suc n) = λ le. ap (λ xs. slot_kept b ∷ xs) (all_kept bs n (omega (arith, le)))
-
-pub slots_back : (bound : List Bound) → reverse (map slot_kept bound) ≡ map slot_of_bound (stacked bound)
-slots_back [] = ap (map slot_of_bound) (sym stacked-nil)
-slots_back (b ∷ bs) =
-    reverse-append (slot_kept b ∷ []) (map slot_kept bs) ∙ ap (λ xs. xs ++ slot_kept b ∷ []) (slots_back bs)
-    ∙ ap (λ xs. map slot_of_bound (stacked bs) ++ map slot_of_bound xs) (sym (stacked-one b))
-    ∙ sym (map-append slot_of_bound (stacked bs) (stacked (b ∷ [])))
-    ∙ ap (map slot_of_bound) (sym (stacked-append (b ∷ []) bs))
 
 -- SCOPES
 

@@ -1,4 +1,5 @@
 pub mod Seen
+pub mod Slots
 pub mod Contexts
 pub mod Lowered
 pub mod Fields

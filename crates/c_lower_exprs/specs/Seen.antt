@@ -1,7 +1,7 @@
 -- What the values of the crate stand for among the definitions of lowering.
 use Rattle.std.specs.Prelude.{List, map, reverse}
 use Rattle.c_lower_rules.specs.Contexts as contexts
-use Rattle.c_lower_exprs.specs.declared.context.Bound.{Bound}
+use Rattle.c_lower_exprs.specs.declared.slots.Bound.{Bound}
 
 -- a variable in scope
 abbrev pub bound_seen : Bound → contexts.Bound

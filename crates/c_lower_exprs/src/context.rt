@@ -1,10 +1,10 @@
-//! What the names of a body mean at a place of it, and the slots of its variables.
+//! What the names of a body mean at a place of it.
 ghost use Rattle.std.specs.Prelude.{◌≡◌, ◌≤◌, ◌<◌, ◌+◌, ◌-◌, map, length, OnOk, IfOk};
 ghost use Rattle.c_types_rules.specs.Scopes.{variable};
 ghost use Rattle.c_types_rules.specs.Expressions.{kind_of_variable};
 ghost use Rattle.c_types_rules.specs.Programs.{known};
 ghost use Rattle.c_types_names.specs.Seen.{type_seen, kind_seen};
-ghost use Rattle.c_lower_rules.specs.Contexts.{Context as ContextValue, slot_in, slot_of_bound, visible, within_scope};
+ghost use Rattle.c_lower_rules.specs.Contexts.{Context as ContextValue, slot_in, visible, within_scope};
 ghost use Rattle.c_types_rules.specs.Items.{listed};
 ghost use Rattle.c_lower_rules.specs.Programs.{at_body};
 ghost use Rattle.c_tree.specs.Syntax.{head_tree};
@@ -12,21 +12,15 @@ ghost use Rattle.c_lower_exprs.specs.Seen.{stacked};
 ghost use Rattle.c_lower_exprs.specs.Contexts.{FieldsFit, behind_variable, IsWithin};
 
 use crate::params::{add_params, param_count};
+use crate::slots::{Bound, Slots};
 use c_tree::places::place_of_specifier;
 use c_tree::{Head, Name, Place};
 use c_types_names::env::Env;
-use c_types_names::kinds::{CType, Kind, known, same_name};
+use c_types_names::kinds::{CType, Kind, known};
 use c_types_names::objects::kind_of_result;
 use c_types_names::tables::Tables;
 use std::alloc::{AllocError, Global};
 use std::marker::Model;
-
-/// A variable in scope, and its slot.
-#[derive(Clone, Copy)]
-pub struct Bound<'a> {
-    pub name: &'a Name,
-    pub slot: u32,
-}
 
 /// A program, and a place of a body of it: the variables in scope, the innermost one last, where the slots of locals and of temporaries
 /// begin, the type of the procedure's result, and its first line.
@@ -34,7 +28,7 @@ pub struct Bound<'a> {
 pub struct Context<'a> {
     alloc: Global,
     env: Env<'a>,
-    bound: Vec<Bound<'a>>,
+    bound: Slots<'a>,
     first_local: u32,
     first_temp: u32,
     result: CType<'a>,
@@ -51,7 +45,7 @@ impl<'a> Model for Context<'a> {
 
     ghost view = { λ c. record {
       env = c.env;
-      bound = stacked c.bound.items;
+      bound = stacked c.bound;
       first_local = c.first_local;
       first_temp = c.first_temp;
       result = type_seen c.result;
@@ -69,32 +63,6 @@ pub struct Scope {
     pub bound: usize,
 }
 
-/// The slots of the variables, the last one first.
-fn slots_of(alloc: Global, bound: &[Bound]) -> Result<Vec<u32>, AllocError>
-    ensures { IfOk result (λ slots. slots.items ≡ map slot_of_bound (stacked bound.now)) }
-{
-    let mut slots = Vec::new(alloc);
-    for one in bound {
-        slots.push(one.slot)?;
-    }
-    slots.reverse();
-    Ok(slots)
-}
-
-/// The slot of the last variable of the name.
-#[tactic(auto, using(crate::proofs::Stacking::stacking))]
-fn slot_among(bound: &[Bound], name: &Name) -> u32
-    ensures { result ≡ slot_in (stacked bound.now) name.now }
-{
-    let mut slot = 0;
-    for one in bound {
-        if same_name(one.name, name) {
-            slot = one.slot;
-        }
-    }
-    slot
-}
-
 impl<'a> Context<'a> {
     /// The program, before any body.
     pub fn new(alloc: Global, tables: Tables<'a>) -> Context<'a>
@@ -104,7 +72,7 @@ impl<'a> Context<'a> {
         Context {
             alloc,
             env: Env::new(alloc, tables),
-            bound: Vec::new(alloc),
+            bound: Slots::new(alloc),
             first_local: 0,
             first_temp: 0,
             result: CType::Int,
@@ -119,7 +87,7 @@ impl<'a> Context<'a> {
             → self.new ≡ at_body self.old.env.tables (head_tree head.now) locals) }
     {
         self.env.clear();
-        self.bound.clear();
+        self.bound.truncate(0);
         add_params(&mut self.env, &mut self.bound, &head.params)?;
         self.first_local = param_count(&head.params);
         self.first_temp = self.first_local.saturating_add(locals);
@@ -155,7 +123,7 @@ impl<'a> Context<'a> {
     pub fn slot_of(&self, name: &Name) -> u32
         ensures { result ≡ slot_in self.now.bound name.now }
     {
-        slot_among(self.bound.as_slice(), name)
+        self.bound.last(name)
     }
 
     /// The program, and the variables in scope.
@@ -190,7 +158,7 @@ impl<'a> Context<'a> {
     pub fn visible(&self) -> Result<Vec<u32>, AllocError>
         ensures { IfOk result (λ slots. slots.items ≡ visible self.now) }
     {
-        slots_of(self.alloc, self.bound.as_slice())
+        self.bound.listed(self.alloc)
     }
 
     /// With one more variable in the innermost scope, in the slot.

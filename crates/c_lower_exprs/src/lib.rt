@@ -7,6 +7,7 @@ pub mod members;
 pub mod operators;
 mod params;
 pub mod site;
+pub mod slots;
 pub mod values;
 
 pub use params::param_count;

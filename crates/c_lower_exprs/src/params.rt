@@ -6,7 +6,7 @@ ghost use Rattle.c_tree.specs.Syntax.{param_tree, params_tree};
 ghost use Rattle.c_types_names.specs.Behind.{behind_params};
 ghost use Rattle.c_lower_exprs.specs.Seen.{stacked};
 
-use crate::context::Bound;
+use crate::slots::{Bound, Slots};
 use c_tree::{Param, Params};
 use c_types_names::env::Env;
 use c_types_names::objects::param_kind;
@@ -28,13 +28,13 @@ pub fn param_count(params: &Params) -> u32
 /// The variable of the parameter in the slot, if it has a name.
 fn add_param<'a>(
     env: &mut Env<'a>,
-    bound: &mut Vec<Bound<'a>>,
+    bound: &mut Slots<'a>,
     param: &'a Param,
     slot: u32,
 ) -> Result<(), AllocError>
     ensures tables { env.new.tables ≡ env.old.tables }
     ensures env { OnOk result (env.new ≡ behind_params env.old (param_tree param.now ∷ [])) }
-    ensures bound { OnOk result (stacked bound.new.items ≡ bound_params slot (param_tree param.now ∷ []) (stacked bound.old.items)) }
+    ensures bound { OnOk result (stacked bound.new ≡ bound_params slot (param_tree param.now ∷ []) (stacked bound.old)) }
 {
     match &param.name {
         None => Ok(()),
@@ -53,14 +53,14 @@ fn add_param<'a>(
 /// The variables of parameters, in the slots from one on.
 fn add_more_params<'a>(
     env: &mut Env<'a>,
-    bound: &mut Vec<Bound<'a>>,
+    bound: &mut Slots<'a>,
     params: &'a [Param],
     first: u32,
 ) -> Result<(), AllocError>
     ensures tables { env.new.tables ≡ env.old.tables }
     ensures env { OnOk result (env.new ≡ behind_params env.old (map param_tree params.now)) }
     ensures bound { OnOk result (first + length params.now < 4294967296
-        → stacked bound.new.items ≡ bound_params first (map param_tree params.now) (stacked bound.old.items)) }
+        → stacked bound.new ≡ bound_params first (map param_tree params.now) (stacked bound.old)) }
 {
     let mut slot = first;
     for param in params {
@@ -73,13 +73,13 @@ fn add_more_params<'a>(
 /// The variables of a procedure's parameters, in the first slots.
 pub fn add_params<'a>(
     env: &mut Env<'a>,
-    bound: &mut Vec<Bound<'a>>,
+    bound: &mut Slots<'a>,
     params: &'a Params,
 ) -> Result<(), AllocError>
     ensures tables { env.new.tables ≡ env.old.tables }
     ensures env { OnOk result (env.new ≡ behind_params env.old (listed (params_tree params.now))) }
     ensures bound { OnOk result (length (listed (params_tree params.now)) < 4294967296
-        → stacked bound.new.items ≡ bound_params 0 (listed (params_tree params.now)) (stacked bound.old.items)) }
+        → stacked bound.new ≡ bound_params 0 (listed (params_tree params.now)) (stacked bound.old)) }
 {
     match params {
         Params::Empty => Ok(()),

@@ -5,4 +5,5 @@ pub mod Appending
 pub mod Definitions
 pub mod Stars
 pub mod Fields
+pub mod FieldPlaces
 pub mod FirstRefusals

@@ -37,13 +37,13 @@ behind : {X : Type 0} (passes : Bool) (found : X) (o : Option X) (last : Bool) (
 behind true found o last x = refl
 behind false found o last x = refl
 
-over : {X Y : Type 0} (seen : X → Y) (o : Option X) (passes : Bool) (x : X)
+pub over : {X Y : Type 0} (seen : X → Y) (o : Option X) (passes : Bool) (x : X)
     → option_map seen (or_first o passes x) ≡ or_first (option_map seen o) passes (seen x)
 over seen None true x = refl
 over seen None false x = refl
 over seen (Some found) passes x = refl
 
-seen_behind : {X Y : Type 0} (seen : X → Y) (xs : List X) (x : X) → map seen xs ++ seen x ∷ [] ≡ map seen (xs ++ x ∷ [])
+pub seen_behind : {X Y : Type 0} (seen : X → Y) (xs : List X) (x : X) → map seen xs ++ seen x ∷ [] ≡ map seen (xs ++ x ∷ [])
 seen_behind seen [] x = refl
 seen_behind seen (first ∷ others) x = ap (λ ys. seen first ∷ ys) (seen_behind seen others x)
 

@@ -1,5 +1,5 @@
 -- The fields of structures as they are declared.
-use Rattle.std.specs.Prelude.{ℕ, suc, Option, Some, None, List, [], ◌∷◌, ◌++◌, map, if◌then◌else◌}
+use Rattle.std.specs.Prelude.{ℕ, suc, Option, Some, None, List, [], ◌∷◌, ◌++◌, map, option_map, if◌then◌else◌}
 use Rattle.std.specs.Str.{bytes_eq}
 use Rattle.c_grammar.specs.Trees.{Specifier, Declarator, Fields}
 use Rattle.c_types_rules.specs.Tables.{Tables, Structure, FieldKind, field_kind}
@@ -38,6 +38,11 @@ field_named (first ∷ others) n = if bytes_eq first.declarator.name.text n then
 abbrev pub field_in_table : Option (List DeclaredTree) → List ℕ → Option DeclaredTree
 field_in_table None n = None
 field_in_table (Some fields) n = field_named fields n
+
+-- the place of the first field of the name, if there is one
+abbrev pub first_place : List DeclaredTree → List ℕ → Option ℕ
+first_place [] n = None
+first_place (first ∷ others) n = if bytes_eq first.declarator.name.text n then Some 0 else option_map suc (first_place others n)
 
 -- the place of the first field of the name, or how many fields there are
 abbrev pub place_named : List DeclaredTree → List ℕ → ℕ

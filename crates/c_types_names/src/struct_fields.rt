@@ -16,7 +16,6 @@ ghost use Rattle.c_types_names.specs.StructFields.{
 };
 
 use crate::first_of_name::{Firsts, add_first, first_of};
-use crate::kinds::same_name;
 use c_tree::{Declarator, FieldDecl, Name, TypeSpecifier};
 use indexmap::IndexMap;
 use std::alloc::{AllocError, Global};
@@ -29,22 +28,22 @@ pub struct DeclaredField<'a> {
     pub declarator: &'a Declarator,
 }
 
-/// The fields of a structure.
+/// The fields of a structure, and the place of the first one of each name.
 pub struct StructFields<'a> {
     all: Vec<DeclaredField<'a>>,
-    first: Firsts<'a, DeclaredField<'a>>,
+    places: Firsts<'a, usize>,
 }
 
 impl<'a> Model for StructFields<'a> {
-    ghost use Rattle.std.specs.Prelude.{◌≡◌, ℕ, List, map, option_map};
+    ghost use Rattle.std.specs.Prelude.{◌≡◌, ℕ, List, map};
     ghost use Rattle.c_types_names.specs.FirstOfName.{first_of};
-    ghost use Rattle.c_types_names.specs.StructFields.{DeclaredTree, declared_seen, field_named};
+    ghost use Rattle.c_types_names.specs.StructFields.{DeclaredTree, declared_seen, first_place};
 
     ghost Value = { List DeclaredTree };
 
     ghost view = { λ f. map declared_seen f.all.items };
 
-    ghost invariant = { λ f. (n : List ℕ) → option_map declared_seen (first_of f.first n) ≡ field_named (map declared_seen f.all.items) n };
+    ghost invariant = { λ f. (n : List ℕ) → first_of f.places n ≡ first_place (map declared_seen f.all.items) n };
 }
 
 // Written out, so that callers' proofs take the end of the fields as one call.
@@ -52,21 +51,9 @@ impl<'a> Drop for StructFields<'a> {
     fn drop(self) {
         let StructFields {
             all: _all,
-            first: _first,
+            places: _places,
         } = self;
     }
-}
-
-/// The place of the first field of the name, or how many fields there are.
-fn place_among(fields: &[DeclaredField], name: &Name) -> usize
-    ensures { result ≡ place_named (map declared_seen fields.now) name.now }
-{
-    for (place, field) in fields.iter().enumerate() {
-        if same_name(&field.declarator.name.text, name) {
-            return place;
-        }
-    }
-    fields.len()
 }
 
 impl<'a> StructFields<'a> {
@@ -76,7 +63,7 @@ impl<'a> StructFields<'a> {
     {
         StructFields {
             all: Vec::new(alloc),
-            first: IndexMap::new(alloc),
+            places: IndexMap::new(alloc),
         }
     }
 
@@ -91,14 +78,20 @@ impl<'a> StructFields<'a> {
     pub fn first(&self, name: &Name) -> Option<DeclaredField<'a>>
         ensures { option_map declared_seen result ≡ field_named self.now name.now }
     {
-        first_of(&self.first, name)
+        match first_of(&self.places, name) {
+            None => None,
+            Some(place) => self.all.as_slice().get(place).copied(),
+        }
     }
 
-    /// The place of the first field of the name, or how many fields there are.
+    /// The place of the first field of the name, or how many fields there are. It is found in the same time however many fields there are.
     pub fn place(&self, name: &Name) -> usize
         ensures { result ≡ place_named self.now name.now }
     {
-        place_among(self.all.as_slice(), name)
+        match first_of(&self.places, name) {
+            None => self.all.len(),
+            Some(place) => place,
+        }
     }
 
     /// With one more field.
@@ -106,8 +99,9 @@ impl<'a> StructFields<'a> {
         ensures { OnOk result (self.new ≡ self.old ++ declared_seen one.entry ∷ []) }
     {
         self.all.reserve(1)?;
-        self.first.reserve(1)?;
-        add_first(&mut self.first, &one.declarator.name.text, one);
+        self.places.reserve(1)?;
+        let place = self.all.len();
+        add_first(&mut self.places, &one.declarator.name.text, place);
         self.all.push(one).unwrap();
         Ok(())
     }

@@ -11,6 +11,6 @@ invariant-loop-param l = record {
   tables : l.env.tables ≡ l.initial.env.tables;
   slot : l.slot ≡ min (l.first + l.param-index) 4294967295;
   bound : l.first + length l.params < 4294967296
-      → bound_params (l.first + l.param-index) (map param_tree (drop l.param-index l.params)) (stacked l.bound.items)
-      ≡ bound_params l.first (map param_tree l.params) (stacked l.initial.bound.items);
+      → bound_params (l.first + l.param-index) (map param_tree (drop l.param-index l.params)) (stacked l.bound)
+      ≡ bound_params l.first (map param_tree l.params) (stacked l.initial.bound);
 }

@@ -8,5 +8,5 @@ use Rattle.c_lower_exprs.proofs.params.add_param.Goals as goal
 
 pub returns-in_ok-push-in-Some-clause-bound : goal.returns-in_ok-push-in-Some-clause-bound
 returns-in_ok-push-in-Some-clause-bound c =
-    ap stacked c.in_ok-push-in-Some.ensures.items ∙ stacked-push c.args.bound.now.items _
-    ∙ ap (λ n. bound_param c.args.slot (option_map ident_tree n) (stacked c.args.bound.now.items)) (sym c.in-Some.is)
+    ap stacked c.in_ok-push-in-Some.ensures.more ∙ stacked-push c.args.bound.now _
+    ∙ ap (λ n. bound_param c.args.slot (option_map ident_tree n) (stacked c.args.bound.now)) (sym c.in-Some.is)

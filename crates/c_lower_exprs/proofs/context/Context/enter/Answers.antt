@@ -5,5 +5,5 @@ use Rattle.c_lower_exprs.proofs.context.Context.enter.Goals as goal
 
 pub returns-clause-bound : goal.returns-clause-bound
 returns-clause-bound c =
-    let kept : c.len-bound.result ≡ length c.self.inside.bound.items = search rules in
-    kept ∙ sym (length-stacked c.self.inside.bound.items) ∙ ap (λ (x : Context). length x.bound) c.self.view_is
+    let kept : c.len-bound.result ≡ length c.self.inside.bound = search rules in
+    kept ∙ sym (length-stacked c.self.inside.bound) ∙ ap (λ (x : Context). length x.bound) c.self.view_is

@@ -14,8 +14,8 @@ invariant_of-self c = λ tag n.
 
 pub returns : goal.returns
 returns c = λ outer within begin bound.
-    ap (λ (x : Context). record x { env = c.leave.new.self; bound = stacked c.truncate.new.self.items }) c.self.view_is
-    ∙ ap (λ bs. record c.args.self.now { env = c.leave.new.self; bound = stacked bs }) c.truncate.ensures.items
-    ∙ context_left outer c.args.self.now c.self.inside.env c.self.inside.bound.items c.leave.new.self c.args.scope.begin c.args.scope.bound
+    ap (λ (x : Context). record x { env = c.leave.new.self; bound = stacked c.truncate.new.self }) c.self.view_is
+    ∙ ap (λ bs. record c.args.self.now { env = c.leave.new.self; bound = stacked bs }) c.truncate.ensures
+    ∙ context_left outer c.args.self.now c.self.inside.env c.self.inside.bound c.leave.new.self c.args.scope.begin c.args.scope.bound
     (ap (λ (x : Context). x.env) (sym c.self.view_is))
     (ap (λ (x : Context). x.bound) (sym c.self.view_is)) c.leave.ensures within begin bound

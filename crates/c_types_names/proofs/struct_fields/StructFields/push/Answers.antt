@@ -1,14 +1,24 @@
-use Rattle.std.proofs.Common.{◌≡◌, [], ◌∷◌, ◌++◌, map, option_map, refl, sym, ap, ◌∙◌, rules}
+use Rattle.std.proofs.Common.{◌≡◌, [], ◌∷◌, ◌++◌, length, map, sym, ap, ◌∙◌, rules}
+use Rattle.std.proofs.lemmas.List.{length-map}
 use Rattle.std.specs.Map.{lookup}
 use Rattle.std.specs.Str.{bytes_eq}
-use Rattle.c_types_names.specs.StructFields.{declared_seen, field_named}
-use Rattle.c_types_names.proofs.Noting.{one_more}
+use Rattle.c_types_names.specs.FirstOfName.{or_first}
+use Rattle.c_types_names.specs.StructFields.{declared_seen, first_place}
+use Rattle.c_types_names.proofs.Noting.{seen_behind}
+use Rattle.c_types_names.proofs.FieldPlaces.{one_more_place}
 use Rattle.c_types_names.proofs.struct_fields.StructFields.push.Goals as goal
 
 pub invariant_of-self-2 : goal.invariant_of-self-2
 invariant_of-self-2 c = λ n.
-    let items : c.push.new.self.items ≡ c.self.inside.all.items ++ c.args.one ∷ [] = search rules in
-    let kept = ap (λ es. option_map declared_seen (lookup (λ k. bytes_eq n k.now) es)) c.reserve-2.ensures.entries ∙ c.self.invariant n in
-    one_more declared_seen (λ y. bytes_eq y.declarator.name.text n) (λ ys. field_named ys n) refl (λ y ys. refl) _ _ _ c.args.one kept
-    (c.add_first.ensures n)
-    ∙ ap (λ xs. field_named (map declared_seen xs) n) (sym items)
+    let before = c.self.inside.all.items in
+    let seen = map declared_seen before in
+    let has_name = bytes_eq c.args.one.declarator.now.name.text n in
+    let items : c.push.new.self.items ≡ before ++ c.args.one ∷ [] = search rules in
+    let len : c.len-place.result ≡ length before = search rules in
+    let kept = ap (λ es. lookup (λ k. bytes_eq n k.now) es) c.reserve-2.ensures.entries ∙ c.self.invariant n in
+    c.add_first.ensures n
+    ∙ ap (λ found. or_first found has_name c.len-place.result) kept
+    ∙ ap (or_first (first_place seen n) has_name) (len ∙ sym (length-map before declared_seen))
+    ∙ one_more_place seen (declared_seen c.args.one) n
+    ∙ ap (λ xs. first_place xs n) (seen_behind declared_seen before c.args.one)
+    ∙ ap (λ xs. first_place (map declared_seen xs) n) (sym items)
