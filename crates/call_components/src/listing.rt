@@ -13,7 +13,7 @@ use shape_data::Name;
 use std::alloc::{AllocError, Global};
 
 /// Marks the numbers.
-#[tactic(auto, using(crate::proofs::Listed::more_marked))]
+#[tactic(auto, using(crate::proofs::ListedByMarks::more_marked))]
 pub fn mark_all(numbers: &[u32], marks: &mut Vec<bool>)
     requires { All (λ number. number < length marks.old.items) numbers.now }
     ensures lengths { length marks.new.items ≡ length marks.old.items }
