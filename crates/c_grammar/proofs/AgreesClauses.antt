@@ -17,10 +17,10 @@ use Rattle.c_grammar.specs.Readers.{read_call, read_members, with_members, close
 use Rattle.c_grammar.specs.Readers.{assign_by, read_target, read_called, read_named, other_by, simple_by, read_simple, begins_simple}
 use Rattle.c_grammar.specs.Readers.{read_value, read_initialized, read_locals, Clause, Declares, Does, read_typed, begins_declarator}
 use Rattle.c_grammar.specs.Readers.{clause_named, clause_by, read_clause, begins_clause}
-use Rattle.c_grammar.proofs.Agreeing.{AreProper, IsBehind, itself, one_behind, proper_behind, AgreesAs, ReadsAs, agree_then, agree_behind}
-use Rattle.c_grammar.proofs.Agreeing.{agree_map, test_class, test_classes, AgreesBy, by_class, wrong_agrees, behind_word, maybe_agrees}
-use Rattle.c_grammar.proofs.Agreeing.{step, over_open, at_word, at_last, at_end}
-use Rattle.c_grammar.proofs.Agrees.{specifier_agrees, declarator_agrees, commas, read_commas, commas_agree}
+use Rattle.c_grammar.proofs.Agreement.{AreProper, IsBehind, itself, one_behind, proper_behind, AgreesAs, ReadsAs, agree_then, agree_behind}
+use Rattle.c_grammar.proofs.Agreement.{agree_map, test_class, test_classes, AgreesBy, by_class, wrong_agrees, behind_word, maybe_agrees}
+use Rattle.c_grammar.proofs.Agreement.{step, over_open, at_word, at_last, at_end}
+use Rattle.c_grammar.proofs.AgreesTypes.{specifier_agrees, declarator_agrees, commas, read_commas, commas_agree}
 use Rattle.c_grammar.proofs.AgreesExprs.{proper_first, closed_agrees, call_rule, call_agrees, is_open_same, member_rule, members_agree}
 use Rattle.c_grammar.proofs.AgreesExprs.{members_spell, expr_agrees, below_agrees}
 

@@ -19,11 +19,12 @@ use Rattle.c_grammar.specs.Readers.{read_size_of, read_malloc, read_cast, read_p
 use Rattle.c_grammar.specs.Readers.{read_prefix, unary_by, op_at, link_by, read_links, chained, read_chain, read_unary, read_expr}
 use Rattle.c_grammar.specs.Readers.{read_below}
 use Rattle.c_grammar.proofs.Numbers.{numbered-number_of}
-use Rattle.c_grammar.proofs.Found.{tighter}
-use Rattle.c_grammar.proofs.Agreeing.{AreProper, itself, one_behind, proper_behind, AgreesAs, ReadsAs, ReadsWhere, agree_then, agree_behind}
-use Rattle.c_grammar.proofs.Agreeing.{agree_as, agree_map, test_class, test_classes, name_agrees, AgreesBy, by_class, wrong_agrees}
-use Rattle.c_grammar.proofs.Agreeing.{deep_agrees, each_agrees, behind_word, step, over, over_open, at_word, at_last}
-use Rattle.c_grammar.proofs.Agrees.{specifier_agrees}
+use Rattle.c_grammar.proofs.DerivedExprs.{tighter}
+use Rattle.c_grammar.proofs.Agreement.{AreProper, itself, one_behind, proper_behind, AgreesAs, ReadsAs, ReadsWhere, agree_then}
+use Rattle.c_grammar.proofs.Agreement.{agree_behind, agree_as, agree_map, test_class, test_classes, name_agrees, AgreesBy, by_class}
+use Rattle.c_grammar.proofs.Agreement.{wrong_agrees}
+use Rattle.c_grammar.proofs.Agreement.{deep_agrees, each_agrees, behind_word, step, over, over_open, at_word, at_last}
+use Rattle.c_grammar.proofs.AgreesTypes.{specifier_agrees}
 use Rattle.c_grammar.proofs.Parts.{length-classes}
 
 pub proper_first : (c : Class) (first : Word) (others : List Word) → first.class ≡ number_of c → AreProper others

@@ -15,10 +15,10 @@ use Rattle.c_grammar.specs.Spelling.{Rule, word, word_at, name, each, maybe, spe
 use Rattle.c_grammar.specs.Readers.{Halt, ◌>>=◌, class_at, is_class, take, name_here, read_name, read_each, read_declarator}
 use Rattle.c_grammar.specs.Readers.{read_struct_body, read_params, read_body, read_stmt, head_of, read_definition, item_end_by, read_headed}
 use Rattle.c_grammar.specs.Readers.{struct_by, read_typedef_struct, read_typedef_alias, read_typedef, item_by, read_item, begins_item}
-use Rattle.c_grammar.proofs.Agreeing.{AreProper, IsBehind, itself, one_behind, proper_behind, AgreesAs, ReadsAs, test_class, test_classes}
-use Rattle.c_grammar.proofs.Agreeing.{name_agrees, AgreesBy, by_class, wrong_agrees, deep_agrees, each_agrees, step, over, over_open}
-use Rattle.c_grammar.proofs.Agreeing.{at_word, at_last, at_end}
-use Rattle.c_grammar.proofs.Agrees.{declarator_agrees, struct_body_agrees, params_agrees}
+use Rattle.c_grammar.proofs.Agreement.{AreProper, IsBehind, itself, one_behind, proper_behind, AgreesAs, ReadsAs, test_class, test_classes}
+use Rattle.c_grammar.proofs.Agreement.{name_agrees, AgreesBy, by_class, wrong_agrees, deep_agrees, each_agrees, step, over, over_open}
+use Rattle.c_grammar.proofs.Agreement.{at_word, at_last, at_end}
+use Rattle.c_grammar.proofs.AgreesTypes.{declarator_agrees, struct_body_agrees, params_agrees}
 use Rattle.c_grammar.proofs.AgreesExprs.{proper_first}
 use Rattle.c_grammar.proofs.AgreesStmts.{body_rule, body_agrees, stmt_agrees}
 

@@ -17,9 +17,9 @@ use Rattle.c_grammar.specs.Readers.{Got, ◌>>=◌, too_deep, class_at, place_at
 use Rattle.c_grammar.specs.Readers.{read_simple, begins_simple, Clause, Declares, Does, clause_by, read_clause, begins_clause, stmt_of}
 use Rattle.c_grammar.specs.Readers.{init_of, flat_by, read_test, begins_stmt, read_stmts, Body, read_body, if_of, read_else, read_if}
 use Rattle.c_grammar.specs.Readers.{read_while, read_do, read_for, nested_by, opens_level, read_stmt}
-use Rattle.c_grammar.proofs.Agreeing.{AreProper, IsBehind, itself, one_behind, proper_behind, AgreesAs, ReadsAs, agree_then, agree_behind}
-use Rattle.c_grammar.proofs.Agreeing.{agree_map, test_class, test_classes, AgreesBy, by_class, deep_agrees, maybe_agrees, step, over}
-use Rattle.c_grammar.proofs.Agreeing.{over_open, at_word, at_last}
+use Rattle.c_grammar.proofs.Agreement.{AreProper, IsBehind, itself, one_behind, proper_behind, AgreesAs, ReadsAs, agree_then, agree_behind}
+use Rattle.c_grammar.proofs.Agreement.{agree_map, test_class, test_classes, AgreesBy, by_class, deep_agrees, maybe_agrees, step, over}
+use Rattle.c_grammar.proofs.Agreement.{over_open, at_word, at_last}
 use Rattle.c_grammar.proofs.AgreesExprs.{proper_first, begins_expr_same, expr_agrees}
 use Rattle.c_grammar.proofs.AgreesClauses.{simple_agrees, begins_simple_same, clause_rule, clause_by_agrees, clause_agrees}
 use Rattle.c_grammar.proofs.AgreesClauses.{begins_clause_same}
@@ -224,7 +224,7 @@ else_agrees n agrees words proper =
         (λ (y : Option Stmt × List Word). y.1) (λ y. else_rule y.0 words y.1) words
         (λ x. (Some x.0, x.1)) (λ x. refl) (λ x h. h) (read_else (read_stmt n) words)
         (reads (Both (AWord Classes.ELSE) (Forms.stmt_form n)) (classes words))
-        (Rattle.c_grammar.proofs.Agreeing.behind_word class.Else refl stmt (read_stmt n) (Forms.stmt_form n) agrees words proper is)
+        (Rattle.c_grammar.proofs.Agreement.behind_word class.Else refl stmt (read_stmt n) (Forms.stmt_form n) agrees words proper is)
 
 if_spells : (place : Place) (test : Expr) (body : Stmt) (other : Option Stmt) (from a b mid to : List Word)
     → word_at place Classes.IF from a → test_rule test a b → stmt body b mid → else_rule other mid to

@@ -16,11 +16,11 @@ use Rattle.c_grammar.specs.Nesting.{file_nesting}
 use Rattle.c_grammar.specs.Spelling.{Spells}
 use Rattle.c_grammar.specs.Forms.{file_form}
 use Rattle.c_grammar.specs.Refusals.{MOST_LEVELS, BeginWithin, IsRefused}
-use Rattle.c_grammar.proofs.Goods.{file_good}
+use Rattle.c_grammar.proofs.OneWordAhead.{file_good}
 use Rattle.c_grammar.proofs.Opens.{file_opens}
 use Rattle.c_grammar.proofs.Parts.{classes-append, classes_of}
 use Rattle.c_grammar.proofs.SpelledFiles.{is_file}
-use Rattle.c_grammar.proofs.FoundFiles.{file_found}
+use Rattle.c_grammar.proofs.DerivedFiles.{file_found}
 
 -- what a file spells is read to its end
 pub read_file : (n : ℕ) (file : File) (words : List Word) → Spells file words → file_nesting file ≤ n

@@ -15,12 +15,12 @@ use Rattle.c_grammar.specs.Nesting.{file_nesting}
 use Rattle.c_grammar.specs.Spelling.{Spells, word}
 use Rattle.c_grammar.specs.Refusals.{MOST_LEVELS, IsRefused}
 use Rattle.c_grammar.specs.Readers.{Halt, ◌>>=◌, take, read_each, begins_item, read_item, read_file}
-use Rattle.c_grammar.proofs.Goods.{file_good}
+use Rattle.c_grammar.proofs.OneWordAhead.{file_good}
 use Rattle.c_grammar.specs.declared.class.Class.TheVariants as class
 use Rattle.grammar_laws.proofs.Classes.{or_right, out_of_left}
 use Rattle.grammar_laws.proofs.Taken.{takes}
 use Rattle.c_grammar.proofs.Exact.{code_of, longer, refused}
-use Rattle.c_grammar.proofs.Agreeing.{AreProper, IsBehind, AgreesAs}
+use Rattle.c_grammar.proofs.Agreement.{AreProper, IsBehind, AgreesAs}
 use Rattle.c_grammar.proofs.AgreesFiles.{FileGot, read_file_with, file_rule, file_agrees}
 use Rattle.c_grammar.proofs.Within.{file_within}
 

@@ -17,7 +17,7 @@ use Rattle.c_grammar.specs.Nesting.{file_nesting}
 use Rattle.c_grammar.specs.Spelling.{Spells}
 use Rattle.c_grammar.specs.Refusals.{MOST_LEVELS, RefusedAt}
 use Rattle.c_grammar.specs.Readers.{Halt, read_file, refusal_of}
-use Rattle.c_grammar.proofs.Agreeing.{AreProper}
+use Rattle.c_grammar.proofs.Agreement.{AreProper}
 use Rattle.c_grammar.proofs.Exact.{code_of}
 use Rattle.c_grammar.proofs.Parsed.{ParseIs, parsed, spelled}
 

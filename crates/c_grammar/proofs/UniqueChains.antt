@@ -10,7 +10,7 @@ use Rattle.c_grammar.specs.Trees.{BinaryOp, Expr, Links}
 use Rattle.c_grammar.specs.Spelling.{word, class_of_binary, level_of, expr_at, links_at}
 use Rattle.c_grammar.specs.Nesting.{nesting, links_nesting}
 use Rattle.c_grammar.specs.Readers.{chained}
-use Rattle.c_grammar.proofs.Goods.{expr_good}
+use Rattle.c_grammar.proofs.OneWordAhead.{expr_good}
 use Rattle.c_grammar.proofs.Parts.{is_both}
 use Rattle.c_grammar.proofs.Spelled.{is_op, is_expr, is_links}
 use Rattle.c_grammar.proofs.Synced.{Ends, synced_both, ends_first, fewer, no_more, good_pair, begins_neither}

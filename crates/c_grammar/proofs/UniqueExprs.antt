@@ -17,7 +17,7 @@ use Rattle.c_grammar.specs.Spelling.{class_of_prefix, size_of, expr_at, call_arg
 use Rattle.c_grammar.specs.Nesting.{nesting, args_nesting}
 use Rattle.grammar_laws.proofs.Taken.{took_some}
 use Rattle.c_grammar.specs.Readers.{with_members}
-use Rattle.c_grammar.proofs.Goods.{expr_good}
+use Rattle.c_grammar.proofs.OneWordAhead.{expr_good}
 use Rattle.c_grammar.proofs.Parts.{is_word, is_both, is_known}
 use Rattle.c_grammar.proofs.Spelled.{Leads, is_name, is_open, is_each, levels_left, is_expr, is_args, is_more_args}
 use Rattle.c_grammar.proofs.Synced.{Ends, synced_both, ends_first, fewer, no_more, Unique, unique_each, good_pair, begins_neither}

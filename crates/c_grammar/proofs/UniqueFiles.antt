@@ -11,7 +11,7 @@ use Rattle.c_grammar.specs.Trees.{Name, Specifier, Declarator, Fields, Param, Pa
 use Rattle.c_grammar.specs.Spelling.{Rule, ◌⨾◌, word, word_at, open_paren, name, each, maybe, specifier, stars, declarator, fields}
 use Rattle.c_grammar.specs.Spelling.{struct_body, param, is_void, params, head, stmts, item, Spells}
 use Rattle.c_grammar.specs.Nesting.{deepest, item_nesting, file_nesting}
-use Rattle.c_grammar.proofs.Goods.{item_good, file_good}
+use Rattle.c_grammar.proofs.OneWordAhead.{item_good, file_good}
 use Rattle.c_grammar.proofs.Parts.{is_word}
 use Rattle.c_grammar.proofs.Spelled.{Leads, is_name, is_each, is_maybe, is_specifier, is_stars, is_declarator, is_behind_comma, is_fields}
 use Rattle.c_grammar.proofs.Spelled.{is_param, is_params}

@@ -16,7 +16,7 @@ use Rattle.c_grammar.specs.Trees.{Name, Specifier, Declarator, Expr, Args, Assig
 use Rattle.c_grammar.specs.Spelling.{Rule, word, word_at, open_paren, name, each, maybe, specifier, declarator, expr_at, class_of_assign}
 use Rattle.c_grammar.specs.Spelling.{class_of_step, simple, initialized, local}
 use Rattle.c_grammar.specs.Nesting.{nesting, args_nesting, deepest, maybe_nesting, simple_nesting, initialized_nesting, local_nesting}
-use Rattle.c_grammar.proofs.Goods.{expr_good, simple_good}
+use Rattle.c_grammar.proofs.OneWordAhead.{expr_good, simple_good}
 use Rattle.c_grammar.proofs.Parts.{is_word, is_word_at, is_nothing, is_both, is_first, is_second, is_known, either_part, both_parts}
 use Rattle.c_grammar.proofs.Spelled.{Leads, is_name, is_each, is_declarator, is_expr}
 use Rattle.c_grammar.proofs.SpelledFiles.{is_simple, is_assign, is_step}

@@ -14,7 +14,7 @@ use Rattle.c_grammar.specs.Matching.{IsForm}
 use Rattle.c_grammar.specs.Trees.{Expr, Simple, Local, ForInit, Stmt, Stmts}
 use Rattle.c_grammar.specs.Spelling.{Rule, word, word_at, open_paren, maybe, expr_at, simple, local, for_init, NoElse, stmt, stmts}
 use Rattle.c_grammar.specs.Nesting.{nesting, maybe_nesting, simple_nesting, local_nesting, init_nesting, stmt_nesting, stmts_nesting}
-use Rattle.c_grammar.proofs.Goods.{expr_good, simple_good, clause_good, stmt_good}
+use Rattle.c_grammar.proofs.OneWordAhead.{expr_good, simple_good, clause_good, stmt_good}
 use Rattle.c_grammar.proofs.Parts.{is_word, is_both, is_known}
 use Rattle.c_grammar.proofs.SpelledFiles.{is_simple, simple_clause, is_local, is_init, is_optional, is_once, is_stmt, is_stmts}
 use Rattle.c_grammar.proofs.Synced.{Ends, synced, synced_both, ends_first, fewer, no_more}

@@ -10,7 +10,7 @@ ghost use Rattle.c_lower.specs.Bodies.{IsBodyOf};
 ghost use Rattle.c_lower.specs.Closing.{opening, closed_of, behind_opening, no_out, Closes};
 
 use crate::closing::closed_body;
-use crate::finish::finish;
+use crate::emitted_body::body_of;
 use c_lower_emit::drafts::Label;
 use c_lower_emit::loops::Loop;
 use c_lower_emit::output::Output;
@@ -111,8 +111,8 @@ pub fn lower_body<'a>(
     let mut out = Output::new(alloc);
     let begin = closed(context, head, body, locals, &mut out)?;
     if begin.place() == 0 {
-        return finish(alloc, out);
+        return body_of(alloc, out);
     }
     let out = opened(alloc, context, head, body, locals)?;
-    finish(alloc, out)
+    body_of(alloc, out)
 }

@@ -6,9 +6,9 @@
 pub mod body;
 mod building;
 mod closing;
+mod emitted_body;
 mod fault;
 mod fields;
-mod finish;
 mod items;
 mod locals;
 mod lowering;

@@ -76,7 +76,6 @@ pub fn lower(alloc: Global, typed: Typed<'_>, files: &[Name]) -> Result<Program,
         units,
         tables,
         structs,
-        kinds: _kinds,
     } = typed;
     let mut context = Context::new(alloc, tables);
     let built = build(alloc, &mut context, units, files)?;

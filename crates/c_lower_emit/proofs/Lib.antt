@@ -1,5 +1,6 @@
 mod Temps
 mod Inserting
+mod Listing
 pub mod Leading
 pub mod Joining
 pub mod Using

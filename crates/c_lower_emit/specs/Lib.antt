@@ -1,3 +1,4 @@
 pub mod Drafts
+pub mod OpenPlaces
 pub mod Seen
 pub mod Emitting

@@ -1,6 +1,7 @@
 //! Nodes whose ways on may still be exits of the piece that they belong to.
 ghost use Rattle.std.specs.Prelude.{◌≡◌, IfOk, map};
 ghost use Rattle.c_lower_emit.specs.Drafts.{redirect, next_at, redirected, put_to, aimed, laid, at_start, resolve};
+ghost use Rattle.c_lower_emit.specs.OpenPlaces.{is_exit, is_open};
 
 use shape_data::program::{Cmd, Node};
 use std::alloc::{AllocError, Global};
@@ -73,6 +74,16 @@ impl Label {
             next: begin,
             ..AS_THEY_ARE
         })
+    }
+
+    /// Whether it is an exit, and no place.
+    fn is_exit(self) -> bool
+        ensures { result ≡ is_exit self }
+    {
+        match self {
+            Label::At(_) => false,
+            _ => true,
+        }
     }
 
     /// The place; exits lead to the first one.
@@ -227,6 +238,13 @@ impl Draft {
     {
         self.next = self.next.redirect(ways);
         self.other = self.other.redirect(ways);
+    }
+
+    /// Whether it has an exit that is still open.
+    pub fn is_open(&self) -> bool
+        ensures { result ≡ is_open self.now }
+    {
+        self.next.is_exit() || self.other.is_exit()
     }
 
     /// The node, where each exit leads to the first place.

@@ -2,6 +2,7 @@
 //! is a piece of `c_lower_rules`'s definitions; how pieces are put together is said there, and proved here once for each way.
 #![tactic(auto)]
 
+pub mod draft_list;
 pub mod drafts;
 pub mod loops;
 pub mod output;

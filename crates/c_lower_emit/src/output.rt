@@ -6,6 +6,7 @@ ghost use Rattle.c_lower_emit.specs.Seen.{loop_seen, temp_seen};
 ghost use Rattle.c_lower_emit.specs.Emitting.{led_out, with_draft, with_loop};
 ghost use Rattle.c_lower_emit.specs.Drafts.{next_at};
 
+use crate::draft_list::DraftList;
 use crate::drafts::{AS_THEY_ARE, Draft, Label, Ways};
 use crate::loops::Loop;
 use c_types_names::kinds::{CType, may_agree};
@@ -23,7 +24,7 @@ pub struct Temp<'a> {
 /// Nodes, temporaries and loops.
 #[derive(Drop)]
 pub struct Output<'a> {
-    nodes: Vec<Draft>,
+    nodes: DraftList,
     temps: Vec<Temp<'a>>,
     loops: Vec<Loop>,
 }
@@ -44,14 +45,15 @@ impl<'a> Model for Output<'a> {
 
     ghost Value = { Out };
 
-    ghost view = { λ o. record { nodes = o.nodes.items; temps = map temp_seen o.temps.items; loops = map loop_seen o.loops.items } };
+    ghost view = { λ o. record { nodes = o.nodes; temps = map temp_seen o.temps.items; loops = map loop_seen o.loops.items } };
 }
 
 /// Whether the temporary is of the type, and not used.
 fn is_free(kind: CType, temp: Temp) -> bool
     ensures { result ≡ is_free (type_seen kind.entry) (temp_seen temp.entry) }
 {
-    may_agree(Some(temp.kind), Some(kind)) && !temp.used
+    // (types are compared by their names, so what is used is passed over first)
+    !temp.used && may_agree(Some(temp.kind), Some(kind))
 }
 
 /// The place of the first temporary of the type that is not used, or else behind all.
@@ -97,7 +99,7 @@ impl<'a> Output<'a> {
         ensures { result ≡ record { nodes = []; temps = []; loops = [] } }
     {
         Output {
-            nodes: Vec::new(alloc),
+            nodes: DraftList::new(alloc),
             temps: Vec::new(alloc),
             loops: Vec::new(alloc),
         }
@@ -112,7 +114,7 @@ impl<'a> Output<'a> {
         } }
     {
         Parts {
-            nodes: self.nodes,
+            nodes: self.nodes.into_vec(),
             temps: self.temps,
             loops: self.loops,
         }
@@ -149,11 +151,7 @@ impl<'a> Output<'a> {
     pub fn redirect(&mut self, from: usize, past: usize, ways: Ways)
         ensures { from ≤ past → past ≤ length self.old.nodes → self.new ≡ led_out from past ways self.old }
     {
-        let past = past.min(self.nodes.len());
-        let from = from.min(past);
-        for draft in self.nodes[from..past].iter_mut() {
-            draft.redirect(ways);
-        }
+        self.nodes.redirect(from, past, ways);
     }
 
     /// The pieces from one place to another go on where what follows begins.

@@ -1,13 +1,13 @@
 -- The slots of names, as variables are declared and forgotten. The last one declared is the first of each list here.
-use Rattle.std.proofs.Common.{◌≡◌, ℕ, zero, suc, ◌≤◌, Bool, true, false, cond, List, [], ◌∷◌, ◌++◌, length, map, take, reverse, Option, Some}
-use Rattle.std.proofs.Common.{None, if◌then◌else◌, unwrap_or, refl, sym, ap, ◌∙◌, true≢false, Result, Ok, Err, OnErr, is_some, arith}
+use Rattle.std.proofs.Common.{◌≡◌, ℕ, zero, suc, ◌≤◌, Bool, true, false, List, [], ◌∷◌, ◌++◌, length, map, take, reverse, Option}
+use Rattle.std.proofs.Common.{Some, None, if◌then◌else◌, unwrap_or, refl, sym, ap, ◌∙◌, is_some, arith}
 use Rattle.std.proofs.lemmas.List.{map-append, reverse-append}
 use Rattle.std.proofs.lemmas.Slice.Eq.{bytes_eq-Decides}
 use Rattle.std.specs.Str.{bytes_eq}
 use Rattle.std.specs.Option.{option_flatten}
-use Rattle.std.specs.Result.{IsOk}
 use Rattle.c_lower_rules.specs.Contexts.{slot_in, slot_of_bound}
 use Rattle.c_lower_rules.specs.Contexts as contexts
+use Rattle.c_types_names.specs.FirstOfName.{or_last}
 use Rattle.c_lower_exprs.specs.declared.slots.Bound.{Bound}
 use Rattle.c_lower_exprs.specs.declared.slots.Declared.{Declared}
 use Rattle.c_lower_exprs.specs.Seen.{bound_seen, stacked}
@@ -52,9 +52,9 @@ last_is all n = slot_is (reverse all) n ∙ ap (λ xs. slot_in xs n) (sym (stack
 -- one more is declared
 module _ (old new : List ℕ → Option (Option ℕ)) (all : List Declared) (b : Bound)
     (found : (n : List ℕ) → option_flatten (old n) ≡ slot_among all n)
-    (updates : (n : List ℕ) → new n ≡ cond (bytes_eq b.name.now n) (Some (Some b.slot)) (old n)) where
+    (updates : (n : List ℕ) → new n ≡ or_last (old n) (bytes_eq b.name.now n) (Some b.slot)) where
   flat : (b : Bool) (at : Option (Option ℕ)) (slot : ℕ) (rest : Option ℕ) → option_flatten at ≡ rest
-      → option_flatten (cond b (Some (Some slot)) at) ≡ (if b then Some slot else rest)
+      → option_flatten (or_last at b (Some slot)) ≡ (if b then Some slot else rest)
   flat true at slot rest is = refl
   flat false at slot rest is = is
 
@@ -67,10 +67,10 @@ module _ (old new : List ℕ → Option (Option ℕ)) (all : List Declared) (b :
 module _ (old new : List ℕ → Option (Option ℕ)) (all : List Declared) (last : Declared)
     (found : (n : List ℕ) → option_flatten (old n) ≡ slot_among (last ∷ all) n)
     (linked : last.hidden ≡ slot_among all last.bound.name.now)
-    (updates : (n : List ℕ) → new n ≡ cond (bytes_eq last.bound.name.now n) (Some last.hidden) (old n)) where
+    (updates : (n : List ℕ) → new n ≡ or_last (old n) (bytes_eq last.bound.name.now n) last.hidden) where
   turned : (n : List ℕ) (b : Bool) → bytes_eq last.bound.name.now n ≡ b
       → option_flatten (old n) ≡ (if b then Some last.bound.slot else slot_among all n)
-      → option_flatten (cond b (Some last.hidden) (old n)) ≡ slot_among all n
+      → option_flatten (or_last (old n) b last.hidden) ≡ slot_among all n
   turned n true same is = linked ∙ ap (slot_among all) ((bytes_eq-Decides last.bound.name.now n).0 same)
   turned n false same is = is
 
@@ -82,19 +82,6 @@ pub slot_there : (last : Declared) (before : List Declared) → is_some (slot_am
 slot_there last before =
     ap (λ b. is_some (if b then Some last.bound.slot else slot_among before last.bound.name.now))
     ((bytes_eq-Decides last.bound.name.now last.bound.name.now).1 refl)
-
-is_none : {X : Type 0} (o : Option X) → is_some o ≡ true → o ≡ None → ⊥
-is_none None some none = true≢false (sym some)
-is_none (Some x) some none = absurd cc
-
-pub must_be_ok : {T E : Type 0} (result : Result T E) (o : Option (Option ℕ)) → is_some (option_flatten o) ≡ true
-    → OnErr result (o ≡ None) → IsOk result
-must_be_ok (Ok value) o there absent = refl
-must_be_ok (Err e) o there absent = absurd (is_none o (outer o there) absent)
-  where
-    outer : (o : Option (Option ℕ)) → is_some (option_flatten o) ≡ true → is_some o ≡ true
-    outer None there = there
-    outer (Some x) there = refl
 
 -- a loop went through all
 pub all_kept : (all : List Declared) (n : ℕ) → length all ≤ n → map declared_slot (take n all) ≡ map declared_slot all

@@ -1,10 +1,8 @@
 -- Which slot a name has where variables are declared one after another.
 use Rattle.std.specs.Prelude.{◌≡◌, ℕ, List, [], ◌∷◌, reverse, Option, None, Some, if◌then◌else◌}
 use Rattle.std.specs.Str.{bytes_eq}
-use Rattle.std.specs.Borrow.{Bor}
 use Rattle.std.specs.Option.{option_flatten}
-use Rattle.indexmap.specs.IndexMap.{IndexMap}
-use Rattle.c_types_names.specs.FirstOfName.{first_of}
+use Rattle.c_types_names.specs.FirstOfName.{Firsts, first_of}
 use Rattle.c_lower_exprs.specs.declared.slots.Bound.{Bound}
 use Rattle.c_lower_exprs.specs.declared.slots.Declared.{Declared}
 
@@ -22,10 +20,10 @@ AreLinked [] = Unit
 AreLinked (last ∷ before) = (last.hidden ≡ slot_among before last.bound.name.now) × AreLinked before
 
 -- what the map says of the name
-abbrev pub slot_found : {S : Type 0} → IndexMap (Bor (List ℕ)) (Option ℕ) S → List ℕ → Option ℕ
+abbrev pub slot_found : Firsts (Option ℕ) → List ℕ → Option ℕ
 slot_found slots n = option_flatten (first_of slots n)
 
 -- the map has for each name the slot of the innermost variable of that name
-pub record IsBound {S : Type 0} (all : List Declared) (slots : IndexMap (Bor (List ℕ)) (Option ℕ) S) : Type 0 where
+pub record IsBound (all : List Declared) (slots : Firsts (Option ℕ)) : Type 0 where
   pub linked : AreLinked (reverse all)
   pub found : (n : List ℕ) → slot_found slots n ≡ slot_among (reverse all) n

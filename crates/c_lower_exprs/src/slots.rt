@@ -5,8 +5,9 @@ ghost use Rattle.c_lower_exprs.specs.Seen.{stacked};
 ghost use Rattle.c_lower_exprs.specs.Slots.{IsBound, slot_found, bound_of};
 
 use c_tree::Name;
-use indexmap::IndexMap;
+use c_types_names::first_of_name::{Firsts, first_of, set};
 use std::alloc::{AllocError, Global};
+use std::collections::BTreeMap;
 use std::marker::Model;
 
 /// A variable, and its slot.
@@ -24,9 +25,10 @@ struct Declared<'a> {
 }
 
 /// The slot of each name: one that has ever been declared has an entry, which is None where none of its variables is left.
-type SlotsOfNames<'a> = IndexMap<&'a [u8], Option<u32>>;
+type SlotsOfNames<'a> = Firsts<'a, Option<u32>>;
 
-/// Variables and their slots, the innermost one last. To find, to add and to forget one takes the same time however many there are.
+/// Variables and their slots, the innermost one last. To find, to add and to forget one takes O(log n) comparisons of names, where n names
+/// have been declared.
 pub struct Slots<'a> {
     all: Vec<Declared<'a>>,
     of_names: SlotsOfNames<'a>,
@@ -58,7 +60,7 @@ impl<'a> Drop for Slots<'a> {
 fn slot_found<'a>(of_names: &SlotsOfNames<'a>, name: &Name) -> Option<u32>
     ensures { result ≡ slot_found of_names.now name.now }
 {
-    of_names.get(name.as_bytes()).copied().flatten()
+    first_of(of_names, name)?
 }
 
 /// Forgets the last variable.
@@ -69,9 +71,7 @@ fn forget_last<'a>(all: &mut Vec<Declared<'a>>, of_names: &mut SlotsOfNames<'a>)
     ensures items { all.new.items ≡ take (length all.old.items - 1) all.old.items }
 {
     let last = all.pop().unwrap();
-    of_names
-        .insert(last.bound.name.as_bytes(), last.hidden)
-        .unwrap();
+    set(of_names, last.bound.name, last.hidden).unwrap();
 }
 
 /// Forgets all variables but the first ones.
@@ -97,12 +97,9 @@ fn declare<'a>(
     ensures same { OnErr result (all.new.items ≡ all.old.items) }
 {
     all.reserve(1)?;
-    let before = of_names.insert(bound.name.as_bytes(), Some(bound.slot))?;
-    all.push(Declared {
-        bound,
-        hidden: before.flatten(),
-    })
-    .unwrap();
+    let hidden = slot_found(of_names, bound.name);
+    set(of_names, bound.name, Some(bound.slot))?;
+    all.push(Declared { bound, hidden }).unwrap();
     Ok(())
 }
 
@@ -125,7 +122,7 @@ impl<'a> Slots<'a> {
     {
         Slots {
             all: Vec::new(alloc),
-            of_names: IndexMap::new(alloc),
+            of_names: BTreeMap::new(alloc),
         }
     }
 

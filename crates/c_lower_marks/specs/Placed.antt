@@ -1,15 +1,10 @@
 -- Marks by place, and nodes that get them.
-use Rattle.std.specs.Prelude.{ℕ, suc, Option, Some, None, List, [], ◌∷◌}
+use Rattle.std.specs.Prelude.{ℕ, suc, Option, List, [], ◌∷◌}
 use Rattle.shape_data.specs.declared.program.HeadMark.{HeadMark}
 use Rattle.shape_data.specs.declared.program.Node.{Node}
 use Rattle.shape_data.specs.declared.program.Ty.{Ty}
 use Rattle.c_lower_rules.specs.Code.{Loop}
 use Rattle.c_lower_rules.specs.Marks.{loops_at, mark_by}
-
--- the first of loops
-abbrev pub first_loop : List Loop → Option Loop
-first_loop [] = None
-first_loop (first ∷ others) = Some first
 
 -- the marks of the nodes that are left, from a place on
 abbrev pub marks_from : List Ty → List Node → List Loop → ℕ → List Node → List (Option HeadMark)

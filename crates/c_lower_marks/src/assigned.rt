@@ -1,49 +1,50 @@
 //! Which slots the nodes of loops assign.
-ghost use Rattle.std.specs.Prelude.{◌≡◌, ◌==◌, map, take, drop};
-ghost use Rattle.c_lower_rules.specs.Marks.{goes_to, assigns, assigned, nodes_of, assigned_in, loops_at};
+ghost use Rattle.std.specs.Prelude.{ℕ, false, ◌≡◌, IfOk, map, take, drop, replicate};
+ghost use Rattle.c_lower_rules.specs.Marks.{goes_to, assigns, assigned, nodes_of, assigned_in};
 ghost use Rattle.c_lower_emit.specs.Seen.{loop_seen};
+ghost use Rattle.c_lower_marks.specs.Flagged.{flagged};
 
 use c_lower_emit::loops::Loop;
 use shape_data::program::{Cmd, Node};
+use std::alloc::{AllocError, Global};
 
-/// Whether there is a number, and it is this one.
-fn goes_to(one: Option<u32>, number: u32) -> bool
-    ensures { result ≡ goes_to one number }
-{
-    match one {
-        None => false,
-        Some(one) => one == number,
-    }
-}
-
-/// Whether the command assigns the slot.
-fn assigns(cmd: &Cmd, slot: u32) -> bool
-    ensures { result ≡ assigns cmd.now slot }
+/// The slot that the command assigns, if it assigns one.
+fn assigned_slot(cmd: &Cmd) -> Option<u32>
+    ensures { (slot : ℕ) → goes_to result slot ≡ assigns cmd.now slot }
 {
     match cmd {
-        Cmd::Copy { to, .. } => *to == slot,
-        Cmd::Arith { to, .. } => *to == slot,
-        Cmd::Any { to, .. } => *to == slot,
-        Cmd::Load { to, .. } => *to == slot,
-        Cmd::Store { .. } => false,
-        Cmd::New { to, .. } => *to == slot,
-        Cmd::Free { .. } => false,
-        Cmd::Call { to, .. } => goes_to(*to, slot),
-        Cmd::Branch { .. } => false,
-        Cmd::Return { .. } => false,
+        Cmd::Copy { to, .. } => Some(*to),
+        Cmd::Arith { to, .. } => Some(*to),
+        Cmd::Any { to, .. } => Some(*to),
+        Cmd::Load { to, .. } => Some(*to),
+        Cmd::Store { .. } => None,
+        Cmd::New { to, .. } => Some(*to),
+        Cmd::Free { .. } => None,
+        Cmd::Call { to, .. } => *to,
+        Cmd::Branch { .. } => None,
+        Cmd::Return { .. } => None,
     }
 }
 
-/// Whether some node assigns the slot.
-fn assigned(nodes: &[Node], slot: u32) -> bool
-    ensures { result ≡ assigned nodes.now slot }
+/// Sets the flag of a slot, if there is a slot and it has a flag.
+fn flag_slot(flags: &mut [bool], slot: Option<u32>)
+    ensures { flags.new ≡ flagged (goes_to slot) 0 flags.old }
 {
-    for node in nodes {
-        if assigns(&node.cmd, slot) {
-            return true;
+    if let Some(slot) = slot {
+        let place = slot as usize;
+        if place < flags.len() {
+            flags[place] = true;
         }
     }
-    false
+}
+
+/// Sets the flags of the slots that some node assigns.
+fn flag_nodes(flags: &mut [bool], nodes: &[Node])
+    ensures { flags.new ≡ flagged (assigned nodes.now) 0 flags.old }
+{
+    for node in nodes {
+        flag_slot(flags, assigned_slot(&node.cmd));
+    }
 }
 
 /// The nodes from a place on.
@@ -74,14 +75,26 @@ fn nodes_of<'a>(nodes: &'a [Node], one: &Loop) -> &'a [Node]
     first_nodes(behind, one.past.saturating_sub(one.head) as usize)
 }
 
-/// Whether a node of some loop that has its head at the place assigns the slot.
-pub fn assigned_at(nodes: &[Node], loops: &[Loop], place: usize, slot: u32) -> bool
-    ensures { result ≡ assigned_in nodes.now (loops_at place (map loop_seen loops.now)) slot }
+/// Sets the flags of the slots that a node of some of the loops assigns.
+fn flag_loops(flags: &mut [bool], nodes: &[Node], loops: &[&Loop])
+    ensures { flags.new ≡ flagged (assigned_in nodes.now (map (λ one. loop_seen one.now) loops.now)) 0 flags.old }
 {
     for one in loops {
-        if one.head as usize == place && assigned(nodes_of(nodes, one), slot) {
-            return true;
-        }
+        flag_nodes(flags, nodes_of(nodes, one));
     }
-    false
+}
+
+/// A flag for each of so many slots, which says whether a node of some of the loops assigns it.
+pub fn assigned_flags(
+    alloc: Global,
+    nodes: &[Node],
+    loops: &[&Loop],
+    count: usize,
+) -> Result<Vec<bool>, AllocError>
+    ensures { IfOk result (λ flags. flags.items
+        ≡ flagged (assigned_in nodes.now (map (λ one. loop_seen one.now) loops.now)) 0 (replicate count false)) }
+{
+    let mut flags = vec![in alloc; false; count]?;
+    flag_loops(flags.as_mut_slice(), nodes, loops);
+    Ok(flags)
 }

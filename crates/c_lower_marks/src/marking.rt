@@ -1,10 +1,10 @@
 //! Marks, and nodes with them.
-ghost use Rattle.std.specs.Prelude.{◌≡◌, ◌<◌, ◌≤◌, ◌&&◌, not, IfOk, map, option_map, length};
+ghost use Rattle.std.specs.Prelude.{◌≡◌, ◌<◌, ◌≤◌, ◌&&◌, false, not, IfOk, map, length, get_or};
 ghost use Rattle.c_lower_rules.specs.Marks.{is_int, is_listed, assigned_in, slots_that, loops_at, mark_by, marked};
 ghost use Rattle.c_lower_emit.specs.Seen.{loop_seen};
-ghost use Rattle.c_lower_marks.specs.Placed.{first_loop, marks_from, with_marks};
+ghost use Rattle.c_lower_marks.specs.Placed.{marks_from, with_marks};
 
-use crate::assigned::assigned_at;
+use crate::assigned::assigned_flags;
 use c_lower_emit::loops::Loop;
 use shape_data::Row;
 use shape_data::program::{HeadMark, Node, Ty};
@@ -33,40 +33,29 @@ fn is_listed(slots: &[u32], slot: u32) -> bool
     false
 }
 
-/// The first loop that has its head at the place.
-fn first_at(loops: &[Loop], place: usize) -> Option<&Loop>
-    ensures { option_map (λ one. loop_seen one.now) result ≡ first_loop (loops_at place (map loop_seen loops.now)) }
+/// Whether the type is int and the flag of the slot is set.
+fn is_flagged_int(flags: &[bool], slot: usize, kind: &Ty) -> bool
+    requires { slot < length flags.now }
+    ensures { result ≡ (is_int kind.now && get_or flags.now slot false) }
 {
-    for one in loops {
-        if one.head as usize == place {
-            return Some(one);
-        }
-    }
-    None
+    is_int(kind) && flags[slot]
 }
 
-/// Whether the slot is an int that a node of some loop with its head at the place assigns.
-fn is_assigned_int(nodes: &[Node], loops: &[Loop], place: usize, slot: u32, kind: &Ty) -> bool
-    ensures { result ≡ (is_int kind.now && assigned_in nodes.now (loops_at place (map loop_seen loops.now)) slot) }
-{
-    is_int(kind) && assigned_at(nodes, loops, place, slot)
-}
-
-/// The int slots that a node of some loop with its head at the place assigns.
+/// The int slots that a node of some of the loops assigns.
 fn ints(
     alloc: Global,
     slots: &[Ty],
     nodes: &[Node],
-    loops: &[Loop],
-    place: usize,
+    loops: &[&Loop],
 ) -> Result<Row<u32>, AllocError>
     requires { length slots.now < 4294967296 }
     ensures { IfOk result (λ ints. ints
-        ≡ slots_that (λ slot kind. is_int kind && assigned_in nodes.now (loops_at place (map loop_seen loops.now)) slot) 0 slots.now) }
+        ≡ slots_that (λ slot kind. is_int kind && assigned_in nodes.now (map (λ one. loop_seen one.now) loops.now) slot) 0 slots.now) }
 {
+    let flags = assigned_flags(alloc, nodes, loops, slots.len())?;
     let mut ints = Vec::new(alloc);
     for (slot, kind) in slots.iter().enumerate() {
-        if is_assigned_int(nodes, loops, place, slot as u32, kind) {
+        if is_flagged_int(flags.as_slice(), slot, kind) {
             ints.push(slot as u32)?;
         }
     }
@@ -87,6 +76,38 @@ fn dead(alloc: Global, slots: &[Ty], visible: &[u32]) -> Result<Row<u32>, AllocE
     Ok(Row::from_vec(dead))
 }
 
+/// The loops that have their head at the place.
+fn loops_at<'a>(alloc: Global, loops: &'a [Loop], place: usize) -> Result<Vec<&'a Loop>, AllocError>
+    ensures { IfOk result (λ found. map (λ one. loop_seen one.now) found.items ≡ loops_at place (map loop_seen loops.now)) }
+{
+    let mut found = Vec::new(alloc);
+    for one in loops {
+        if one.head as usize == place {
+            found.push(one)?;
+        }
+    }
+    Ok(found)
+}
+
+/// The mark that the loops that have their head at a node give it, if there are any.
+fn mark_by(
+    alloc: Global,
+    slots: &[Ty],
+    nodes: &[Node],
+    loops: &[&Loop],
+) -> Result<Option<HeadMark>, AllocError>
+    requires { length slots.now < 4294967296 }
+    ensures { IfOk result (λ mark. mark ≡ mark_by slots.now nodes.now (map (λ one. loop_seen one.now) loops.now)) }
+{
+    match loops {
+        [] => Ok(None),
+        [first, ..] => Ok(Some(HeadMark {
+            ints: ints(alloc, slots, nodes, loops)?,
+            dead: dead(alloc, slots, first.visible.as_slice())?,
+        })),
+    }
+}
+
 /// The mark of the place, if it is the head of a loop.
 fn mark_at(
     alloc: Global,
@@ -98,13 +119,8 @@ fn mark_at(
     requires { length slots.now < 4294967296 }
     ensures { IfOk result (λ mark. mark ≡ mark_by slots.now nodes.now (loops_at place (map loop_seen loops.now))) }
 {
-    match first_at(loops, place) {
-        None => Ok(None),
-        Some(first) => Ok(Some(HeadMark {
-            ints: ints(alloc, slots, nodes, loops, place)?,
-            dead: dead(alloc, slots, first.visible.as_slice())?,
-        })),
-    }
+    let found = loops_at(alloc, loops, place)?;
+    mark_by(alloc, slots, nodes, found.as_slice())
 }
 
 /// The mark of each node's place.

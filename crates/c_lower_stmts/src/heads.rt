@@ -20,8 +20,8 @@ ghost use Rattle.c_lower_stmts.specs.Standing.{state};
 use crate::declaring::declaration;
 use crate::laid::Laid;
 use crate::loops::at;
-use crate::parts::{condition, performed, returned};
 use crate::simples::place_of_simple;
+use crate::stmt_parts::{condition, performed, returned};
 use c_lower_emit::drafts::Label;
 use c_lower_emit::output::Output;
 use c_lower_emit::uses::Use;
@@ -121,7 +121,7 @@ pub fn step<'a>(
 }
 
 /// A `return` at the place.
-pub fn exit<'a>(
+pub fn return_at<'a>(
     c: &Context<'a>,
     locals: u32,
     place: Place,

@@ -24,7 +24,7 @@ ghost use Rattle.c_lower_stmts.specs.Targets.{IsFieldKind};
 use crate::storing::{call, free, store, zero};
 use crate::targets::{Target, lower_pointer, target_of};
 use crate::updating::{Amount, update_member, update_variable};
-use crate::wanting::wanted;
+use crate::wanted_values::wanted;
 use c_lower_emit::output::Output;
 use c_lower_emit::uses::Use;
 use c_lower_exprs::site::Site;

@@ -10,11 +10,11 @@ ghost use Rattle.c_lower_stmts.specs.Laying.{EmitsLowered, EmitsStmt, EmitsWithi
 ghost use Rattle.c_lower_stmts.specs.Standing.{state};
 
 use crate::declaring::place_of_local;
-use crate::heads::{declared, exit, init, once, step, tested, tested_for};
+use crate::heads::{declared, init, once, return_at, step, tested, tested_for};
 use crate::laid::Laid;
 use crate::loops::{at, close, close_behind, open};
-use crate::parts::choose;
 use crate::simples::place_of_simple;
+use crate::stmt_parts::choose;
 use c_lower_emit::drafts::Label;
 use c_lower_emit::output::Output;
 use c_lower_exprs::context::Context;
@@ -85,7 +85,7 @@ fn stmt<'a>(
             begin: Label::Continues,
             locals,
         }),
-        Stmt::Return(place, value) => exit(c, locals, *place, value, out),
+        Stmt::Return(place, value) => return_at(c, locals, *place, value, out),
     }
 }
 

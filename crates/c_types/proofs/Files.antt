@@ -1,5 +1,5 @@
 -- Files, one behind another.
-use Rattle.std.proofs.Common.{◌≡◌, ℕ, suc, ◌+◌, ◌<◌, Option, List, ◌∷◌, ◌++◌, length, map, drop, get_or, append_assoc, sym, ap, ◌∙◌, arith}
+use Rattle.std.proofs.Common.{◌≡◌, ℕ, suc, ◌+◌, ◌<◌, Option, List, ◌∷◌, length, map, drop, get_or, sym, ap, ◌∙◌, arith}
 use Rattle.std.proofs.lemmas.List.{at_drop_more}
 use Rattle.c_tree.specs.declared.items.Unit.{Unit}
 use Rattle.c_tree.specs.Syntax.{unit_tree}
@@ -9,6 +9,8 @@ use Rattle.c_types_rules.specs.Types.{Kind}
 use Rattle.c_types_rules.specs.Tables.{Tables, joined, declared_by, items_of}
 use Rattle.c_types_rules.specs.Programs.{items, in_unit, files_refusals}
 use Rattle.c_types_names.specs.declared.first_refusal.FirstRefusal.{FirstRefusal}
+use Rattle.c_types_exprs.specs.Listing.{with_kinds}
+use Rattle.c_types_exprs.proofs.ListedKinds.{with_two}
 use Rattle.c_types_stmts.specs.declared.finding.Finding.{Finding}
 use Rattle.c_types_stmts.specs.Adding.{Adds}
 use Rattle.c_types.specs.FirstRefusals.{first_with}
@@ -20,7 +22,7 @@ begun unit found = record { unit = unit; found = found }
 
 -- a file, where the one tables stand before it and the others behind it
 module _ (tables before behind : Tables) (file : File) (rest : List File) (goes : behind ≡ joined before (declared_by file.items)) where
-  pub refusal_turn : (unit : ℕ) (found : Option At) (kinds : List Kind) (now : Finding)
+  pub refusal_turn : (unit : ℕ) (found : Option At) (kinds : Option (List Kind)) (now : Finding)
       → Adds (items tables before file.items) (record { first = begun unit found; kinds = kinds }) now
       → first_with now.first.found (files_refusals tables behind (suc unit) rest)
       ≡ first_with found (files_refusals tables before unit (file ∷ rest))
@@ -32,15 +34,16 @@ module _ (tables before behind : Tables) (file : File) (rest : List File) (goes 
       ∙ ap (λ f. first_with f (files_refusals tables (joined before (declared_by file.items)) (suc unit) rest)) found_now
       ∙ sym (first_with-append found all (files_refusals tables (joined before (declared_by file.items)) (suc unit) rest))
 
-  pub kinds_turn : (first : FirstRefusal) (kinds : List Kind) (now : Finding)
+  pub kinds_turn : (first : FirstRefusal) (kinds : Option (List Kind)) (now : Finding)
       → Adds (items tables before file.items) (record { first = first; kinds = kinds }) now
-      → now.kinds ++ (items tables behind (items_of rest)).kinds ≡ kinds ++ (items tables before (items_of (file ∷ rest))).kinds
+      → with_kinds now.kinds (items tables behind (items_of rest)).kinds
+      ≡ with_kinds kinds (items tables before (items_of (file ∷ rest))).kinds
   kinds_turn first kinds now adds =
-      ap (λ t. now.kinds ++ (items tables t (items_of rest)).kinds) goes
-      ∙ ap (λ ks. ks ++ (items tables (joined before (declared_by file.items)) (items_of rest)).kinds) adds.kinds
-      ∙ append_assoc kinds (items tables before file.items).kinds
+      ap (λ t. with_kinds now.kinds (items tables t (items_of rest)).kinds) goes
+      ∙ ap (λ ks. with_kinds ks (items tables (joined before (declared_by file.items)) (items_of rest)).kinds) adds.kinds
+      ∙ with_two kinds (items tables before file.items).kinds
       (items tables (joined before (declared_by file.items)) (items_of rest)).kinds
-      ∙ ap (λ ks. kinds ++ ks) (sym (items-append tables before file.items (items_of rest)))
+      ∙ ap (with_kinds kinds) (sym (items-append tables before file.items (items_of rest)))
 
   pub tables_turn : joined behind (declared_by (items_of rest)) ≡ joined before (declared_by (items_of (file ∷ rest)))
   tables_turn =
@@ -59,7 +62,7 @@ module _ (tables before behind : Tables) (units : List Unit) (i : ℕ) (one : Un
   next : i + 1 ≡ suc i
   next = omega arith
 
-  pub refusal_next : (found : Option At) (kinds : List Kind) (now : Finding)
+  pub refusal_next : (found : Option At) (kinds : Option (List Kind)) (now : Finding)
       → Adds (items tables before (unit_tree one).items) (record { first = begun i found; kinds = kinds }) now
       → (all : Option At) → first_with found (files_refusals tables before i (map unit_tree (drop i units))) ≡ all
       → first_with now.first.found (files_refusals tables behind (i + 1) (map unit_tree (drop (i + 1) units))) ≡ all
@@ -69,13 +72,13 @@ module _ (tables before behind : Tables) (units : List Unit) (i : ℕ) (one : Un
       ∙ sym (here (λ (xs : List File). first_with found (files_refusals tables before i xs)))
       ∙ known
 
-  pub kinds_next : (first : FirstRefusal) (kinds : List Kind) (now : Finding)
+  pub kinds_next : (first : FirstRefusal) (kinds : Option (List Kind)) (now : Finding)
       → Adds (items tables before (unit_tree one).items) (record { first = first; kinds = kinds }) now
-      → (all : List Kind) → kinds ++ (items tables before (items_of (map unit_tree (drop i units)))).kinds ≡ all
-      → now.kinds ++ (items tables behind (items_of (map unit_tree (drop (i + 1) units)))).kinds ≡ all
+      → (all : Option (List Kind)) → with_kinds kinds (items tables before (items_of (map unit_tree (drop i units)))).kinds ≡ all
+      → with_kinds now.kinds (items tables behind (items_of (map unit_tree (drop (i + 1) units)))).kinds ≡ all
   kinds_next first kinds now adds all known =
       kinds_turn tables before behind (unit_tree one) (map unit_tree (drop (i + 1) units)) goes first kinds now adds
-      ∙ sym (here (λ (xs : List File). kinds ++ (items tables before (items_of xs)).kinds))
+      ∙ sym (here (λ (xs : List File). with_kinds kinds (items tables before (items_of xs)).kinds))
       ∙ known
 
   pub tables_next : (all : Tables) → joined before (declared_by (items_of (map unit_tree (drop i units)))) ≡ all

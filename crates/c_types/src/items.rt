@@ -25,7 +25,7 @@ use c_types_stmts::stmts::stmts;
 use std::alloc::{AllocError, Global};
 
 /// Refuses a parameter of a definition that has no name.
-#[tactic(auto, using(crate::proofs::Lines::lining))]
+#[tactic(auto, using(crate::proofs::FieldLines::lining))]
 fn unnamed_refusal(param: &Param, first: &mut FirstRefusal)
     ensures { let seen = param_tree param.now in
         first.new ≡ with_refusals first.old (unless_of (rule.has_name seen.name) (place_of_specifier seen.specifier) LEFT_OUT) }
@@ -38,7 +38,7 @@ fn unnamed_refusal(param: &Param, first: &mut FirstRefusal)
 }
 
 /// Refuses parameters that have no name.
-#[tactic(auto, using(crate::proofs::Lines::lining))]
+#[tactic(auto, using(crate::proofs::FieldLines::lining))]
 fn more_unnamed_refusals(params: &[Param], first: &mut FirstRefusal)
     ensures { first.new ≡ with_refusals first.old (rule.unnamed_refusals (map param_tree params.now)) }
 {
@@ -48,7 +48,7 @@ fn more_unnamed_refusals(params: &[Param], first: &mut FirstRefusal)
 }
 
 /// Refuses parameters of a definition that have no name.
-#[tactic(auto, using(crate::proofs::Lines::lining))]
+#[tactic(auto, using(crate::proofs::FieldLines::lining))]
 fn unnamed_refusals(params: &Params, first: &mut FirstRefusal)
     ensures { first.new ≡ with_refusals first.old (rule.unnamed_refusals (rule.listed (params_tree params.now))) }
 {

@@ -12,6 +12,6 @@ mod names;
 mod structures;
 mod typed;
 
-pub use checker::check;
+pub use checker::{check, kinds_of};
 pub use fault::UnitsFault;
 pub use typed::{TypeFault, Typed};

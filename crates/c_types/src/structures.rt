@@ -53,7 +53,7 @@ fn declarator_refusals(specifier: &TypeSpecifier, ones: &[Declarator], first: &m
 }
 
 /// What is refused in a declaration of fields.
-#[tactic(auto, using(crate::proofs::Lines::lining))]
+#[tactic(auto, using(crate::proofs::FieldLines::lining))]
 fn line_refusals(tables: &Tables, line: &FieldDecl, first: &mut FirstRefusal)
     ensures { let seen = fields_tree line.now in
         first.new ≡ with_refusals first.old
@@ -65,7 +65,7 @@ fn line_refusals(tables: &Tables, line: &FieldDecl, first: &mut FirstRefusal)
 }
 
 /// What is refused in declarations of fields.
-#[tactic(auto, using(crate::proofs::Lines::lining))]
+#[tactic(auto, using(crate::proofs::FieldLines::lining))]
 fn lines_refusals(tables: &Tables, lines: &[FieldDecl], first: &mut FirstRefusal)
     ensures { first.new ≡ with_refusals first.old (lines_refusals tables.now (map fields_tree lines.now)) }
 {

@@ -1,2 +1,3 @@
 mod Appending
 mod Arguments
+pub mod ListedKinds

@@ -1,10 +1,14 @@
-//! The types of all expressions, in the order of the text.
+//! The types of all expressions, in the order of the text, listed where a caller asks for it (`c_types::kinds_of`); `check` lists none.
+//! Each type is found anew for the list.
 ghost use Rattle.std.specs.Prelude.{◌≡◌, ◌∷◌, ◌++◌, [], OnOk, map};
+ghost use Rattle.c_types_rules.specs.Expressions.{kind_of_call};
 ghost use Rattle.c_types_rules.specs.Kinds.{link_kinds, member_kinds, first_kinds, later_kinds, operand_kinds, arg_kinds, kinds};
+ghost use Rattle.c_types_rules.specs.Tables.{procedure_in};
 ghost use Rattle.c_tree.specs.Syntax.{ident_tree, expr_tree, links_tree, args_tree};
 ghost use Rattle.c_types_names.specs.Seen.{kind_seen};
+ghost use Rattle.c_types_exprs.specs.Listing.{with_kinds};
 
-use crate::exprs::{kind_of, kind_of_binary, kind_of_member};
+use crate::exprs::{kind_of, kind_of_binary, kind_of_call, kind_of_member};
 use c_tree::{Expr, Ident, Link};
 use c_types_names::env::Env;
 use c_types_names::kinds::Kind;
@@ -39,7 +43,7 @@ impl<'a> Kinds<'a> {
     }
 
     /// One type more.
-    pub fn push(&mut self, kind: Kind<'a>) -> Result<(), AllocError>
+    fn push(&mut self, kind: Kind<'a>) -> Result<(), AllocError>
         ensures { OnOk result (self.new ≡ self.old ++ kind_seen kind.entry ∷ []) }
     {
         self.found.push(kind)?;
@@ -164,11 +168,7 @@ fn push_operands<'a>(
 /// The types of the expressions in arguments.
 #[cycle(later)]
 #[tactic(auto, using(crate::proofs::Appending::appending))]
-pub fn push_args<'a>(
-    env: &Env<'a>,
-    args: &'a Vec<Expr>,
-    list: &mut Kinds<'a>,
-) -> Result<(), AllocError>
+fn push_args<'a>(env: &Env<'a>, args: &'a Vec<Expr>, list: &mut Kinds<'a>) -> Result<(), AllocError>
     ensures { OnOk result (list.new ≡ list.old ++ arg_kinds env.now (args_tree args.now.items)) }
 {
     for arg in args {
@@ -180,9 +180,42 @@ pub fn push_args<'a>(
 
 /// The types of all expressions in the expression.
 #[tactic(auto, using(crate::proofs::Appending::appending))]
-pub fn push_kinds<'a>(env: &Env<'a>, expr: &'a Expr, list: &mut Kinds<'a>) -> Result<(), AllocError>
+fn push_all<'a>(env: &Env<'a>, expr: &'a Expr, list: &mut Kinds<'a>) -> Result<(), AllocError>
     ensures { OnOk result (list.new ≡ list.old ++ kinds env.now (expr_tree expr.now)) }
 {
     push_first(env, expr, list)?;
     push_later(env, expr, list)
+}
+
+/// The types of all expressions in the expression, where they are wanted.
+pub fn list_kinds<'a>(
+    env: &Env<'a>,
+    expr: &'a Expr,
+    listed: &mut Option<Kinds<'a>>,
+) -> Result<(), AllocError>
+    ensures { OnOk result (listed.new ≡ with_kinds listed.old (kinds env.now (expr_tree expr.now))) }
+{
+    match listed {
+        None => Ok(()),
+        Some(list) => push_all(env, expr, list),
+    }
+}
+
+/// The type of a call that is a statement, and those of all expressions in its arguments, where they are wanted.
+pub fn list_call_kinds<'a>(
+    env: &Env<'a>,
+    callee: &'a Ident,
+    args: &'a Vec<Expr>,
+    listed: &mut Option<Kinds<'a>>,
+) -> Result<(), AllocError>
+    ensures { let call = kind_of_call env.now.tables (procedure_in env.now.tables.procedures (ident_tree callee.now).text) in
+        OnOk result (listed.new ≡ with_kinds listed.old (call ∷ arg_kinds env.now (args_tree args.now.items))) }
+{
+    match listed {
+        None => Ok(()),
+        Some(list) => {
+            list.push(kind_of_call(env.tables(), &callee.text))?;
+            push_args(env, args, list)
+        }
+    }
 }

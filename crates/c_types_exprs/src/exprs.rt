@@ -103,7 +103,7 @@ pub fn kind_of_binary<'a>(op: BinaryOp, left: Kind<'a>, right: Kind<'a>) -> Kind
 }
 
 /// What a prefix operator gives.
-fn kind_of_prefix<'a>(op: PrefixOp, kind: Kind<'a>) -> Kind<'a>
+pub(crate) fn kind_of_prefix<'a>(op: PrefixOp, kind: Kind<'a>) -> Kind<'a>
     ensures { kind_seen result ≡ kind_of_prefix (prefix_tree op) (kind_seen kind.entry) }
 {
     match op {

@@ -1,4 +1,4 @@
-//! What is refused in an expression. The calls nest as deep as the expression does.
+//! What is refused in an expression; its type is found in the same walk. The calls nest as deep as the expression does.
 ghost use Rattle.std.specs.Prelude.{◌≡◌, map, option_map};
 ghost use Rattle.c_types_rules.specs.Tables.{field_of, param_kind, param_kinds, procedure_in};
 ghost use Rattle.c_types_rules.specs.Expressions.{
@@ -16,6 +16,9 @@ ghost use Rattle.c_types_rules.specs.Expressions.{
   whole_refusals,
   lacks,
   kind_of_member,
+  kind_of_members,
+  kind_of,
+  kind_of_chain,
 };
 ghost use Rattle.c_grammar.specs.Trees.{Expr as ExprTree};
 ghost use Rattle.c_tree.specs.Syntax.{ident_tree, specifier_tree, param_tree, params_tree, expr_tree, links_tree, args_tree};
@@ -23,8 +26,8 @@ ghost use Rattle.c_types_names.specs.Seen.{kind_seen};
 ghost use Rattle.c_types_exprs.specs.Seen.{given_seen};
 ghost use Rattle.c_types_names.specs.FirstRefusal.{with_refusals};
 
-use crate::exprs::{is_null, kind_of, kind_of_binary, kind_of_member};
-use crate::value_types::{Given, fits, given_by, may_stand_behind, may_stand_by};
+use crate::exprs::{is_null, kind_of, kind_of_binary, kind_of_member, kind_of_prefix};
+use crate::value_types::{Given, fits, given_as, may_stand_behind, may_stand_by};
 use c_tree::places::place_of_expr;
 use c_tree::{Expr, Ident, Link, Name, Param, Params, Place, TypeSpecifier};
 use c_types_names::env::Env;
@@ -68,7 +71,7 @@ fn member_refusals<'a>(
     }
 }
 
-/// Refuses one field after another.
+/// Refuses one field after another, and gives the type behind the last.
 #[tactic(auto, using(c_types_names::proofs::FirstRefusals::more_refusals))]
 fn members_refusals<'a>(
     tables: &Tables<'a>,
@@ -76,14 +79,17 @@ fn members_refusals<'a>(
     kind: Kind<'a>,
     fields: &[Ident],
     first: &mut FirstRefusal,
-)
-    ensures { first.new ≡ with_refusals first.old (members_refusals tables.now place (kind_seen kind.entry) (map ident_tree fields.now)) }
+) -> Kind<'a>
+    ensures refusals { first.new ≡ with_refusals first.old
+        (members_refusals tables.now place (kind_seen kind.entry) (map ident_tree fields.now)) }
+    ensures kind { kind_seen result ≡ kind_of_members tables.now (kind_seen kind.entry) (map ident_tree fields.now) }
 {
     let mut current = kind;
     for field in fields {
         member_refusals(tables, place, current, field, first);
         current = kind_of_member(tables, current, field);
     }
+    current
 }
 
 /// Refuses a cast to what is no pointer to a structure.
@@ -195,46 +201,56 @@ fn variable_refusals(env: &Env, name: &Ident, first: &mut FirstRefusal)
     }
 }
 
-/// What is refused in an expression where no call and no `malloc` may stand.
+/// The type of an expression, and what is refused in it where no call and no `malloc` may stand.
 #[cycle(refusals)]
 #[tactic(auto, using(c_types_names::proofs::FirstRefusals::more_refusals))]
-pub fn expr_refusals<'a>(env: &Env<'a>, expr: &'a Expr, first: &mut FirstRefusal)
-    ensures { first.new ≡ with_refusals first.old (expr_refusals env.now (expr_tree expr.now)) }
+fn kind_and_refusals<'a>(env: &Env<'a>, expr: &'a Expr, first: &mut FirstRefusal) -> Kind<'a>
+    ensures refusals { first.new ≡ with_refusals first.old (expr_refusals env.now (expr_tree expr.now)) }
+    ensures kind { kind_seen result ≡ kind_of env.now (expr_tree expr.now) }
 {
     match expr {
         Expr::Chain(operand, others) => {
-            expr_refusals(env, operand, first);
+            let kind = kind_and_refusals(env, operand, first);
             let left = Operand {
-                kind: kind_of(env, operand),
-                given: given_by(env, operand),
+                kind,
+                given: given_as(env, operand, kind),
                 null: is_null(operand),
             };
-            links_refusals(env, place_of_expr(operand), left, others, first);
+            links_refusals(env, place_of_expr(operand), left, others, first)
         }
         Expr::Prefix(place, op, inner) => {
-            expr_refusals(env, inner, first);
-            first.unless(may_stand_behind(*op, given_by(env, inner)), *place, CLASH);
+            let kind = kind_and_refusals(env, inner, first);
+            first.unless(
+                may_stand_behind(*op, given_as(env, inner, kind)),
+                *place,
+                CLASH,
+            );
+            kind_of_prefix(*op, kind)
         }
         Expr::Members(base, field, others) => {
-            expr_refusals(env, base, first);
+            let kind = kind_and_refusals(env, base, first);
             let place = place_of_expr(base);
-            let kind = kind_of(env, base);
             member_refusals(env.tables(), place, kind, field, first);
             let kind = kind_of_member(env.tables(), kind, field);
-            members_refusals(env.tables(), place, kind, others.as_slice(), first);
+            members_refusals(env.tables(), place, kind, others.as_slice(), first)
         }
-        Expr::Variable(name) => variable_refusals(env, name, first),
-        Expr::Number(_, _) => {}
-        Expr::Null(_) => {}
-        Expr::Paren(_, inner) => expr_refusals(env, inner, first),
+        Expr::Variable(name) => {
+            variable_refusals(env, name, first);
+            kind_of(env, expr)
+        }
+        Expr::Number(_, _) => Some(CType::Int),
+        Expr::Null(_) => Some(CType::Int),
+        Expr::Paren(_, inner) => kind_and_refusals(env, inner, first),
         Expr::Call(callee, args) => {
             first.unless(false, callee.place, LEFT_OUT);
             args_refusals(env, args, first);
             callee_refusals(env, callee, args.as_slice(), first);
+            kind_of(env, expr)
         }
         Expr::Malloc(place, types) => {
             first.unless(false, *place, LEFT_OUT);
             malloc_refusals(env, *place, &types.cast, &types.target, first);
+            kind_of(env, expr)
         }
     }
 }
@@ -247,7 +263,7 @@ struct Operand<'a> {
     null: bool,
 }
 
-/// What is refused in the other operands of a chain.
+/// What is refused in the other operands of a chain, and the type of the whole chain.
 #[cycle(refusals)]
 #[tactic(auto, using(c_types_names::proofs::FirstRefusals::more_refusals))]
 fn links_refusals<'a>(
@@ -256,28 +272,30 @@ fn links_refusals<'a>(
     left: Operand<'a>,
     links: &'a Vec<Link>,
     first: &mut FirstRefusal,
-)
-    ensures { let operand = left.entry in
+) -> Kind<'a>
+    ensures refusals { let operand = left.entry in
         first.new ≡ with_refusals first.old
         (links_refusals env.now place (kind_seen operand.kind) (given_seen operand.given) operand.null (links_tree links.now.items)) }
+    ensures kind { kind_seen result ≡ kind_of_chain env.now (kind_seen left.entry.kind) (links_tree links.now.items) }
 {
     let mut kind = left.kind;
     let mut given = left.given;
     let mut null = left.null;
     for link in links {
-        expr_refusals(env, &link.operand, first);
+        let right = kind_and_refusals(env, &link.operand, first);
         let fit = may_stand_by(
             link.op,
             given,
             null,
-            given_by(env, &link.operand),
+            given_as(env, &link.operand, right),
             is_null(&link.operand),
         );
         first.unless(fit, place, CLASH);
-        kind = kind_of_binary(link.op, kind, kind_of(env, &link.operand));
+        kind = kind_of_binary(link.op, kind, right);
         given = Given::OfKind(kind);
         null = false;
     }
+    kind
 }
 
 /// What is refused in arguments.
@@ -287,8 +305,15 @@ fn args_refusals<'a>(env: &Env<'a>, args: &'a Vec<Expr>, first: &mut FirstRefusa
     ensures { first.new ≡ with_refusals first.old (args_refusals env.now (args_tree args.now.items)) }
 {
     for arg in args {
-        expr_refusals(env, arg, first);
+        kind_and_refusals(env, arg, first);
     }
+}
+
+/// What is refused in an expression where no call and no `malloc` may stand.
+pub fn expr_refusals<'a>(env: &Env<'a>, expr: &'a Expr, first: &mut FirstRefusal)
+    ensures { first.new ≡ with_refusals first.old (expr_refusals env.now (expr_tree expr.now)) }
+{
+    kind_and_refusals(env, expr, first);
 }
 
 /// What is refused in a call where one may stand.

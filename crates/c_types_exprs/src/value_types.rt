@@ -3,6 +3,7 @@ ghost use Rattle.std.specs.Prelude.{◌≡◌, option_map};
 ghost use Rattle.c_types_rules.specs.Expressions.{
   given_by_malloc,
   given_by,
+  kind_of,
   may_be_pointer,
   may_take,
   fits,
@@ -41,21 +42,29 @@ fn given_by_malloc<'a>(env: &Env<'a>, as_type: &'a Option<TypeSpecifier>) -> Giv
     }
 }
 
+/// What the expression, which has the type, gives.
+pub(crate) fn given_as<'a>(env: &Env<'a>, expr: &'a Expr, kind: Kind<'a>) -> Given<'a>
+    requires is_its_kind { kind_seen kind ≡ kind_of env.now (expr_tree expr.now) }
+    ensures { given_seen result ≡ given_by env.now (expr_tree expr.now) }
+{
+    match expr {
+        Expr::Chain(_, _) => Given::OfKind(kind),
+        Expr::Prefix(_, _, _) => Given::OfKind(kind),
+        Expr::Members(_, _, _) => Given::OfKind(kind),
+        Expr::Variable(_) => Given::OfKind(kind),
+        Expr::Number(_, _) => Given::OfKind(kind),
+        Expr::Null(_) => Given::OfKind(kind),
+        Expr::Paren(_, inner) => given_as(env, inner, kind),
+        Expr::Call(_, _) => Given::OfKind(kind),
+        Expr::Malloc(_, types) => given_by_malloc(env, &types.cast),
+    }
+}
+
 /// What the expression gives.
 pub fn given_by<'a>(env: &Env<'a>, expr: &'a Expr) -> Given<'a>
     ensures { given_seen result ≡ given_by env.now (expr_tree expr.now) }
 {
-    match expr {
-        Expr::Chain(_, _) => Given::OfKind(kind_of(env, expr)),
-        Expr::Prefix(_, _, _) => Given::OfKind(kind_of(env, expr)),
-        Expr::Members(_, _, _) => Given::OfKind(kind_of(env, expr)),
-        Expr::Variable(_) => Given::OfKind(kind_of(env, expr)),
-        Expr::Number(_, _) => Given::OfKind(kind_of(env, expr)),
-        Expr::Null(_) => Given::OfKind(kind_of(env, expr)),
-        Expr::Paren(_, inner) => given_by(env, inner),
-        Expr::Call(_, _) => Given::OfKind(kind_of(env, expr)),
-        Expr::Malloc(_, types) => given_by_malloc(env, &types.cast),
-    }
+    given_as(env, expr, kind_of(env, expr))
 }
 
 /// Whether the type is a pointer, or not known.

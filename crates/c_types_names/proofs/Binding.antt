@@ -1,5 +1,5 @@
 -- Bindings, as variables are declared and forgotten. The last one declared is the first of each list here.
-use Rattle.std.proofs.Common.{◌≡◌, ℕ, zero, suc, ◌<◌, ◌≤◌, Bool, true, false, cond, nat_le, List, [], ◌∷◌, ◌++◌, length, map, take, drop}
+use Rattle.std.proofs.Common.{◌≡◌, ℕ, zero, suc, ◌<◌, ◌≤◌, Bool, true, false, nat_le, List, [], ◌∷◌, ◌++◌, length, map, take, drop}
 use Rattle.std.proofs.Common.{reverse, option_map, Option, Some, None, if◌then◌else◌, refl, sym, ap, ◌∙◌, true≢false, Result, Ok, Err}
 use Rattle.std.proofs.Common.{OnErr, is_some, arith}
 use Rattle.std.proofs.lemmas.List.{map-append, reverse-append, take-append-drop, length-reverse, length-append, length-take-le}
@@ -13,6 +13,7 @@ use Rattle.c_types_rules.specs.Scopes as scopes
 use Rattle.c_types_names.specs.declared.variables.Variable.{Variable}
 use Rattle.c_types_names.specs.declared.variables.Binding.{Binding}
 use Rattle.c_types_names.specs.declared.variables.Declared.{Declared}
+use Rattle.c_types_names.specs.FirstOfName.{or_last}
 use Rattle.c_types_names.specs.Seen.{variable_seen, stacked}
 use Rattle.c_types_names.specs.Bindings.{variable_of, binding_in}
 
@@ -127,9 +128,9 @@ bound_from all begin n within =
 -- one more is declared
 module _ (old new : List ℕ → Option (Option Binding)) (all : List Declared) (v : Variable) (place : ℕ)
     (found : (n : List ℕ) → option_flatten (old n) ≡ binding_in all n) (last : place ≡ length all)
-    (updates : (n : List ℕ) → new n ≡ cond (bytes_eq v.name.now n) (Some (Some (record { variable = v; place = place }))) (old n)) where
+    (updates : (n : List ℕ) → new n ≡ or_last (old n) (bytes_eq v.name.now n) (Some (record { variable = v; place = place }))) where
   flat : (b : Bool) (at : Option (Option Binding)) (bound : Binding) (rest : Option Binding) → option_flatten at ≡ rest
-      → option_flatten (cond b (Some (Some bound)) at) ≡ (if b then Some bound else rest)
+      → option_flatten (or_last at b (Some bound)) ≡ (if b then Some bound else rest)
   flat true at bound rest is = refl
   flat false at bound rest is = is
 
@@ -144,10 +145,10 @@ module _ (old new : List ℕ → Option (Option Binding)) (all : List Declared) 
 module _ (old new : List ℕ → Option (Option Binding)) (all : List Declared) (last : Declared)
     (found : (n : List ℕ) → option_flatten (old n) ≡ binding_in (last ∷ all) n)
     (linked : last.hidden ≡ binding_in all last.variable.name.now)
-    (updates : (n : List ℕ) → new n ≡ cond (bytes_eq last.variable.name.now n) (Some last.hidden) (old n)) where
+    (updates : (n : List ℕ) → new n ≡ or_last (old n) (bytes_eq last.variable.name.now n) last.hidden) where
   turned : (n : List ℕ) (b : Bool) → bytes_eq last.variable.name.now n ≡ b
       → option_flatten (old n) ≡ (if b then Some (record { variable = last.variable; place = length all }) else binding_in all n)
-      → option_flatten (cond b (Some last.hidden) (old n)) ≡ binding_in all n
+      → option_flatten (or_last (old n) b last.hidden) ≡ binding_in all n
   turned n true same is = linked ∙ ap (binding_in all) ((bytes_eq-Decides last.variable.name.now n).0 same)
   turned n false same is = is
 
@@ -165,11 +166,11 @@ is_none : {X : Type 0} (o : Option X) → is_some o ≡ true → o ≡ None → 
 is_none None some none = true≢false (sym some)
 is_none (Some x) some none = absurd cc
 
-pub must_be_ok : {T E : Type 0} (result : Result T E) (o : Option (Option Binding)) → is_some (option_flatten o) ≡ true
+pub must_be_ok : {T E X : Type 0} (result : Result T E) (o : Option (Option X)) → is_some (option_flatten o) ≡ true
     → OnErr result (o ≡ None) → IsOk result
 must_be_ok (Ok value) o there absent = refl
 must_be_ok (Err e) o there absent = absurd (is_none o (outer o there) absent)
   where
-    outer : (o : Option (Option Binding)) → is_some (option_flatten o) ≡ true → is_some o ≡ true
+    outer : {X : Type 0} (o : Option (Option X)) → is_some (option_flatten o) ≡ true → is_some o ≡ true
     outer None there = there
     outer (Some x) there = refl

@@ -1,9 +1,9 @@
 -- The first thing of each name, after one more thing.
-use Rattle.std.proofs.Common.{◌≡◌, ℕ, Bool, true, false, cond, is_some, List, [], ◌∷◌, ◌++◌, map, option_map, Option, Some, None, Result}
+use Rattle.std.proofs.Common.{◌≡◌, ℕ, Bool, true, false, ◌&&◌, is_some, List, [], ◌∷◌, ◌++◌, map, option_map, Option, Some, None, Result}
 use Rattle.std.proofs.Common.{Ok, OnOk, refl, sym, ap, subst, ◌∙◌, true≢false, if◌then◌else◌}
 use Rattle.std.proofs.lemmas.Slice.Eq.{bytes_eq-Decides}
 use Rattle.std.specs.Str.{bytes_eq}
-use Rattle.c_types_names.specs.FirstOfName.{or_first}
+use Rattle.c_types_names.specs.FirstOfName.{or_first, or_last}
 
 pub from_ok : {T E : Type 0} (r : Result T E) (v : T) (P : Type 0) → r ≡ Ok v → OnOk r P → P
 from_ok r v P e p = subst (λ s. OnOk s P) e p
@@ -13,7 +13,7 @@ none_is None e = refl
 none_is (Some x) e = absurd (true≢false e)
 
 put : {X : Type 0} (o : Option X) (passes : Bool) (x : X) → (passes ≡ true → is_some o ≡ false)
-    → cond passes (Some x) o ≡ or_first o passes x
+    → or_last o passes x ≡ or_first o passes x
 put None true x new = refl
 put None false x new = refl
 put (Some found) true x new = absurd (true≢false (new refl))
@@ -25,12 +25,35 @@ stays None false x there = refl
 stays (Some found) passes x there = refl
 
 module _ {X : Type 0} (old : List ℕ → Option X) (name n : List ℕ) (x : X) where
-  pub put_first : is_some (old name) ≡ false → cond (bytes_eq name n) (Some x) (old n) ≡ or_first (old n) (bytes_eq name n) x
+  pub put_first : is_some (old name) ≡ false → or_last (old n) (bytes_eq name n) x ≡ or_first (old n) (bytes_eq name n) x
   put_first new = put (old n) (bytes_eq name n) x (λ same. ap (λ bs. is_some (old bs)) (sym ((bytes_eq-Decides name n).0 same)) ∙ new)
 
   pub stays_first : is_some (old name) ≡ true → old n ≡ or_first (old n) (bytes_eq name n) x
   stays_first there =
       stays (old n) (bytes_eq name n) x (λ same. ap (λ bs. is_some (old bs)) (sym ((bytes_eq-Decides name n).0 same)) ∙ there)
+
+unwanted : {X : Type 0} (o : Option X) (wanted : Bool) (x : X) → o ≡ or_first o (wanted && false) x
+unwanted None true x = refl
+unwanted None false x = refl
+unwanted (Some found) wanted x = refl
+
+wanted_here : (wanted : Bool) → wanted ≡ (wanted && true)
+wanted_here true = refl
+wanted_here false = refl
+
+-- a part of what is kept of each name, where what is kept of one name is put anew
+module _ {A X : Type 0} (old new : List ℕ → Option A) (name : List ℕ) (kept : A)
+    (updates : (n : List ℕ) → new n ≡ or_last (old n) (bytes_eq name n) kept) (part : Option A → Option X) (wanted : Bool) (x : X)
+    (changed : part (Some kept) ≡ or_first (part (old name)) wanted x) where
+  pub part_more : (n : List ℕ) → part (new n) ≡ or_first (part (old n)) (wanted && bytes_eq name n) x
+  part_more n = ap part (updates n) ∙ by_test (bytes_eq name n) refl
+    where
+      by_test : (b : Bool) → bytes_eq name n ≡ b → part (or_last (old n) b kept) ≡ or_first (part (old n)) (wanted && b) x
+      by_test true same =
+          changed
+          ∙ ap (λ bs. or_first (part (old bs)) wanted x) ((bytes_eq-Decides name n).0 same)
+          ∙ ap (λ b. or_first (part (old n)) b x) (wanted_here wanted)
+      by_test false same = unwanted (part (old n)) wanted x
 
 behind : {X : Type 0} (passes : Bool) (found : X) (o : Option X) (last : Bool) (x : X)
     → (if passes then Some found else or_first o last x) ≡ or_first (if passes then Some found else o) last x

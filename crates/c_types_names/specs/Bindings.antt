@@ -1,10 +1,8 @@
 -- What names are bound to where variables are declared one after another.
 use Rattle.std.specs.Prelude.{◌≡◌, ℕ, List, [], ◌∷◌, length, reverse, Option, None, Some, if◌then◌else◌}
 use Rattle.std.specs.Str.{bytes_eq}
-use Rattle.std.specs.Borrow.{Bor}
 use Rattle.std.specs.Option.{option_flatten}
-use Rattle.indexmap.specs.IndexMap.{IndexMap}
-use Rattle.c_types_names.specs.FirstOfName.{first_of}
+use Rattle.c_types_names.specs.FirstOfName.{Firsts, first_of}
 use Rattle.c_types_names.specs.declared.variables.Variable.{Variable}
 use Rattle.c_types_names.specs.declared.variables.Binding.{Binding}
 use Rattle.c_types_names.specs.declared.variables.Declared.{Declared}
@@ -24,10 +22,10 @@ AreLinked [] = Unit
 AreLinked (last ∷ before) = (last.hidden ≡ binding_in before last.variable.name.now) × AreLinked before
 
 -- what the map says of the name
-abbrev pub bound_of : {S : Type 0} → IndexMap (Bor (List ℕ)) (Option Binding) S → List ℕ → Option Binding
+abbrev pub bound_of : Firsts (Option Binding) → List ℕ → Option Binding
 bound_of bindings n = option_flatten (first_of bindings n)
 
 -- the map binds each name to the innermost variable of that name
-pub record IsBound {S : Type 0} (all : List Declared) (bindings : IndexMap (Bor (List ℕ)) (Option Binding) S) : Type 0 where
+pub record IsBound (all : List Declared) (bindings : Firsts (Option Binding)) : Type 0 where
   pub linked : AreLinked (reverse all)
   pub found : (n : List ℕ) → bound_of bindings n ≡ binding_in (reverse all) n

@@ -1,14 +1,23 @@
 -- The first thing of each name.
 use Rattle.std.specs.Prelude.{ℕ, Bool, List, Option, Some, None, if◌then◌else◌}
 use Rattle.std.specs.Borrow.{Bor}
-use Rattle.std.specs.Str.{bytes_eq}
-use Rattle.indexmap.specs.IndexMap.{IndexMap, get_by}
+use Rattle.std.specs.BTreeMap.{BTreeMap, get_by}
+use Rattle.std.specs.Cmp.Lexicographic.{slice_cmp}
+use Rattle.std.specs.Ordering.{nat_cmp}
+
+-- things by the bytes of their names
+abbrev pub Firsts : Type 0 → Type 0
+Firsts X = BTreeMap (Bor (List ℕ)) X
 
 -- the thing of the name
-abbrev pub first_of : {X S : Type 0} → IndexMap (Bor (List ℕ)) X S → List ℕ → Option X
-first_of firsts n = get_by (λ k. bytes_eq n k.now) firsts
+abbrev pub first_of : {X : Type 0} → Firsts X → List ℕ → Option X
+first_of firsts n = get_by (λ k. slice_cmp nat_cmp n k.now) firsts
 
 -- what was found, or else the thing where the test passes
 abbrev pub or_first : {X : Type 0} → Option X → Bool → X → Option X
 or_first None passes x = if passes then Some x else None
 or_first (Some found) passes x = Some found
+
+-- the thing where the test passes, or else what was found
+abbrev pub or_last : {X : Type 0} → Option X → Bool → X → Option X
+or_last found passes x = if passes then Some x else found

@@ -2,6 +2,7 @@ pub mod Seen
 pub mod FirstOfName
 pub mod Bindings
 pub mod StructFields
+pub mod NameTables
 pub mod FirstRefusal
 pub mod Specifiers
 pub mod NameSets

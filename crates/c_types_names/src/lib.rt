@@ -4,7 +4,7 @@
 
 pub mod declared;
 pub mod env;
-mod first_of_name;
+pub mod first_of_name;
 pub mod first_refusal;
 pub mod hiding;
 pub mod kinds;

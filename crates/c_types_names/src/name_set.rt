@@ -5,8 +5,8 @@ ghost use Rattle.c_types_names.specs.NameSets.{has};
 
 use crate::first_of_name::{Firsts, add_first, first_of};
 use c_tree::Name;
-use indexmap::IndexMap;
 use std::alloc::{AllocError, Global};
+use std::collections::BTreeMap;
 
 /// A set of names.
 #[derive(Drop)]
@@ -20,7 +20,7 @@ impl<'a> NameSet<'a> {
         ensures { (n : List ℕ) → has result n ≡ false }
     {
         NameSet {
-            names: IndexMap::new(alloc),
+            names: BTreeMap::new(alloc),
         }
     }
 
@@ -35,8 +35,6 @@ impl<'a> NameSet<'a> {
     pub fn add(&mut self, name: &'a Name) -> Result<(), AllocError>
         ensures { OnOk result ((n : List ℕ) → has self.new n ≡ (bytes_eq name.now n || has self.old n)) }
     {
-        self.names.reserve(1)?;
-        add_first(&mut self.names, name, true);
-        Ok(())
+        add_first(&mut self.names, name, true)
     }
 }

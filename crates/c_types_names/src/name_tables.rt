@@ -1,35 +1,51 @@
 //! What is declared, in the order of the text, and by its name.
-ghost use Rattle.std.specs.Prelude.{◌≡◌, [], ◌∷◌, ◌++◌, map, option_map, OnOk, OnErr};
+ghost use Rattle.std.specs.Prelude.{◌≡◌, Bool, [], ◌∷◌, ◌++◌, map, option_map, true, Some, OnOk, OnErr};
+ghost use Rattle.std.specs.Option.{option_copied};
 ghost use Rattle.c_types_rules.specs.Tables.{structure_in, alias_in, procedure_in};
-ghost use Rattle.c_types_rules.specs.Items.{definitions};
+ghost use Rattle.c_types_rules.specs.Items.{definitions, same_bool};
+ghost use Rattle.c_types_names.specs.FirstOfName.{or_first};
+ghost use Rattle.c_types_names.specs.NameTables.{first_procedure, procedure_that};
 ghost use Rattle.c_types_names.specs.Seen.{structure_seen, alias_seen, procedure_seen};
+ghost use Rattle.c_types_names.specs.StructFields.{fields_of};
 
 use crate::declared::{Alias, Procedure, Structure};
-use crate::first_of_name::{Firsts, add_first, add_first_if, first_of};
+use crate::first_of_name::{Firsts, add_first, first_of, set};
+use crate::struct_fields::StructFields;
 use c_tree::Name;
-use indexmap::IndexMap;
 use std::alloc::{AllocError, Global};
+use std::collections::BTreeMap;
 use std::marker::Model;
 
-/// Structures.
+/// The first structure of a tag, and its fields.
+#[derive(Drop)]
+struct FirstStructure<'a> {
+    structure: Structure<'a>,
+    fields: StructFields<'a>,
+}
+
+/// Structures, and the first one of each tag.
 #[derive(Drop)]
 pub struct Structures<'a> {
     all: Vec<Structure<'a>>,
-    first: Firsts<'a, Structure<'a>>,
+    first: Firsts<'a, FirstStructure<'a>>,
 }
 
 impl<'a> Model for Structures<'a> {
     ghost use Rattle.std.specs.Prelude.{◌≡◌, ℕ, List, map, option_map};
     ghost use Rattle.c_types_rules.specs.Tables.{Structure, structure_in};
     ghost use Rattle.c_types_names.specs.FirstOfName.{first_of};
+    ghost use Rattle.c_types_names.specs.NameTables.{the_structure, its_fields};
     ghost use Rattle.c_types_names.specs.Seen.{structure_seen};
+    ghost use Rattle.c_types_names.specs.StructFields.{fields_of};
 
     ghost Value = { List Structure };
 
     ghost view = { λ s. map structure_seen s.all.items };
 
-    ghost invariant = { λ s. (n : List ℕ)
-        → option_map structure_seen (first_of s.first n) ≡ structure_in (map structure_seen s.all.items) n };
+    ghost invariant = { λ s. ((n : List ℕ)
+        → option_map structure_seen (option_map the_structure (first_of s.first n)) ≡ structure_in (map structure_seen s.all.items) n)
+        × ((n : List ℕ) → option_map its_fields (first_of s.first n)
+        ≡ option_map fields_of (structure_in (map structure_seen s.all.items) n)) };
 }
 
 impl<'a> Structures<'a> {
@@ -39,7 +55,7 @@ impl<'a> Structures<'a> {
     {
         Structures {
             all: Vec::new(alloc),
-            first: IndexMap::new(alloc),
+            first: BTreeMap::new(alloc),
         }
     }
 
@@ -54,7 +70,20 @@ impl<'a> Structures<'a> {
     pub fn first(&self, tag: &Name) -> Option<Structure<'a>>
         ensures { option_map structure_seen result ≡ structure_in self.now tag.now }
     {
-        first_of(&self.first, tag)
+        match self.first.get(tag.as_bytes()) {
+            None => None,
+            Some(found) => Some(found.structure),
+        }
+    }
+
+    /// The fields of the first structure of the tag.
+    pub fn fields(&self, tag: &Name) -> Option<&StructFields<'a>>
+        ensures { option_copied result ≡ option_map fields_of (structure_in self.now tag.now) }
+    {
+        match self.first.get(tag.as_bytes()) {
+            None => None,
+            Some(found) => Some(&found.fields),
+        }
     }
 
     /// With one more structure.
@@ -62,15 +91,20 @@ impl<'a> Structures<'a> {
         ensures more { OnOk result (self.new ≡ self.old ++ structure_seen one.entry ∷ []) }
         ensures same { OnErr result (self.new ≡ self.old) }
     {
+        let mut fields = StructFields::new(*self.all.allocator());
+        fields.push_lines(one.lines.as_slice())?;
         self.all.reserve(1)?;
-        self.first.reserve(1)?;
-        add_first(&mut self.first, one.tag, one);
+        let found = FirstStructure {
+            structure: one,
+            fields,
+        };
+        add_first(&mut self.first, one.tag, found)?;
         self.all.push(one).unwrap();
         Ok(())
     }
 }
 
-/// Names of types.
+/// Names of types, and the first one of each name.
 #[derive(Drop)]
 pub struct Aliases<'a> {
     all: Vec<Alias<'a>>,
@@ -97,7 +131,7 @@ impl<'a> Aliases<'a> {
     {
         Aliases {
             all: Vec::new(alloc),
-            first: IndexMap::new(alloc),
+            first: BTreeMap::new(alloc),
         }
     }
 
@@ -113,27 +147,77 @@ impl<'a> Aliases<'a> {
         ensures { OnOk result (self.new ≡ self.old ++ alias_seen one.entry ∷ []) }
     {
         self.all.reserve(1)?;
-        self.first.reserve(1)?;
-        add_first(&mut self.first, one.name, one);
+        add_first(&mut self.first, one.name, one)?;
         self.all.push(one).unwrap();
         Ok(())
     }
 }
 
-/// Procedures.
+/// The first procedures of a name: the first of all, the first definition, and the first declaration that is none.
+#[derive(Clone, Copy)]
+struct FirstProcedures<'a> {
+    first: Procedure<'a>,
+    defined: Option<Procedure<'a>>,
+    declared: Option<Procedure<'a>>,
+}
+
+/// The first definition, or the first declaration that is none.
+fn procedure_that<'a>(defines: bool, found: Option<FirstProcedures<'a>>) -> Option<Procedure<'a>>
+    ensures { result ≡ procedure_that defines found.entry }
+{
+    match found {
+        None => None,
+        Some(found) => if defines {
+            found.defined
+        } else {
+            found.declared
+        },
+    }
+}
+
+/// What was found, or else the procedure, if it is wanted.
+fn or_first<'a>(
+    found: Option<Procedure<'a>>,
+    wanted: bool,
+    one: Procedure<'a>,
+) -> Option<Procedure<'a>>
+    ensures { result ≡ or_first found.entry wanted one.entry }
+{
+    match found {
+        None => if wanted { Some(one) } else { None },
+        Some(found) => Some(found),
+    }
+}
+
+/// The first procedures of a name, with one more.
+fn with_procedure<'a>(found: Option<FirstProcedures<'a>>, one: Procedure<'a>) -> FirstProcedures<'a>
+    ensures first { Some result.first ≡ or_first (option_map first_procedure found.entry) true one.entry }
+    ensures that { (defines : Bool) → procedure_that defines (Some result)
+        ≡ or_first (procedure_that defines found.entry) (same_bool one.entry.defines defines) one.entry }
+{
+    FirstProcedures {
+        first: match found {
+            None => one,
+            Some(found) => found.first,
+        },
+        defined: or_first(procedure_that(true, found), one.defines, one),
+        declared: or_first(procedure_that(false, found), !one.defines, one),
+    }
+}
+
+/// Procedures, and the first ones of each name.
 #[derive(Drop)]
 pub struct Procedures<'a> {
     all: Vec<Procedure<'a>>,
-    first: Firsts<'a, Procedure<'a>>,
-    defined: Firsts<'a, Procedure<'a>>,
-    declared: Firsts<'a, Procedure<'a>>,
+    first: Firsts<'a, FirstProcedures<'a>>,
 }
 
 impl<'a> Model for Procedures<'a> {
-    ghost use Rattle.std.specs.Prelude.{◌≡◌, ℕ, List, map, option_map, true, false};
+    ghost use Rattle.std.specs.Prelude.{◌≡◌, ℕ, Bool, List, map, option_map};
     ghost use Rattle.c_types_rules.specs.Tables.{Procedure, procedure_in};
     ghost use Rattle.c_types_rules.specs.Items.{definitions};
     ghost use Rattle.c_types_names.specs.FirstOfName.{first_of};
+    ghost use Rattle.c_types_names.specs.NameTables.{first_procedure, procedure_that};
     ghost use Rattle.c_types_names.specs.Seen.{procedure_seen};
 
     ghost Value = { List Procedure };
@@ -141,11 +225,9 @@ impl<'a> Model for Procedures<'a> {
     ghost view = { λ s. map procedure_seen s.all.items };
 
     ghost invariant = { λ s. ((n : List ℕ)
-        → option_map procedure_seen (first_of s.first n) ≡ procedure_in (map procedure_seen s.all.items) n)
-        × ((n : List ℕ) → option_map procedure_seen (first_of s.defined n) ≡ procedure_in
-        (definitions true (map procedure_seen s.all.items)) n)
-        × ((n : List ℕ) → option_map procedure_seen (first_of s.declared n) ≡ procedure_in
-        (definitions false (map procedure_seen s.all.items)) n) };
+        → option_map procedure_seen (option_map first_procedure (first_of s.first n)) ≡ procedure_in (map procedure_seen s.all.items) n)
+        × ((defines : Bool) (n : List ℕ) → option_map procedure_seen (procedure_that defines (first_of s.first n))
+        ≡ procedure_in (definitions defines (map procedure_seen s.all.items)) n) };
 }
 
 impl<'a> Procedures<'a> {
@@ -155,9 +237,7 @@ impl<'a> Procedures<'a> {
     {
         Procedures {
             all: Vec::new(alloc),
-            first: IndexMap::new(alloc),
-            defined: IndexMap::new(alloc),
-            declared: IndexMap::new(alloc),
+            first: BTreeMap::new(alloc),
         }
     }
 
@@ -165,18 +245,17 @@ impl<'a> Procedures<'a> {
     pub fn first(&self, name: &Name) -> Option<Procedure<'a>>
         ensures { option_map procedure_seen result ≡ procedure_in self.now name.now }
     {
-        first_of(&self.first, name)
+        match first_of(&self.first, name) {
+            None => None,
+            Some(found) => Some(found.first),
+        }
     }
 
     /// The first definition of the procedure, or its first declaration that is none.
     pub fn definition(&self, name: &Name, defines: bool) -> Option<Procedure<'a>>
         ensures { option_map procedure_seen result ≡ procedure_in (definitions defines self.now) name.now }
     {
-        if defines {
-            first_of(&self.defined, name)
-        } else {
-            first_of(&self.declared, name)
-        }
+        procedure_that(defines, first_of(&self.first, name))
     }
 
     /// With one more procedure.
@@ -184,13 +263,9 @@ impl<'a> Procedures<'a> {
         ensures { OnOk result (self.new ≡ self.old ++ procedure_seen one.entry ∷ []) }
     {
         self.all.reserve(1)?;
-        self.first.reserve(1)?;
-        self.defined.reserve(1)?;
-        self.declared.reserve(1)?;
         let name = &one.head.declarator.name.text;
-        add_first(&mut self.first, name, one);
-        add_first_if(one.defines, &mut self.defined, name, one);
-        add_first_if(!one.defines, &mut self.declared, name, one);
+        let found = with_procedure(first_of(&self.first, name), one);
+        set(&mut self.first, name, found)?;
         self.all.push(one).unwrap();
         Ok(())
     }

@@ -1,24 +1,19 @@
 //! The fields of structures, in the order of the text, and by their names.
-ghost use Rattle.std.specs.Prelude.{◌≡◌, ◌<◌, [], ◌∷◌, ◌++◌, List, ℕ, map, option_map, OnOk};
-ghost use Rattle.std.specs.Str.{bytes_eq};
-ghost use Rattle.indexmap.specs.IndexMap.{spare};
+ghost use Rattle.std.specs.Prelude.{◌≡◌, [], ◌∷◌, ◌++◌, map, option_map, OnOk};
 ghost use Rattle.c_tree.specs.Syntax.{specifier_tree, declarator_tree, fields_tree};
-ghost use Rattle.c_types_names.specs.FirstOfName.{first_of, or_first};
 ghost use Rattle.c_types_names.specs.StructFields.{
   declared_seen,
   declared_by_one,
   declared_in_line,
   declared_fields,
   field_named,
-  field_in_table,
   place_named,
-  place_in_table,
 };
 
 use crate::first_of_name::{Firsts, add_first, first_of};
 use c_tree::{Declarator, FieldDecl, Name, TypeSpecifier};
-use indexmap::IndexMap;
 use std::alloc::{AllocError, Global};
+use std::collections::BTreeMap;
 use std::marker::Model;
 
 /// A field: the specifier of its declaration, and its declarator.
@@ -63,7 +58,7 @@ impl<'a> StructFields<'a> {
     {
         StructFields {
             all: Vec::new(alloc),
-            places: IndexMap::new(alloc),
+            places: BTreeMap::new(alloc),
         }
     }
 
@@ -84,7 +79,7 @@ impl<'a> StructFields<'a> {
         }
     }
 
-    /// The place of the first field of the name, or how many fields there are. It is found in the same time however many fields there are.
+    /// The place of the first field of the name, or how many fields there are. Among n fields it takes O(log n) comparisons of names.
     pub fn place(&self, name: &Name) -> usize
         ensures { result ≡ place_named self.now name.now }
     {
@@ -99,9 +94,8 @@ impl<'a> StructFields<'a> {
         ensures { OnOk result (self.new ≡ self.old ++ declared_seen one.entry ∷ []) }
     {
         self.all.reserve(1)?;
-        self.places.reserve(1)?;
         let place = self.all.len();
-        add_first(&mut self.places, &one.declarator.name.text, place);
+        add_first(&mut self.places, &one.declarator.name.text, place)?;
         self.all.push(one).unwrap();
         Ok(())
     }
@@ -142,40 +136,5 @@ impl<'a> StructFields<'a> {
             self.push_line(line)?;
         }
         Ok(())
-    }
-}
-
-/// The fields of the first structure of each tag.
-pub type FieldTable<'a> = IndexMap<&'a [u8], StructFields<'a>>;
-
-/// Adds the fields of a structure of the tag, unless there is one. The table has room for one more.
-pub fn add_fields<'a>(table: &mut FieldTable<'a>, tag: &'a Name, fields: StructFields<'a>)
-    requires { 0 < spare table.old }
-    ensures { (n : List ℕ) → first_of table.new n ≡ or_first (first_of table.old n) (bytes_eq tag.now n) fields.entry }
-{
-    let bytes = tag.as_bytes();
-    if !table.contains_key(bytes) {
-        table.insert(bytes, fields).unwrap();
-    }
-}
-
-/// The first field of the name in the structure of the tag.
-pub fn field_in_table<'a>(
-    table: &FieldTable<'a>,
-    tag: &Name,
-    name: &Name,
-) -> Option<DeclaredField<'a>>
-    ensures { option_map declared_seen result ≡ field_in_table (first_of table.now tag.now) name.now }
-{
-    table.get(tag.as_bytes())?.first(name)
-}
-
-/// The place of the first field of the name in the structure of the tag, or how many fields that has; 0 where there is no structure.
-pub fn place_in_table(table: &FieldTable, tag: &Name, name: &Name) -> usize
-    ensures { result ≡ place_in_table (first_of table.now tag.now) name.now }
-{
-    match table.get(tag.as_bytes()) {
-        None => 0,
-        Some(fields) => fields.place(name),
     }
 }

@@ -19,11 +19,8 @@ ghost use Rattle.c_types_names.specs.StructFields.{declared_seen, fields_of, fie
 
 use crate::declared::{Alias, Procedure, Structure};
 use crate::name_tables::{Aliases, Procedures, Structures};
-use crate::struct_fields::{
-    DeclaredField, FieldTable, StructFields, add_fields, field_in_table, place_in_table,
-};
+use crate::struct_fields::{DeclaredField, StructFields};
 use c_tree::{FieldDecl, Ident, Item, Name};
-use indexmap::IndexMap;
 use std::alloc::{AllocError, Global};
 use std::marker::Model;
 
@@ -32,20 +29,14 @@ pub struct Tables<'a> {
     structures: Structures<'a>,
     aliases: Aliases<'a>,
     procedures: Procedures<'a>,
-    fields: FieldTable<'a>,
 }
 
 impl<'a> Model for Tables<'a> {
-    ghost use Rattle.std.specs.Prelude.{◌≡◌, ℕ, List, option_map};
-    ghost use Rattle.c_types_rules.specs.Tables.{Tables, structure_in};
-    ghost use Rattle.c_types_names.specs.FirstOfName.{first_of};
-    ghost use Rattle.c_types_names.specs.StructFields.{fields_of};
+    ghost use Rattle.c_types_rules.specs.Tables.{Tables};
 
     ghost Value = { Tables };
 
     ghost view = { λ t. record { structures = t.structures; aliases = t.aliases; procedures = t.procedures } };
-
-    ghost invariant = { λ t. (n : List ℕ) → first_of t.fields n ≡ option_map fields_of (structure_in t.structures n) };
 }
 
 // Written out, so that callers' proofs take the end of the tables as one call, and not one for each part of each map.
@@ -55,7 +46,6 @@ impl<'a> Drop for Tables<'a> {
             structures: _structures,
             aliases: _aliases,
             procedures: _procedures,
-            fields: _fields,
         } = self;
     }
 }
@@ -79,7 +69,6 @@ impl<'a> Tables<'a> {
             structures: Structures::new(alloc),
             aliases: Aliases::new(alloc),
             procedures: Procedures::new(alloc),
-            fields: IndexMap::new(alloc),
         }
     }
 
@@ -101,7 +90,7 @@ impl<'a> Tables<'a> {
     pub fn fields(&self, tag: &Name) -> Option<&StructFields<'a>>
         ensures { option_copied result ≡ option_map fields_of (structure_in self.now.structures tag.now) }
     {
-        self.fields.get(tag.as_bytes())
+        self.structures.fields(tag)
     }
 
     /// The first field of the name in the first structure of the tag.
@@ -109,14 +98,17 @@ impl<'a> Tables<'a> {
         ensures { option_map declared_seen result
             ≡ field_in_table (option_map fields_of (structure_in self.now.structures tag.now)) name.now }
     {
-        field_in_table(&self.fields, tag, name)
+        self.structures.fields(tag)?.first(name)
     }
 
     /// The place of the first field of the name in the first structure of the tag, or how many fields that has; 0 where there is none.
     pub fn field_place(&self, tag: &Name, name: &Name) -> usize
         ensures { result ≡ field_place self.now tag.now name.now }
     {
-        place_in_table(&self.fields, tag, name)
+        match self.structures.fields(tag) {
+            None => 0,
+            Some(fields) => fields.place(name),
+        }
     }
 
     /// The first of the names of types that is this name.
@@ -149,12 +141,7 @@ impl<'a> Tables<'a> {
               procedures = [];
             })) }
     {
-        let mut fields = StructFields::new(*self.fields.allocator());
-        fields.push_lines(lines.as_slice())?;
-        self.fields.reserve(1)?;
-        self.structures.push(Structure { tag, lines })?;
-        add_fields(&mut self.fields, tag, fields);
-        Ok(())
+        self.structures.push(Structure { tag, lines })
     }
 
     /// With what the item declares.

@@ -1,30 +1,32 @@
 -- What is found in one part and then in another.
-use Rattle.std.proofs.Common.{◌≡◌, ℕ, ◌+◌, ◌<◌, List, ◌∷◌, ◌++◌, length, drop, get_or, Result, Ok, Err, OnOk, append_assoc, sym, ap, ◌∙◌}
+use Rattle.std.proofs.Common.{◌≡◌, ℕ, ◌+◌, ◌<◌, Option, List, ◌∷◌, length, drop, get_or, Result, Ok, Err, OnOk, sym, ap, ◌∙◌}
 use Rattle.std.proofs.Common.{subst}
-use Rattle.std.proofs.lemmas.List.{append-nil, at_drop_more}
+use Rattle.std.proofs.lemmas.List.{at_drop_more}
 use Rattle.c_tokens.specs.declared.places.Refusal.{Refusal}
 use Rattle.c_types_rules.specs.Types.{Kind}
 use Rattle.c_types_rules.specs.Statements.{Found, nothing_found, refuses, ◌⊹◌}
 use Rattle.c_types_names.specs.declared.first_refusal.FirstRefusal.{FirstRefusal}
 use Rattle.c_types_names.specs.FirstRefusal.{with_refusals}
 use Rattle.c_types_names.proofs.FirstRefusals as more
+use Rattle.c_types_exprs.specs.Listing.{with_kinds}
+use Rattle.c_types_exprs.proofs.ListedKinds.{with_none, with_two}
 use Rattle.c_types_stmts.specs.declared.finding.Finding.{Finding}
 use Rattle.c_types_stmts.specs.Adding.{Adds, AddsUpTo}
 
 -- nothing is found
 pub nothing : (f : Finding) → Adds nothing_found f f
-nothing f = record { first = more.nothing f.first; kinds = sym (append-nil f.kinds) }
+nothing f = record { first = more.nothing f.first; kinds = sym (with_none f.kinds) }
 
 -- something is refused
 pub refused : (all : List Refusal) (f : Finding) (first : FirstRefusal) → first ≡ with_refusals f.first all
     → Adds (refuses all) f (record { first = first; kinds = f.kinds })
-refused all f first is = record { first = is; kinds = sym (append-nil f.kinds) }
+refused all f first is = record { first = is; kinds = sym (with_none f.kinds) }
 
 -- one part, and then the other
 pub then : {one other : Found} {a b c : Finding} → Adds one a b → Adds other b c → Adds (one ⊹ other) a c
 then {one = one} {other = other} {a = a} {b = b} {c = c} first next = record {
   first = more.then a.first b.first c.first one.refusals other.refusals first.first next.first;
-  kinds = next.kinds ∙ ap (λ ks. ks ++ other.kinds) first.kinds ∙ append_assoc a.kinds one.kinds other.kinds;
+  kinds = next.kinds ∙ ap (λ ks. with_kinds ks other.kinds) first.kinds ∙ with_two a.kinds one.kinds other.kinds;
 }
 
 -- the same, where the second is what a function ends with
@@ -34,8 +36,8 @@ ends (Ok x) other c first next = then first next
 ends (Err e) other c first next = tt
 
 -- refusals and types that are found by two functions
-pub both : {T E : Type 0} (r : Result T E) (found : Found) (f : Finding) (first : FirstRefusal) (kinds : List Kind)
-    → first ≡ with_refusals f.first found.refusals → OnOk r (kinds ≡ f.kinds ++ found.kinds)
+pub both : {T E : Type 0} (r : Result T E) (found : Found) (f : Finding) (first : FirstRefusal) (kinds : Option (List Kind))
+    → first ≡ with_refusals f.first found.refusals → OnOk r (kinds ≡ with_kinds f.kinds found.kinds)
     → OnOk r (Adds found f (record { first = first; kinds = kinds }))
 both (Ok x) found f first kinds is more = record { first = is; kinds = more }
 both (Err e) found f first kinds is more = tt

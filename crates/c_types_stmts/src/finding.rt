@@ -7,11 +7,11 @@ use c_tree::Place;
 use c_types_exprs::all_kinds::Kinds;
 use c_types_names::first_refusal::FirstRefusal;
 
-/// What is found in a text so far: the first refusal, and the types of its expressions.
+/// What is found in a text so far: the first refusal, and the types of its expressions where a list of them is wanted.
 #[derive(Drop)]
 pub struct Finding<'a> {
     pub first: FirstRefusal,
-    pub kinds: Kinds<'a>,
+    pub kinds: Option<Kinds<'a>>,
 }
 
 impl<'a> Finding<'a> {

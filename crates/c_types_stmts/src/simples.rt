@@ -8,8 +8,8 @@ ghost use Rattle.c_types_stmts.specs.Adding.{Adds};
 use crate::finding::Finding;
 use c_tree::places::place_of_expr;
 use c_tree::{AssignOp, Expr, Ident, Simple};
-use c_types_exprs::all_kinds::{push_args, push_kinds};
-use c_types_exprs::exprs::{is_null, kind_of, kind_of_call};
+use c_types_exprs::all_kinds::{list_call_kinds, list_kinds};
+use c_types_exprs::exprs::{is_null, kind_of};
 use c_types_exprs::refusals::{call_refusals, expr_refusals, whole_refusals};
 use c_types_exprs::value_types::{fits, given_by, gives_int, gives_pointer};
 use c_types_names::env::Env;
@@ -22,7 +22,7 @@ pub fn plain<'a>(env: &Env<'a>, expr: &'a Expr, found: &mut Finding<'a>) -> Resu
     ensures { OnOk result (Adds (rule.plain env.now (expr_tree expr.now)) found.old found.new) }
 {
     expr_refusals(env, expr, &mut found.first);
-    push_kinds(env, expr, &mut found.kinds)
+    list_kinds(env, expr, &mut found.kinds)
 }
 
 /// An expression that may be a call or `malloc` as a whole.
@@ -30,7 +30,7 @@ pub fn whole<'a>(env: &Env<'a>, expr: &'a Expr, found: &mut Finding<'a>) -> Resu
     ensures { OnOk result (Adds (rule.whole env.now (expr_tree expr.now)) found.old found.new) }
 {
     whole_refusals(env, expr, &mut found.first);
-    push_kinds(env, expr, &mut found.kinds)
+    list_kinds(env, expr, &mut found.kinds)
 }
 
 /// A call that is a statement.
@@ -43,8 +43,7 @@ fn called<'a>(
     ensures { OnOk result (Adds (rule.called env.now (ident_tree callee.now) (args_tree args.now.items)) found.old found.new) }
 {
     call_refusals(env, callee, args, &mut found.first);
-    found.kinds.push(kind_of_call(env.tables(), &callee.text))?;
-    push_args(env, args, &mut found.kinds)
+    list_call_kinds(env, callee, args, &mut found.kinds)
 }
 
 /// Whether the expression is a variable or a member, parentheses aside.

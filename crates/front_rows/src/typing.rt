@@ -2,7 +2,7 @@
 use crate::rows::{both_sides, text_behind};
 use c_front::{ReadFault, read_unit};
 use c_tree::Unit;
-use c_types::{TypeFault, check};
+use c_types::{TypeFault, check, kinds_of};
 use c_types_names::kinds::{CType, Kind};
 use std::alloc::Global;
 use worked_rows::Fault;
@@ -98,10 +98,12 @@ fn letter(kind: Kind) -> char {
 
 /// The types of the expressions of a text, a letter each.
 fn kinds(alloc: Global, text: &[u8]) -> Result<String, Fault> {
-    let mut letters = String::new(alloc);
-    match check(alloc, &[unit_of(alloc, text)?]) {
+    let units = [unit_of(alloc, text)?];
+    match check(alloc, &units) {
         Ok(typed) => {
-            for kind in typed.kinds.as_slice() {
+            let found = kinds_of(alloc, &typed)?;
+            let mut letters = String::new(alloc);
+            for kind in found.as_slice() {
                 letters.push(letter(*kind))?;
             }
             Ok(letters)

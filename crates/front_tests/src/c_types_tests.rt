@@ -2,7 +2,7 @@
 use c_tree::{
     Block, Declarator, Expr, Head, Ident, Item, Name, Params, Place, Stmt, TypeSpecifier, Unit,
 };
-use c_types::{TypeFault, check};
+use c_types::{TypeFault, check, kinds_of};
 use std::alloc::Global;
 use std::rt::HostRuntime;
 use std::test::Fail;
@@ -52,7 +52,7 @@ fn a_number_is_an_int(rt: HostRuntime) -> Result<(), Fail> {
         Ok(typed) => {
             assert_eq!(rt; typed.units.len(), 1);
             assert_eq!(rt; typed.structs.len(), 0);
-            assert_eq!(rt; typed.kinds.as_slice().len(), 1);
+            assert_eq!(rt; kinds_of(alloc, &typed)?.as_slice().len(), 1);
             Ok(())
         }
         Err(_) => Err("refused")?,

@@ -14,7 +14,7 @@ use Rattle.c_grammar.specs.Spelling.{each, word, item, Spells}
 use Rattle.c_grammar.specs.Classes
 use Rattle.c_grammar.specs.Trees.{Item, File}
 use Rattle.c_grammar.specs.Words.{Word, words_of}
-use Rattle.c_grammar.proofs.Goods.{item_good}
+use Rattle.c_grammar.proofs.OneWordAhead.{item_good}
 use Rattle.c_grammar.proofs.SpelledFiles.{is_item}
 use Rattle.c_grammar.proofs.Synced.{fewer}
 use Rattle.c_types_rules.specs.Tables.{Structure, declares, declared_by, items_of}

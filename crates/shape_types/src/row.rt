@@ -1,7 +1,8 @@
 //! A list of values of one type, over std's `Vec`. Contracts see a row as the list of its values, without the
 //! capacity and the pointer of a `Vec`, so that two rows with the same values are the same: the ground on which
 //! "the same program", "the same key" and "the same answer" stand.
-ghost use Rattle.std.specs.Prelude.{◌≡◌, ◌==◌, ◌+◌, ◌-◌, ◌^◌, ◌<◌, ◌≤◌, ◌++◌, ◌∷◌, [], length, insert, remove, slice_set, slice_get, Some, OnOk, OnErr};
+ghost use Rattle.std.specs.Prelude.{◌≡◌, ◌==◌, ◌+◌, ◌-◌, ◌^◌, ◌<◌, ◌≤◌, ◌++◌, ◌∷◌, []};
+ghost use Rattle.std.specs.Prelude.{length, insert, remove, slice_set, slice_get, Some, OnOk, OnErr};
 ghost use Rattle.std.specs.Iterator.Adapters.{IterYieldsInOrder, IterYieldsInReverse};
 ghost use Rattle.std.specs.Iterator.Runs.{EveryRun, ItemsMapTo};
 ghost use Rattle.std.specs.Option.{option_copied};

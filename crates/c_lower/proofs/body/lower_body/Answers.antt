@@ -15,8 +15,8 @@ returns-clause-body c =
     let behind =
     subst (λ (t : Tables). Closes (behind_opening (closed_of t head block))
     (At 0) no_out c.in_ok-out.out) c.in_ok-begin.ensures.tables c.in_ok-out.ensures.code in
-    IfOk-weaker c.finish-2.result _ _ (λ found finished.
+    IfOk-weaker c.body_of-2.result _ _ (λ found finished.
     begun_later tables head block c.in_ok-begin.begin c.place.result c.new-out.result c.closed.new.out c.in_ok-out.out found
     c.new-out.ensures c.in_ok-begin.ensures.code c.place.ensures
     c.if-place-eq0.false behind finished)
-    c.finish-2.ensures
+    c.body_of-2.ensures

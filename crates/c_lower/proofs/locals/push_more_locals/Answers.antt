@@ -2,7 +2,7 @@ use Rattle.std.proofs.Common.{◌<◌, ◌∷◌, [], List, length, map, refl, r
 use Rattle.c_lower_rules.specs.Statements.{kinds_of_locals}
 use Rattle.c_tree.specs.declared.stmts.Initialized.{Initialized}
 use Rattle.c_tree.specs.Syntax.{specifier_tree, initialized_tree}
-use Rattle.c_types.proofs.Looping.{appended}
+use Rattle.c_types.proofs.RefusalsInTurn.{appended}
 use Rattle.c_lower.proofs.locals.push_more_locals.Goals as goal
 
 pub loop-one-preserved : goal.loop-one-preserved

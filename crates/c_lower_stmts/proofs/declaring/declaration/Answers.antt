@@ -2,7 +2,7 @@ use Rattle.std.proofs.Common.{◌+◌, ◌∷◌, map, drop, sym, ap, ◌∙◌}
 use Rattle.std.proofs.lemmas.List.{at_drop_more, at_drop_all}
 use Rattle.c_tree.specs.Syntax.{specifier_tree, initialized_tree}
 use Rattle.c_lower_stmts.proofs.Locals.{locals_begun, locals_turned, locals_ended}
-use Rattle.c_lower_stmts.proofs.Within.{within_then}
+use Rattle.c_lower_stmts.proofs.WithinScope.{within_then}
 use Rattle.c_lower_stmts.proofs.declaring.declaration.Goals as goal
 
 pub loop-other-init : goal.loop-other-init

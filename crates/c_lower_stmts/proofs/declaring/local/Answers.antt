@@ -7,7 +7,7 @@ use Rattle.c_lower_rules.specs.Statements.{initial}
 use Rattle.c_lower_exprs.specs.Contexts.{on_line}
 use Rattle.c_lower_stmts.specs.Simples.{EmitsPiece}
 use Rattle.c_lower_stmts.proofs.Locals.{local_declared}
-use Rattle.c_lower_stmts.proofs.Within.{within_added}
+use Rattle.c_lower_stmts.proofs.WithinScope.{within_added}
 use Rattle.c_lower_stmts.proofs.declaring.local.Goals as goal
 
 pub returns-clause-within : goal.returns-clause-within

@@ -15,8 +15,8 @@ use Rattle.c_lower_stmts.specs.Laying.{EmitsLowered, EmitsWithin}
 use Rattle.c_lower_stmts.specs.Standing.{state}
 use Rattle.c_lower_stmts.proofs.Branching.{jumped, if_laid, if_else_laid}
 use Rattle.c_lower_stmts.proofs.Rounds.{while_laid, do_laid, for_laid}
-use Rattle.c_lower_stmts.proofs.Rows.{stmts_turn, numbers_at, one_more}
-use Rattle.c_lower_stmts.proofs.Within.{within_then}
+use Rattle.c_lower_stmts.proofs.StmtsInTurn.{stmts_turn, numbers_at, one_more}
+use Rattle.c_lower_stmts.proofs.WithinScope.{within_then}
 use Rattle.c_lower_stmts.proofs.Scopes.{entered_within}
 use Rattle.c_tree.proofs.Trees.{local_is, simple_is, break_is, continue_is, return_is}
 use Rattle.c_lower_stmts.proofs.stmts.+stmts.Goals as goal
@@ -70,12 +70,13 @@ stmt-returns-in-Simple-clause-laid t c =
 pub stmt-returns-in-Return-clause-laid : goal.stmt-returns-in-Return-clause-laid
 stmt-returns-in-Return-clause-laid t c =
     let tree_is = ap stmt_tree c.in-Return.is ∙ return_is c.in-Return.place c.in-Return.value in
-    IfOk-weaker c.exit.result _ _ (λ laid is numbers line.
+    IfOk-weaker c.return_at.result _ _ (λ laid is numbers line.
     subst (λ s. EmitsLowered
     (stmt s (state
-    (on_line c.args.c.now line) c.args.locals c.args.out.now)) c.args.c.now c.args.locals c.args.c.now laid c.args.out.now c.exit.new.out)
+    (on_line c.args.c.now line) c.args.locals c.args.out.now))
+    c.args.c.now c.args.locals c.args.c.now laid c.args.out.now c.return_at.new.out)
     (sym tree_is)
-    (is (subst StmtHasIntNumbers tree_is numbers) line)) c.exit.ensures
+    (is (subst StmtHasIntNumbers tree_is numbers) line)) c.return_at.ensures
 
 pub stmt-returns-in-None-clause-laid : goal.stmt-returns-in-None-clause-laid
 stmt-returns-in-None-clause-laid t c = λ numbers line.

@@ -5,7 +5,7 @@ use Rattle.c_lower_rules.specs.Statements.{member_target}
 use Rattle.c_lower_emit.specs.Emitting.{Out}
 use Rattle.c_lower_emit.specs.declared.uses.Use.TheVariants.{Value}
 use Rattle.c_lower_exprs.specs.Lowered.{IsLowered}
-use Rattle.c_lower_stmts.proofs.Walking.{TargetSoFar}
+use Rattle.c_lower_stmts.proofs.MemberPointers.{TargetSoFar}
 use Rattle.c_lower_stmts.proofs.targets.walk.Given as goal
 
 abbrev pub invariant-loop-next : goal.invariant-loop-next

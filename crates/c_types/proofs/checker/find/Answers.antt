@@ -1,10 +1,12 @@
-use Rattle.std.proofs.Common.{◌≡◌, ◌<◌, ◌≤◌, List, ◌++◌, length, map, sym, ap, ◌∙◌, rules}
-use Rattle.std.proofs.lemmas.List.{at_drop_all, append-nil}
+use Rattle.std.proofs.Common.{◌≡◌, ◌<◌, ◌≤◌, List, length, map, sym, ap, ◌∙◌, rules}
+use Rattle.std.proofs.lemmas.List.{at_drop_all}
 use Rattle.c_types_rules.specs.Tables.{Tables, joined, declared_by, no_tables, items_of}
 use Rattle.c_types_rules.specs.Programs.{items, files_refusals}
 use Rattle.c_tree.specs.declared.items.Item.{Item}
 use Rattle.c_tree.specs.declared.items.Unit.{Unit}
 use Rattle.c_tree.specs.Syntax.{item_tree, unit_tree}
+use Rattle.c_types_exprs.specs.Listing.{with_kinds}
+use Rattle.c_types_exprs.proofs.ListedKinds.{with_none}
 use Rattle.c_types_stmts.proofs.Adding.{same}
 use Rattle.c_types.specs.FirstRefusals.{first_with}
 use Rattle.c_types.proofs.FirstRefusals.{first_with-nil, first_with-is}
@@ -45,8 +47,8 @@ returns-clause-refusal c =
 pub returns-clause-kinds : goal.returns-clause-kinds
 returns-clause-kinds c =
     let past : length c.args.units.now ≤ c.loop-place.place = search rules in
-    sym (append-nil c.loop-place.found.kinds)
+    sym (with_none c.loop-place.found.kinds)
     ∙ sym (at_drop_all
-    (λ (xs : List Unit). c.loop-place.found.kinds
-    ++ (items c.args.env.now.tables c.loop-place.before (items_of (map unit_tree xs))).kinds) c.args.units.now c.loop-place.place past)
+    (λ (xs : List Unit). with_kinds c.loop-place.found.kinds
+    (items c.args.env.now.tables c.loop-place.before (items_of (map unit_tree xs))).kinds) c.args.units.now c.loop-place.place past)
     ∙ c.loop-place.invariant.kinds

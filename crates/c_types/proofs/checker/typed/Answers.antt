@@ -4,6 +4,6 @@ use Rattle.c_types.proofs.checker.typed.Goals as goal
 
 pub invariant_of-result : goal.invariant_of-result
 invariant_of-result c = record {
-  typed = typed_is c.types_are_known.ensures (files_of c.args.units.now) c.args.tables c.args.kinds c.in_ok-structs.structs
-      c.requires.well_typed c.requires.tables c.requires.kinds c.in_ok-structs.ensures;
+  typed = typed_is (files_of c.args.units.now) c.args.tables c.in_ok-structs.structs c.requires.well_typed c.requires.tables
+      c.in_ok-structs.ensures;
 }

@@ -4,7 +4,7 @@ use Rattle.c_types_rules.specs.Types.{unless, LEFT_OUT}
 use Rattle.c_types_rules.specs.Items.{has_name, unnamed_refusals}
 use Rattle.c_tree.specs.declared.names.Param.{Param}
 use Rattle.c_tree.specs.Syntax.{param_tree}
-use Rattle.c_types.proofs.Looping.{looped, ended}
+use Rattle.c_types.proofs.RefusalsInTurn.{looped, ended}
 use Rattle.c_types.proofs.items.more_unnamed_refusals.Goals as goal
 
 pub loop-param-preserved : goal.loop-param-preserved

@@ -5,7 +5,7 @@ use Rattle.c_types_rules.specs.Tables.{may_be_object}
 use Rattle.c_types_rules.specs.Items.{declarator_refusals}
 use Rattle.c_tree.specs.declared.names.Declarator.{Declarator}
 use Rattle.c_tree.specs.Syntax.{specifier_tree, declarator_tree}
-use Rattle.c_types.proofs.Looping.{looped, ended}
+use Rattle.c_types.proofs.RefusalsInTurn.{looped, ended}
 use Rattle.c_types.proofs.structures.declarator_refusals.Goals as goal
 
 pub loop-one-preserved : goal.loop-one-preserved

@@ -1,6 +1,6 @@
 use Rattle.std.proofs.Common.{◌≡◌, is_some, ◌∙◌, rules}
 use Rattle.c_types_names.specs.Seen.{procedure_seen}
-use Rattle.c_types.proofs.Finds.{found_some}
+use Rattle.c_types.proofs.FoundSome.{found_some}
 use Rattle.c_types.proofs.structures.is_procedure.Goals as goal
 
 pub returns : goal.returns

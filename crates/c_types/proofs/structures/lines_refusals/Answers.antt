@@ -3,7 +3,7 @@ use Rattle.c_types_rules.specs.Tables.{specifier_refusals}
 use Rattle.c_types_rules.specs.Items.{declarator_refusals, lines_refusals}
 use Rattle.c_tree.specs.declared.names.FieldDecl.{FieldDecl}
 use Rattle.c_tree.specs.Syntax.{fields_tree}
-use Rattle.c_types.proofs.Looping.{looped, ended}
+use Rattle.c_types.proofs.RefusalsInTurn.{looped, ended}
 use Rattle.c_types.proofs.structures.lines_refusals.Goals as goal
 
 pub loop-line-preserved : goal.loop-line-preserved

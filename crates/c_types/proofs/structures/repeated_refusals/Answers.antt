@@ -7,7 +7,7 @@ use Rattle.c_types_rules.specs.Items.{same_fields}
 use Rattle.c_tree.specs.Syntax.{ident_tree, fields_tree}
 use Rattle.c_types_names.specs.StructFields.{DeclaredTree, kind_of_declared}
 use Rattle.c_types_names.proofs.FirstRefusals.{nothing, same}
-use Rattle.c_types.proofs.Lines.{repeated_by, repeated_is}
+use Rattle.c_types.proofs.FieldLines.{repeated_by, repeated_is}
 use Rattle.c_types.proofs.structures.repeated_refusals.Goals as goal
 
 pub returns-in-None : goal.returns-in-None

@@ -5,6 +5,6 @@ use Rattle.c_types_stmts.proofs.simples.plain.Goals as goal
 
 pub returns : goal.returns
 returns c =
-    both c.push_kinds.result
-    (plain c.args.env.now (expr_tree c.args.expr.now)) c.args.found.now c.expr_refusals.new.first c.push_kinds.new.list
-    c.expr_refusals.ensures c.push_kinds.ensures
+    both c.list_kinds.result
+    (plain c.args.env.now (expr_tree c.args.expr.now)) c.args.found.now c.expr_refusals.new.first c.list_kinds.new.listed
+    c.expr_refusals.ensures c.list_kinds.ensures

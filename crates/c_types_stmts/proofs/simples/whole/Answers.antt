@@ -5,6 +5,6 @@ use Rattle.c_types_stmts.proofs.simples.whole.Goals as goal
 
 pub returns : goal.returns
 returns c =
-    both c.push_kinds.result
-    (whole c.args.env.now (expr_tree c.args.expr.now)) c.args.found.now c.whole_refusals.new.first c.push_kinds.new.list
-    c.whole_refusals.ensures c.push_kinds.ensures
+    both c.list_kinds.result
+    (whole c.args.env.now (expr_tree c.args.expr.now)) c.args.found.now c.whole_refusals.new.first c.list_kinds.new.listed
+    c.whole_refusals.ensures c.list_kinds.ensures

@@ -3,7 +3,7 @@ use Rattle.c_grammar.specs.Trees.{Declarator}
 use Rattle.c_types_rules.specs.Items.{field_names}
 use Rattle.c_tree.specs.declared.names.FieldDecl.{FieldDecl}
 use Rattle.c_tree.specs.Syntax.{fields_tree}
-use Rattle.c_types.proofs.Looping.{appended}
+use Rattle.c_types.proofs.RefusalsInTurn.{appended}
 use Rattle.c_types.proofs.names.Names.push_lines.Goals as goal
 
 pub loop-line-preserved : goal.loop-line-preserved

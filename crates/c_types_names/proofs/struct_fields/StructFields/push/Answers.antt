@@ -1,6 +1,5 @@
 use Rattle.std.proofs.Common.{◌≡◌, [], ◌∷◌, ◌++◌, length, map, sym, ap, ◌∙◌, rules}
 use Rattle.std.proofs.lemmas.List.{length-map}
-use Rattle.std.specs.Map.{lookup}
 use Rattle.std.specs.Str.{bytes_eq}
 use Rattle.c_types_names.specs.FirstOfName.{or_first}
 use Rattle.c_types_names.specs.StructFields.{declared_seen, first_place}
@@ -15,9 +14,8 @@ invariant_of-self-2 c = λ n.
     let has_name = bytes_eq c.args.one.declarator.now.name.text n in
     let items : c.push.new.self.items ≡ before ++ c.args.one ∷ [] = search rules in
     let len : c.len-place.result ≡ length before = search rules in
-    let kept = ap (λ es. lookup (λ k. bytes_eq n k.now) es) c.reserve-2.ensures.entries ∙ c.self.invariant n in
-    c.add_first.ensures n
-    ∙ ap (λ found. or_first found has_name c.len-place.result) kept
+    c.in_ok-add_first.ensures.thing n
+    ∙ ap (λ found. or_first found has_name c.len-place.result) (c.self.invariant n)
     ∙ ap (or_first (first_place seen n) has_name) (len ∙ sym (length-map before declared_seen))
     ∙ one_more_place seen (declared_seen c.args.one) n
     ∙ ap (λ xs. first_place xs n) (seen_behind declared_seen before c.args.one)
