@@ -6,3 +6,4 @@ pub mod Recursion
 pub mod Components
 pub mod Compared
 pub mod CallRows
+pub mod NameOrder

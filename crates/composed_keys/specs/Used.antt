@@ -9,9 +9,10 @@ use Rattle.component_keys.specs.Components.{by_name}
 use Rattle.component_keys.specs.Structures.{pointed_rows, struct_numbers}
 use Rattle.composed_keys.specs.declared.rows.Structures.{Structures}
 
--- whom the fields of each structure point to, and the order of the structures' names
+-- whom the fields of each structure point to, and the structures' names with their order
 pub record AreStructures (structs : List StructDef) (table : Structures) : Type 0 where
   pub pointed : rows table.pointed.items ≡ pointed_rows structs
+  pub names : table.names.items ≡ map (λ (def : StructDef). def.name) structs
   pub order : table.order.items ≡ by_name (map (λ (def : StructDef). def.name) structs) (length structs)
 
 -- the place of the structure that may be named is put behind

@@ -4,9 +4,11 @@
 
 pub mod callees;
 pub mod keys;
+mod name_search;
 pub mod outside;
 pub mod programs;
 pub mod rows;
+mod structure_index;
 pub mod structures;
 
 pub use callees::{callee_of, callee_with, calls_of, specs_of, summary_of};

@@ -1,4 +1,5 @@
 //! Components by the places of procedures in their program.
+use shape_data::Name;
 
 /// A procedure outside of a component that one of its members calls.
 #[derive(Clone, Copy, PartialEq, Eq, Debug)]
@@ -18,9 +19,10 @@ pub struct Component {
     pub outer: Vec<Outer>,
 }
 
-/// The structures of a program by their places: whom the fields of each one point to, and the places in order of the names.
+/// The structures of a program by their places: whom the fields of each one point to, their names, and the places in order of the names.
 #[derive(Drop)]
 pub struct Structures {
     pub pointed: Vec<Vec<u32>>,
+    pub names: Vec<Name>,
     pub order: Vec<u32>,
 }

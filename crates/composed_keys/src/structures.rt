@@ -1,5 +1,6 @@
-//! The structures that procedures and their callees' specs name, by their places in the program.
-ghost use Rattle.std.specs.Prelude.{◌≡◌, ◌<◌, ◌++◌, [], ◌∷◌, map, length, All, IfOk, IfSome, OnOk, slice_get};
+//! The structures that procedures and their callees' specs name, by their places in the program. Each name is looked up by a binary
+//! search, in time in proportion to a logarithm of the number of structures.
+ghost use Rattle.std.specs.Prelude.{◌≡◌, ◌<◌, ◌++◌, [], ◌∷◌, map, length, All, IfOk, OnOk, slice_get};
 ghost use Rattle.std.specs.List.{filter, filter_map, flat_map};
 ghost use Rattle.call_components.specs.Reaching.{marked, rows};
 ghost use Rattle.component_keys.specs.Structures.{
@@ -12,7 +13,6 @@ ghost use Rattle.component_keys.specs.Structures.{
   named_numbers,
   pointed_by,
   pointed_rows,
-  struct_number,
   struct_numbers,
   structs_used,
   type_struct,
@@ -20,6 +20,7 @@ ghost use Rattle.component_keys.specs.Structures.{
 ghost use Rattle.composed_keys.specs.Used.{AreStructures, noted};
 
 use crate::rows::Structures;
+use crate::structure_index::StructureIndex;
 use call_components::order::in_order;
 use call_components::reach::{is_marked, reach};
 use shape_data::answer::Callee;
@@ -28,39 +29,18 @@ use shape_data::symbolic::{Atom, Post, Spec, SymHeap};
 use shape_data::{Name, Row, copy_of};
 use std::alloc::{AllocError, Global};
 
-/// The place of the structure of a name.
-fn place_of(structs: &[StructDef], name: &Name) -> Option<usize>
-    ensures place { result ≡ struct_number structs.now name.now }
-    ensures within { IfSome result (λ place. place < length structs.now) }
-{
-    structs.iter().position(|def| def.name == *name)
-}
-
-/// The place of the structure of a name, as a number.
-fn number_of(structs: &[StructDef], name: &Name) -> Option<u32>
-    requires { length structs.now < 4294967296 }
-    ensures { result ≡ struct_number structs.now name.now }
-{
-    match place_of(structs, name) {
-        Some(place) => Some(place as u32),
-        None => None,
-    }
-}
-
 /// Puts the place of a structure behind.
-fn note(structs: &[StructDef], name: &Name, numbers: &mut Vec<u32>) -> Result<(), AllocError>
-    requires { length structs.now < 4294967296 }
+fn note(structs: &StructureIndex, name: &Name, numbers: &mut Vec<u32>) -> Result<(), AllocError>
     ensures { OnOk result (numbers.new.items ≡ numbers.old.items ++ struct_numbers structs.now (name.now ∷ [])) }
 {
-    if let Some(number) = number_of(structs, name) {
+    if let Some(number) = structs.number_of(name) {
         numbers.push(number)?;
     }
     Ok(())
 }
 
 /// Puts the place of the structure that a type points to behind.
-fn note_type(structs: &[StructDef], ty: &Ty, numbers: &mut Vec<u32>) -> Result<(), AllocError>
-    requires { length structs.now < 4294967296 }
+fn note_type(structs: &StructureIndex, ty: &Ty, numbers: &mut Vec<u32>) -> Result<(), AllocError>
     ensures { OnOk result (numbers.new.items ≡ noted structs.now numbers.old.items (type_struct ty.now)) }
 {
     match ty {
@@ -71,8 +51,11 @@ fn note_type(structs: &[StructDef], ty: &Ty, numbers: &mut Vec<u32>) -> Result<(
 }
 
 /// Puts the place of the structure that a command names behind.
-fn note_node(structs: &[StructDef], node: &Node, numbers: &mut Vec<u32>) -> Result<(), AllocError>
-    requires { length structs.now < 4294967296 }
+fn note_node(
+    structs: &StructureIndex,
+    node: &Node,
+    numbers: &mut Vec<u32>,
+) -> Result<(), AllocError>
     ensures { OnOk result (numbers.new.items ≡ noted structs.now numbers.old.items (command_struct node.now.cmd)) }
 {
     match &node.cmd {
@@ -90,8 +73,11 @@ fn note_node(structs: &[StructDef], node: &Node, numbers: &mut Vec<u32>) -> Resu
 }
 
 /// Puts the place of the structure of an atom behind.
-fn note_atom(structs: &[StructDef], atom: &Atom, numbers: &mut Vec<u32>) -> Result<(), AllocError>
-    requires { length structs.now < 4294967296 }
+fn note_atom(
+    structs: &StructureIndex,
+    atom: &Atom,
+    numbers: &mut Vec<u32>,
+) -> Result<(), AllocError>
     ensures { OnOk result (numbers.new.items ≡ noted structs.now numbers.old.items (atom_struct atom.now)) }
 {
     match atom {
@@ -102,8 +88,11 @@ fn note_atom(structs: &[StructDef], atom: &Atom, numbers: &mut Vec<u32>) -> Resu
 }
 
 /// Puts the places of the structures that types point to behind.
-fn note_types(structs: &[StructDef], types: &[Ty], numbers: &mut Vec<u32>) -> Result<(), AllocError>
-    requires { length structs.now < 4294967296 }
+fn note_types(
+    structs: &StructureIndex,
+    types: &[Ty],
+    numbers: &mut Vec<u32>,
+) -> Result<(), AllocError>
     ensures { OnOk result (numbers.new.items ≡ numbers.old.items ++ struct_numbers structs.now (filter_map type_struct types.now)) }
 {
     for ty in types {
@@ -113,12 +102,11 @@ fn note_types(structs: &[StructDef], types: &[Ty], numbers: &mut Vec<u32>) -> Re
 }
 
 /// Puts the places of the structures that a procedure names behind.
-pub fn note_flow(
-    structs: &[StructDef],
+fn note_flow(
+    structs: &StructureIndex,
     flow: &Flow,
     numbers: &mut Vec<u32>,
 ) -> Result<(), AllocError>
-    requires { length structs.now < 4294967296 }
     ensures { OnOk result (numbers.new.items ≡ numbers.old.items ++ struct_numbers structs.now (named_by_flow flow.now)) }
 {
     note_types(structs, &flow.slots, numbers)?;
@@ -127,11 +115,10 @@ pub fn note_flow(
 }
 
 fn note_nodes(
-    structs: &[StructDef],
+    structs: &StructureIndex,
     nodes: &[Node],
     numbers: &mut Vec<u32>,
 ) -> Result<(), AllocError>
-    requires { length structs.now < 4294967296 }
     ensures { OnOk result
         (numbers.new.items ≡ numbers.old.items ++ struct_numbers structs.now (filter_map (λ node. command_struct node.cmd) nodes.now)) }
 {
@@ -142,11 +129,10 @@ fn note_nodes(
 }
 
 fn note_heap(
-    structs: &[StructDef],
+    structs: &StructureIndex,
     heap: &SymHeap,
     numbers: &mut Vec<u32>,
 ) -> Result<(), AllocError>
-    requires { length structs.now < 4294967296 }
     ensures { OnOk result (numbers.new.items ≡ numbers.old.items ++ struct_numbers structs.now (named_by_heap heap.now)) }
 {
     let atoms = heap.spatial.as_slice();
@@ -157,11 +143,10 @@ fn note_heap(
 }
 
 fn note_posts(
-    structs: &[StructDef],
+    structs: &StructureIndex,
     posts: &[Post],
     numbers: &mut Vec<u32>,
 ) -> Result<(), AllocError>
-    requires { length structs.now < 4294967296 }
     ensures { OnOk result
         (numbers.new.items ≡ numbers.old.items ++ struct_numbers structs.now (flat_map (λ post. named_by_heap post.heap) posts.now)) }
 {
@@ -171,8 +156,11 @@ fn note_posts(
     Ok(())
 }
 
-fn note_spec(structs: &[StructDef], spec: &Spec, numbers: &mut Vec<u32>) -> Result<(), AllocError>
-    requires { length structs.now < 4294967296 }
+fn note_spec(
+    structs: &StructureIndex,
+    spec: &Spec,
+    numbers: &mut Vec<u32>,
+) -> Result<(), AllocError>
     ensures { OnOk result (numbers.new.items ≡ numbers.old.items ++ struct_numbers structs.now (named_by_spec spec.now)) }
 {
     note_heap(structs, &spec.pre, numbers)?;
@@ -180,11 +168,10 @@ fn note_spec(structs: &[StructDef], spec: &Spec, numbers: &mut Vec<u32>) -> Resu
 }
 
 fn note_callee(
-    structs: &[StructDef],
+    structs: &StructureIndex,
     callee: &Callee,
     numbers: &mut Vec<u32>,
 ) -> Result<(), AllocError>
-    requires { length structs.now < 4294967296 }
     ensures { OnOk result (numbers.new.items ≡ numbers.old.items ++ struct_numbers structs.now (named_by_callee callee.now)) }
 {
     let specs = callee.specs.as_slice();
@@ -195,11 +182,10 @@ fn note_callee(
 }
 
 fn note_flows(
-    structs: &[StructDef],
+    structs: &StructureIndex,
     flows: &[Flow],
     numbers: &mut Vec<u32>,
 ) -> Result<(), AllocError>
-    requires { length structs.now < 4294967296 }
     ensures { OnOk result (numbers.new.items ≡ numbers.old.items ++ struct_numbers structs.now (flat_map named_by_flow flows.now)) }
 {
     for flow in flows {
@@ -209,11 +195,10 @@ fn note_flows(
 }
 
 fn note_callees(
-    structs: &[StructDef],
+    structs: &StructureIndex,
     callees: &[Callee],
     numbers: &mut Vec<u32>,
 ) -> Result<(), AllocError>
-    requires { length structs.now < 4294967296 }
     ensures { OnOk result (numbers.new.items ≡ numbers.old.items ++ struct_numbers structs.now (flat_map named_by_callee callees.now)) }
 {
     for callee in callees {
@@ -225,11 +210,10 @@ fn note_callees(
 /// The places of the structures that the procedures or the callees' specs name.
 fn named(
     alloc: Global,
-    structs: &[StructDef],
+    structs: &StructureIndex,
     flows: &[Flow],
     callees: &[Callee],
 ) -> Result<Vec<u32>, AllocError>
-    requires { length structs.now < 4294967296 }
     ensures { IfOk result (λ numbers. numbers.items ≡ named_numbers structs.now flows.now callees.now) }
 {
     let mut numbers = Vec::new(alloc);
@@ -239,8 +223,7 @@ fn named(
 }
 
 /// The places of the structures that a structure's fields point to.
-fn pointed(alloc: Global, structs: &[StructDef], def: &StructDef) -> Result<Vec<u32>, AllocError>
-    requires { length structs.now < 4294967296 }
+fn pointed(alloc: Global, structs: &StructureIndex, def: &StructDef) -> Result<Vec<u32>, AllocError>
     ensures { IfOk result (λ numbers. numbers.items ≡ pointed_by structs.now def.now) }
 {
     let mut numbers = Vec::new(alloc);
@@ -252,12 +235,12 @@ fn pointed(alloc: Global, structs: &[StructDef], def: &StructDef) -> Result<Vec<
 }
 
 /// Whom the fields of each structure point to.
-fn pointed_of(alloc: Global, structs: &[StructDef]) -> Result<Vec<Vec<u32>>, AllocError>
-    requires { length structs.now < 4294967296 }
+fn pointed_of(alloc: Global, structs: &StructureIndex) -> Result<Vec<Vec<u32>>, AllocError>
     ensures { IfOk result (λ pointed. rows pointed.items ≡ pointed_rows structs.now) }
 {
-    let mut all = Vec::with_capacity(alloc, structs.len())?;
-    for def in structs {
+    let defs = structs.as_slice();
+    let mut all = Vec::with_capacity(alloc, defs.len())?;
+    for def in defs {
         all.push(pointed(alloc, structs, def)?)?;
     }
     Ok(all)
@@ -274,15 +257,19 @@ fn names_in(alloc: Global, structs: &[StructDef]) -> Result<Vec<Name>, AllocErro
     Ok(names)
 }
 
-/// The structures of a program by their places.
+/// The structures of a program by their places. It takes time in proportion to the structures and their fields, times a logarithm.
 pub fn structures_of(alloc: Global, structs: &[StructDef]) -> Result<Structures, AllocError>
     requires { length structs.now < 4294967296 }
     ensures { IfOk result (AreStructures structs.now) }
 {
     let names = names_in(alloc, structs)?;
+    let order = in_order(alloc, &names)?;
+    let index = StructureIndex::new(structs, &names, &order);
+    let pointed = pointed_of(alloc, &index)?;
     Ok(Structures {
-        pointed: pointed_of(alloc, structs)?,
-        order: in_order(alloc, &names)?,
+        pointed,
+        names,
+        order,
     })
 }
 
@@ -305,7 +292,8 @@ fn marked_structs(
     Ok(used)
 }
 
-/// The structures used by procedures with these callees, in order of their names.
+/// The structures used by procedures with these callees, in order of their names. It takes time in proportion to the structures and
+/// their fields, and to the names in the procedures and the specs, times a logarithm of the number of structures.
 pub fn used(
     alloc: Global,
     structs: &[StructDef],
@@ -317,7 +305,8 @@ pub fn used(
     requires table { AreStructures structs.now table.now }
     ensures { IfOk result (λ used. used ≡ structs_used structs.now flows.now callees.now) }
 {
-    let numbers = named(alloc, structs, flows, callees)?;
+    let index = StructureIndex::new(structs, &table.names, &table.order);
+    let numbers = named(alloc, &index, flows, callees)?;
     let marks = reach(alloc, &table.pointed, &numbers)?;
     marked_structs(alloc, structs, &table.order, &marks)
 }

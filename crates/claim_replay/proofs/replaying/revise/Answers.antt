@@ -1,12 +1,21 @@
-use Rattle.std.proofs.Common.{◌≡◌, ◌∙◌, List, map, filter, refl, sym, ap, subst}
+use Rattle.std.proofs.Common.{◌≡◌, ◌∙◌, List, length, map, filter, get_or, refl, sym, ap, subst}
+use Rattle.std.proofs.lemmas.Option.{slice_get-get_or}
 use Rattle.shape_data.specs.declared.program.Program.{Program}
 use Rattle.component_keys.specs.Keys.{flows_of, program_components}
 use Rattle.component_keys.specs.Tests.{program_test}
 use Rattle.composed_keys.specs.declared.rows.Component.{Component}
-use Rattle.composed_keys.specs.Rows.{component_value}
+use Rattle.composed_keys.specs.Rows.{component_value, AreWithin}
 use Rattle.claim_replay.specs.Values.{is_of_rows, slot_value}
 use Rattle.claim_replay.proofs.Happening.{revised}
 use Rattle.claim_replay.proofs.replaying.revise.Goals as goal
+
+pub present_slots-requires : goal.present_slots-requires
+present_slots-requires c = λ k d lt.
+    let within : AreWithin (length c.deref-6.result.now.procs) c.deref-7.result.now =
+    subst (λ l. AreWithin (length c.deref-6.result.now.procs) l) (sym c.deref-7.ensures.value)
+    (subst (λ (p : Program). AreWithin (length p.procs) c.in_ok-rows.rows.items) (c.deref-3.ensures ∙ sym c.deref-6.ensures)
+    c.in_ok-rows.ensures.within) in
+    (within k (get_or c.deref-7.result.now k d) (slice_get-get_or c.deref-7.result.now k d lt)).members
 
 pub returns-clause-world : goal.returns-clause-world
 returns-clause-world c =
