@@ -1,6 +1,6 @@
 -- The slots of names, as variables are declared and forgotten. The last one declared is the first of each list here.
 use Rattle.std.proofs.Common.{◌≡◌, ℕ, zero, suc, ◌≤◌, Bool, true, false, List, [], ◌∷◌, ◌++◌, length, map, take, reverse, Option}
-use Rattle.std.proofs.Common.{Some, None, if◌then◌else◌, unwrap_or, refl, sym, ap, ◌∙◌, is_some, arith}
+use Rattle.std.proofs.Common.{Some, if◌then◌else◌, unwrap_or, refl, sym, ap, ◌∙◌, is_some, arith}
 use Rattle.std.proofs.lemmas.List.{map-append, reverse-append}
 use Rattle.std.proofs.lemmas.Slice.Eq.{bytes_eq-Decides}
 use Rattle.std.specs.Str.{bytes_eq}

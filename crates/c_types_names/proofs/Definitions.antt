@@ -1,14 +1,11 @@
 -- The definitions among procedures, one by one.
-use Rattle.std.proofs.Common.{◌≡◌, ℕ, Bool, true, false, not, ◌&&◌, List, [], ◌∷◌, ◌++◌, map, option_map, Option, Some, if◌then◌else◌, refl}
-use Rattle.std.proofs.Common.{sym, ap, ◌∙◌}
+use Rattle.std.proofs.Common.{◌≡◌, ℕ, Bool, true, false, ◌&&◌, List, [], ◌∷◌, ◌++◌, map, option_map, Option, Some, if◌then◌else◌, refl}
 use Rattle.std.specs.Str.{bytes_eq}
 use Rattle.c_types_rules.specs.Tables.{Procedure, procedure_in}
 use Rattle.c_types_rules.specs.Items.{same_bool, definitions}
 use Rattle.c_types_names.specs.declared.declared.Procedure as declared
 use Rattle.c_types_names.specs.Seen.{procedure_seen}
-use Rattle.c_types_names.specs.declared.name_tables.FirstProcedures.{FirstProcedures}
 use Rattle.c_types_names.specs.FirstOfName.{or_first}
-use Rattle.c_types_names.specs.NameTables.{procedure_that}
 use Rattle.c_types_names.proofs.Noting.{one_more}
 
 by_tests : (defined : Bool) (first : Procedure) (others : List Procedure) (n : List ℕ)
@@ -22,24 +19,6 @@ pub definition_step : (wanted : Bool) (first : Procedure) (others : List Procedu
     ≡ (if same_bool first.defines wanted && bytes_eq first.head.declarator.name.text n then Some first
     else procedure_in (definitions wanted others) n)
 definition_step wanted first others n = by_tests (same_bool first.defines wanted) first (definitions wanted others) n
-
-same_true : (defined : Bool) → same_bool defined true ≡ defined
-same_true true = refl
-same_true false = refl
-
-same_false : (defined : Bool) → same_bool defined false ≡ not defined
-same_false true = refl
-same_false false = refl
-
--- what is kept of a name, with one more procedure of it
-pub that_more : (found : Option FirstProcedures) (one : declared.Procedure) (kept : FirstProcedures)
-    → kept.defined ≡ or_first (procedure_that true found) one.defines one
-    → kept.declared ≡ or_first (procedure_that false found) (not one.defines) one
-    → (wanted : Bool) → procedure_that wanted (Some kept) ≡ or_first (procedure_that wanted found) (same_bool one.defines wanted) one
-that_more found one kept defined declared true =
-    defined ∙ ap (λ b. or_first (procedure_that true found) b one) (sym (same_true one.defines))
-that_more found one kept defined declared false =
-    declared ∙ ap (λ b. or_first (procedure_that false found) b one) (sym (same_false one.defines))
 
 pub definition_more : (wanted : Bool) (n : List ℕ) (before after : Option declared.Procedure) (xs : List declared.Procedure)
     (x : declared.Procedure)

@@ -1,36 +1,12 @@
 -- The first thing of each name, after one more thing.
-use Rattle.std.proofs.Common.{◌≡◌, ℕ, Bool, true, false, ◌&&◌, is_some, List, [], ◌∷◌, ◌++◌, map, option_map, Option, Some, None, Result}
-use Rattle.std.proofs.Common.{Ok, OnOk, refl, sym, ap, subst, ◌∙◌, true≢false, if◌then◌else◌}
+use Rattle.std.proofs.Common.{◌≡◌, ℕ, Bool, true, false, ◌&&◌, List, [], ◌∷◌, ◌++◌, map, option_map, Option, Some, None, Result}
+use Rattle.std.proofs.Common.{Ok, OnOk, refl, sym, ap, subst, ◌∙◌, if◌then◌else◌}
 use Rattle.std.proofs.lemmas.Slice.Eq.{bytes_eq-Decides}
 use Rattle.std.specs.Str.{bytes_eq}
 use Rattle.c_types_names.specs.FirstOfName.{or_first, or_last}
 
 pub from_ok : {T E : Type 0} (r : Result T E) (v : T) (P : Type 0) → r ≡ Ok v → OnOk r P → P
 from_ok r v P e p = subst (λ s. OnOk s P) e p
-
-none_is : {X : Type 0} (o : Option X) → is_some o ≡ false → o ≡ None
-none_is None e = refl
-none_is (Some x) e = absurd (true≢false e)
-
-put : {X : Type 0} (o : Option X) (passes : Bool) (x : X) → (passes ≡ true → is_some o ≡ false)
-    → or_last o passes x ≡ or_first o passes x
-put None true x new = refl
-put None false x new = refl
-put (Some found) true x new = absurd (true≢false (new refl))
-put (Some found) false x new = refl
-
-stays : {X : Type 0} (o : Option X) (passes : Bool) (x : X) → (passes ≡ true → is_some o ≡ true) → o ≡ or_first o passes x
-stays None true x there = absurd (true≢false (sym (there refl)))
-stays None false x there = refl
-stays (Some found) passes x there = refl
-
-module _ {X : Type 0} (old : List ℕ → Option X) (name n : List ℕ) (x : X) where
-  pub put_first : is_some (old name) ≡ false → or_last (old n) (bytes_eq name n) x ≡ or_first (old n) (bytes_eq name n) x
-  put_first new = put (old n) (bytes_eq name n) x (λ same. ap (λ bs. is_some (old bs)) (sym ((bytes_eq-Decides name n).0 same)) ∙ new)
-
-  pub stays_first : is_some (old name) ≡ true → old n ≡ or_first (old n) (bytes_eq name n) x
-  stays_first there =
-      stays (old n) (bytes_eq name n) x (λ same. ap (λ bs. is_some (old bs)) (sym ((bytes_eq-Decides name n).0 same)) ∙ there)
 
 unwanted : {X : Type 0} (o : Option X) (wanted : Bool) (x : X) → o ≡ or_first o (wanted && false) x
 unwanted None true x = refl

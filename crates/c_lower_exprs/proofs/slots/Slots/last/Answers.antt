@@ -1,4 +1,4 @@
-use Rattle.std.proofs.Common.{unwrap_or, sym, ap, ◌∙◌}
+use Rattle.std.proofs.Common.{unwrap_or, ap, ◌∙◌}
 use Rattle.c_lower_rules.specs.Contexts.{slot_in}
 use Rattle.c_lower_exprs.specs.Seen.{stacked}
 use Rattle.c_lower_exprs.proofs.SlotsOfNames.{last_is}
