@@ -12,7 +12,7 @@ use Rattle.c_grammar.specs.Readers.{init_of, flat_by, read_test, read_stmts}
 use Rattle.c_tree.specs.Syntax.{BlockTree, expr_tree, simple_tree, for_step_tree, local_tree, init_tree}
 use Rattle.c_parse.specs.declared.locals.Clause.{Clause}
 use Rattle.c_parse.specs.declared.locals.Clause.TheVariants as clause
-use Rattle.c_parse.specs.declared.plain.ForHead.{ForHead}
+use Rattle.c_parse.specs.declared.flat_stmts.ForHead.{ForHead}
 
 abbrev pub clause_tree : Clause → readers.Clause
 clause_tree (clause.Local local) = readers.Clause.Declares (local_tree local)

@@ -7,7 +7,7 @@ ghost use Rattle.c_parse_exprs.specs.Reads.{Reads};
 ghost use Rattle.c_parse.specs.Clauses.{read_do_end};
 ghost use Rattle.c_parse.specs.Heads.{read_tested, tested_tree, branch_tree, iteration_by, iteration_tree, iteration_end, read_block_end};
 
-use crate::plain::{ForHead, read_do_test, read_for_head, read_test};
+use crate::flat_stmts::{ForHead, read_do_test, read_for_head, read_test};
 use c_parse_exprs::{Class, SyntaxFault, Words};
 use c_tree::{Block, Expr, Place, Stmt};
 use std::alloc::{AllocError, Global};

@@ -4,10 +4,10 @@
 #![tactic(auto)]
 
 mod file;
+mod flat_stmts;
 mod heads;
 mod items;
 mod locals;
-mod plain;
 mod simple;
 mod stmts;
 

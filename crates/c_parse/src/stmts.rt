@@ -7,9 +7,9 @@ ghost use Rattle.c_parse_exprs.specs.Reads.{Reads};
 ghost use Rattle.c_parse.specs.Clauses.{read_block};
 ghost use Rattle.c_parse.specs.Heads.{branch_tree, read_other, read_whole_if, read_iteration};
 
+use crate::flat_stmts::read_flat;
 use crate::heads::{Branch, as_stmt, read_block_end, read_iteration_head, read_tested};
 use crate::locals::begins_clause;
-use crate::plain::read_flat;
 use c_parse_exprs::{Class, SyntaxFault, Words};
 use c_tree::{Block, Stmt};
 use std::alloc::Global;

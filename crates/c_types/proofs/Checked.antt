@@ -7,7 +7,7 @@ use Rattle.c_types_rules.specs.Tables.{Tables}
 use Rattle.c_types_rules.specs.Programs.{tables_of, kinds_of, known, IsWellTyped, struct_def, first_structures}
 use Rattle.c_types_rules.specs.Laws.{HaveKnown}
 use Rattle.c_types.specs.Typing.{IsTyped}
-use Rattle.c_types.proofs.Known.{all_known}
+use Rattle.c_types.proofs.KnownKinds.{all_known}
 
 pub typed_is : (files : List File) (tables : Tables) (defs : List StructDef) → IsWellTyped files → tables ≡ tables_of files
     → defs ≡ map (struct_def tables) (first_structures [] tables.structures) → IsTyped files tables defs

@@ -15,7 +15,7 @@ use Rattle.c_types_stmts.specs.declared.finding.Finding.{Finding}
 use Rattle.c_types_stmts.specs.Adding.{Adds}
 use Rattle.c_types.specs.FirstRefusals.{first_with}
 use Rattle.c_types.proofs.FirstRefusals.{first_with-append, with_refusals-found}
-use Rattle.c_types.proofs.Joining.{joined-assoc, declared-append, items-append}
+use Rattle.c_types.proofs.JoinedTables.{joined-assoc, declared-append, items-append}
 
 abbrev begun : ℕ → Option At → FirstRefusal
 begun unit found = record { unit = unit; found = found }

@@ -4,9 +4,9 @@ pub mod FieldLines
 pub mod Files
 pub mod FirstRefusals
 pub mod FoundSome
-pub mod Joining
-pub mod Known
-pub mod Naming
-pub mod Params
+pub mod JoinedTables
+pub mod KnownKinds
+pub mod NamesInTurn
+pub mod ParamsInTurn
 pub mod RefusalsInTurn
 pub mod Sameness

@@ -89,7 +89,7 @@ impl<'a> Names<'a> {
     }
 
     /// The names of parameters that have one.
-    #[tactic(auto, using(crate::proofs::Naming::pushing))]
+    #[tactic(auto, using(crate::proofs::NamesInTurn::pushing))]
     fn push_more_params(&mut self, params: &'a [Param]) -> Result<(), AllocError>
         ensures { OnOk result (self.new ≡ self.old ++ param_names (map param_tree params.now)) }
     {
@@ -100,7 +100,7 @@ impl<'a> Names<'a> {
     }
 
     /// The names of a procedure's parameters that have one.
-    #[tactic(auto, using(crate::proofs::Naming::pushing))]
+    #[tactic(auto, using(crate::proofs::NamesInTurn::pushing))]
     pub fn push_params(&mut self, params: &'a Params) -> Result<(), AllocError>
         ensures { OnOk result (self.new ≡ self.old ++ param_names (listed (params_tree params.now))) }
     {
@@ -115,7 +115,7 @@ impl<'a> Names<'a> {
     }
 
     /// Refuses each name that stood before.
-    #[tactic(auto, using(crate::proofs::Naming::naming))]
+    #[tactic(auto, using(crate::proofs::NamesInTurn::naming))]
     pub fn refuse_second(&self, alloc: Global, first: &mut FirstRefusal) -> Result<(), AllocError>
         ensures { OnOk result (first.new ≡ with_refusals first.old (twice [] self.now)) }
     {
@@ -124,7 +124,7 @@ impl<'a> Names<'a> {
 }
 
 /// Refuses each name that stood before.
-#[tactic(auto, using(crate::proofs::Naming::naming))]
+#[tactic(auto, using(crate::proofs::NamesInTurn::naming))]
 fn refuse_second_of(
     alloc: Global,
     names: &[Named],

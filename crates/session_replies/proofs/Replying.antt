@@ -13,7 +13,7 @@ use Rattle.session_lines.specs.declared.command.Command.TheVariants as command
 use Rattle.project_form.specs.declared.fault.Refused.{Refused}
 use Rattle.project_form.specs.Files.{SourceFile, has_file, put_refusal, with_file, without_file}
 use Rattle.project_form.specs.Reads.{Reads}
-use Rattle.session_replies.specs.declared.found.Found.{Found}
+use Rattle.session_replies.specs.declared.project_read.Found.{Found}
 use Rattle.session_replies.specs.Answers.{Answers, GENERATED, Present, Setting, missing_by, text_of, unless_refused, with_drop, with_put}
 use Rattle.session_replies.specs.Parts.{answer_in}
 use Rattle.std.proofs.lemmas.Option.{get_or_from_slice_get}

@@ -7,8 +7,8 @@ use Rattle.shape_data.specs.declared.program.Program.{Program}
 use Rattle.shape_data.specs.Sizes.{HasProgramSizes}
 use Rattle.shape_data.specs.WellFormed.{IsProgram}
 use Rattle.project_form.specs.declared.fault.Refused.{Refused}
-use Rattle.session_replies.specs.declared.found.Found.{Found}
-use Rattle.session_replies.specs.declared.found.Found.TheVariants as found
+use Rattle.session_replies.specs.declared.project_read.Found.{Found}
+use Rattle.session_replies.specs.declared.project_read.Found.TheVariants as found
 
 -- what files are, by value
 abbrev pub answer_in : Found → Result Program Refused

@@ -3,9 +3,9 @@
 //! analysis of a whole program at a desk, and on the texts of reports.
 #![tactic(auto)]
 
-pub mod found;
 pub mod known;
 pub mod laws;
+pub mod project_read;
 pub mod reply;
 pub mod session;
 pub mod texts;

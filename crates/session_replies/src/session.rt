@@ -16,7 +16,7 @@ ghost use Rattle.summary_book.specs.declared.aims.Aim.TheVariants as aim;
 ghost use Rattle.project_form.specs.declared.fault.Refused.{Refused};
 ghost use Rattle.shape_data.specs.declared.program.Program.{Program};
 
-use crate::found::Found;
+use crate::project_read::Found;
 use crate::reply::Reply;
 use crate::texts::{
     block_text, drop_text, error_text, make_report, make_store, ok_text, refused_text, total_text,

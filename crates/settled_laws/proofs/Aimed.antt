@@ -23,7 +23,7 @@ use Rattle.summary_book.specs.Aims.{aimed}
 use Rattle.summary_book.specs.Next.{IsSettled, slots_by}
 use Rattle.summary_book.specs.Views.{slot_solution}
 use Rattle.summary_book.proofs.Components.{aims_are}
-use Rattle.summary_book.proofs.Here.{settled_of, settled_stands, standings_length, stands_at}
+use Rattle.summary_book.proofs.Standings.{settled_of, settled_stands, standings_length, stands_at}
 use Rattle.bottom_up.specs.BottomUp.{known_by}
 use Rattle.bottom_up.proofs.ListPlaces.{mapped_same, within_at}
 use Rattle.bottom_up.proofs.Over.{known_many}

@@ -25,7 +25,7 @@ use Rattle.summary_book.specs.declared.aims.Aim.{Aim}
 use Rattle.summary_book.specs.Aims.{aimed}
 use Rattle.summary_book.specs.Next.{IsSettled}
 use Rattle.summary_book.specs.Rows.{place_named}
-use Rattle.summary_book.proofs.Here.{own_place, settled_of, stands_at}
+use Rattle.summary_book.proofs.Standings.{own_place, settled_of, stands_at}
 use Rattle.bottom_up.proofs.ListPlaces.{within_at}
 use Rattle.settled_laws.specs.Laws.{SettledWerePublished}
 use Rattle.settled_laws.proofs.Aimed.{passing_at}

@@ -11,7 +11,7 @@ use Rattle.summary_book.specs.Aims.{aimed}
 use Rattle.summary_book.specs.Next.{IsSettled, slots_by}
 use Rattle.summary_book.specs.Views.{slot_solution}
 use Rattle.claim_core.specs.Views.{solution_of}
-use Rattle.summary_book.proofs.Here.{settled_of, standings_length, stands_at}
+use Rattle.summary_book.proofs.Standings.{settled_of, standings_length, stands_at}
 use Rattle.bottom_up.proofs.ListPlaces.{mapped_length, within_at}
 use Rattle.settled_laws.specs.Laws.{CollectedAreMany}
 use Rattle.settled_laws.proofs.Aimed.{passing_at}

@@ -16,7 +16,7 @@ use Rattle.claim_laws.proofs.Defined.{standings_as_defined}
 use Rattle.claim_laws.proofs.Still.{part_at}
 use Rattle.claim_core.specs.Views.{Solution}
 use Rattle.summary_book.specs.Views.{slot_solution}
-use Rattle.summary_book.proofs.Here.{settled_stands}
+use Rattle.summary_book.proofs.Standings.{settled_stands}
 use Rattle.bottom_up.specs.BottomUp.{answered, answers_in, callee_by, callee_from, key_after, known_by}
 use Rattle.bottom_up.proofs.Over.{known_is}
 

@@ -9,7 +9,7 @@ use Rattle.claim_laws.specs.Logs.{settled_at}
 use Rattle.summary_book.specs.declared.aims.Aim.TheVariants.{All}
 use Rattle.summary_book.specs.Aims.{aimed}
 use Rattle.summary_book.specs.Next.{IsSettled}
-use Rattle.summary_book.proofs.Here.{settled_of, stands_at}
+use Rattle.summary_book.proofs.Standings.{settled_of, stands_at}
 use Rattle.bottom_up.proofs.ListPlaces.{within_at}
 use Rattle.settled_laws.specs.Laws.{AreSettled, SettledIsAll}
 

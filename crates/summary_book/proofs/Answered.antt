@@ -29,10 +29,10 @@ use Rattle.summary_book.specs.Rows.{AreMarks, IsOutRow, place_named}
 use Rattle.summary_book.specs.Settled.{AreExact, IsExactAt, IsMarkedAnew}
 use Rattle.summary_book.specs.Views.{is_own}
 use Rattle.summary_book.proofs.Booked.{IsLonger, book_sight, kept_book, marked_book, stale_book}
-use Rattle.summary_book.proofs.Counts.{parts_count}
+use Rattle.summary_book.proofs.RowLengths.{parts_count}
 use Rattle.summary_book.proofs.Ends.{IsEnd, end_at, end_solved, kept_here, out_of_end}
 use Rattle.summary_book.proofs.Events.{may_publish_at, own_found, replay_told}
-use Rattle.summary_book.proofs.Here.{place_is}
+use Rattle.summary_book.proofs.Standings.{place_is}
 use Rattle.summary_book.proofs.Marking.{due_exact, due_place, due_settles, due_unsettled, unsettled_unmarked}
 
 module _ (solves : Key → Answer → Type 0) (log : Vec Told) (parts : Parts) (slots : Vec (Option SlotRow)) (marks : Vec Bool)

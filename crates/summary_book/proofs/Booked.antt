@@ -28,11 +28,11 @@ use Rattle.summary_book.specs.Moved.{IsMoved, with_slot}
 use Rattle.summary_book.specs.Places.{answer_in, key_in}
 use Rattle.summary_book.specs.Rows.{AreMarks, AreParts, AreSlots, IsOutRow, IsSight}
 use Rattle.summary_book.proofs.Components.{components_small}
-use Rattle.summary_book.proofs.Counted.{marked_few, marked_most}
-use Rattle.summary_book.proofs.Counts.{parts_count}
+use Rattle.summary_book.proofs.MarkedCount.{marked_few, marked_most}
+use Rattle.summary_book.proofs.RowLengths.{parts_count}
 use Rattle.summary_book.proofs.Events.{claimed_rows, given_rows, kept_rows, legal_told, made_few, may_give_back, may_publish_at}
 use Rattle.summary_book.proofs.Events.{revised_rows, revision_few, sight_of, stale_rows, told_events}
-use Rattle.summary_book.proofs.Here.{standings_length}
+use Rattle.summary_book.proofs.Standings.{standings_length}
 use Rattle.summary_book.proofs.Opening.{empty_program, first_rows}
 
 -- the log has grown by one

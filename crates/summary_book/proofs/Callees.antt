@@ -22,7 +22,7 @@ use Rattle.claim_laws.proofs.Still.{standings_known, part_at}
 use Rattle.claim_laws.proofs.Steps.{settled_slot}
 use Rattle.summary_book.specs.declared.rows.SlotRow.{SlotRow}
 use Rattle.summary_book.specs.Rows.{AreSlots, IsSlot, known_by, known_row, row_answer}
-use Rattle.summary_book.proofs.Here.{settled_stands}
+use Rattle.summary_book.proofs.Standings.{settled_stands}
 
 -- a settled component's row has its slot's answer
 pub row_of : (world : World) (log : List Told) (slots : List (Option SlotRow)) → AreSlots log world.slots world.program slots →

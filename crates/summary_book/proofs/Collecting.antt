@@ -20,7 +20,7 @@ use Rattle.summary_book.specs.Rows.{IsSight}
 use Rattle.summary_book.specs.Views.{slot_solution}
 use Rattle.claim_core.specs.Views.{solution_of}
 use Rattle.summary_book.proofs.Due.{part, settled_is, slot_at, stands, unsettled_empty}
-use Rattle.summary_book.proofs.Here.{settled_of}
+use Rattle.summary_book.proofs.Standings.{settled_of}
 use Rattle.component_keys.specs.Keys.{names_of}
 
 -- ---- lists

@@ -25,7 +25,7 @@ use Rattle.summary_book.specs.declared.rows.SlotRow.{SlotRow}
 use Rattle.summary_book.specs.Places.{key_at}
 use Rattle.summary_book.specs.Rows.{AreMarks, IsOutRow, IsSight, IsSlot, IsSlotAt, is_fit, is_fit_at, known_row, row_answer}
 use Rattle.summary_book.specs.Settled.{HasKnown, IsBlocked, IsExactAt}
-use Rattle.summary_book.proofs.Here.{StandsAt, stands_at, settled_of, some_settled, not_settled, own_place}
+use Rattle.summary_book.proofs.Standings.{StandsAt, stands_at, settled_of, some_settled, not_settled, own_place}
 use Rattle.summary_book.proofs.Callees.{given_all, given_none, somes_same, all_at_place, not_all, row_of, value_at}
 
 pub bool_cases : (b : Bool) → (b ≡ false → b ≡ true) → b ≡ true

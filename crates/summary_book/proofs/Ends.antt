@@ -24,7 +24,7 @@ use Rattle.summary_book.specs.Next.{IsFree}
 use Rattle.summary_book.specs.Rows.{AreOut, IsOutRow, place_named}
 use Rattle.summary_book.specs.Views.{is_claim, is_own}
 use Rattle.summary_book.proofs.Events.{not_both, own_claim, own_found}
-use Rattle.summary_book.proofs.Here.{named_none}
+use Rattle.summary_book.proofs.Standings.{named_none}
 use Rattle.summary_book.proofs.Lists.{rising_differ}
 
 -- the row of a claim and the claim

@@ -32,7 +32,7 @@ use Rattle.summary_book.specs.Book.{AreRows}
 use Rattle.summary_book.specs.Moved.{IsMoved, with_slot, with_slot_at}
 use Rattle.summary_book.specs.Places.{answer_at, answer_in, key_at, key_in}
 use Rattle.summary_book.specs.Rows.{AreMarks, AreOut, AreParts, AreSlots, IsOutRow, IsSight, IsSlot, IsSlotAt, is_fit, is_fit_at}
-use Rattle.summary_book.proofs.Here.{own_place, place_is}
+use Rattle.summary_book.proofs.Standings.{own_place, place_is}
 use Rattle.summary_book.proofs.Lists.{rising_differ, without_place, zipped_at_end, zipped_through, zipped_without}
 
 pub not_both : {A : Type 0} {b : Bool} → b ≡ true → b ≡ false → A

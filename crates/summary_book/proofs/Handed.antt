@@ -32,7 +32,7 @@ use Rattle.summary_book.specs.Rows.{IsSight}
 use Rattle.summary_book.specs.Views.{is_claim, is_own}
 use Rattle.summary_book.proofs.Booked.{book_storable}
 use Rattle.summary_book.proofs.Components.{aims_are}
-use Rattle.summary_book.proofs.Counts.{standings_count}
+use Rattle.summary_book.proofs.RowLengths.{standings_count}
 use Rattle.summary_book.proofs.Events.{replay_told}
 use Rattle.summary_book.proofs.Sizes.{due_sizes}
 

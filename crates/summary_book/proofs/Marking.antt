@@ -19,7 +19,7 @@ use Rattle.claim_laws.proofs.Still.{part_at, standings_known}
 use Rattle.claim_laws.proofs.Unsettled.{named_due}
 use Rattle.summary_book.specs.Rows.{AreMarks, place_named}
 use Rattle.summary_book.specs.Settled.{AreExact, IsExactAt}
-use Rattle.summary_book.proofs.Here.{own_place}
+use Rattle.summary_book.proofs.Standings.{own_place}
 
 -- ---- the component that is due a key
 

@@ -20,7 +20,7 @@ use Rattle.summary_book.specs.Moved.{outcome_by_row}
 use Rattle.summary_book.specs.Rows.{IsOutRow, IsSight, IsSlot, place_named}
 use Rattle.summary_book.specs.Settled.{due_in}
 use Rattle.summary_book.proofs.Due.{part, slot_is, stands}
-use Rattle.summary_book.proofs.Here.{named_at, named_none, settled_of}
+use Rattle.summary_book.proofs.Standings.{named_at, named_none, settled_of}
 
 -- a claim of a component that is not present
 pub outcome_gone : (log : List Told) (parts : Parts) (slots : List (Option SlotRow)) → IsSight log parts slots →

@@ -25,7 +25,7 @@ use Rattle.summary_book.specs.declared.rows.Parts.{Parts}
 use Rattle.summary_book.specs.declared.rows.SlotRow.{SlotRow}
 use Rattle.summary_book.specs.Places.{key_at}
 use Rattle.summary_book.specs.Rows.{AreSlots, IsComposed, IsSight, IsSlot, IsSlotAt, is_fit, is_fit_at, place_named}
-use Rattle.summary_book.proofs.Here.{no_place, own_place, place_is}
+use Rattle.summary_book.proofs.Standings.{no_place, own_place, place_is}
 use Rattle.summary_book.proofs.Present.{IsPresent, part_of, present_at, replayed_present}
 
 -- a key that fits is composed over the structures

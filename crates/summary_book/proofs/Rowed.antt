@@ -20,7 +20,7 @@ use Rattle.summary_book.specs.declared.rows.Parts.{Parts}
 use Rattle.summary_book.specs.Aims.{component_with, has_name}
 use Rattle.summary_book.specs.Rows.{AreParts, IsComposed, is_fit, place_named}
 use Rattle.summary_book.proofs.Components.{components_length, part_of_row}
-use Rattle.summary_book.proofs.Here.{own_place}
+use Rattle.summary_book.proofs.Standings.{own_place}
 use Rattle.summary_book.proofs.Lists.{position_at, position_none, zipped_at_end}
 
 pub zipped_more : {X Y : Type 0} (R : X → Y → Type 0) (xs : List X) (ys : List Y) (i : ℕ) (d : X) (y : Y) → i < length xs →

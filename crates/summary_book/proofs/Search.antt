@@ -21,7 +21,7 @@ use Rattle.summary_book.specs.Next.{IsFirstFree, IsFree, IsOutBy, IsSettled, IsW
 use Rattle.summary_book.specs.Rows.{AreMarks}
 use Rattle.summary_book.specs.Settled.{IsBlocked, IsExactAt}
 use Rattle.summary_book.proofs.Events.{not_both}
-use Rattle.summary_book.proofs.Here.{stands_at, settled_of}
+use Rattle.summary_book.proofs.Standings.{stands_at, settled_of}
 
 -- it is marked, or due nothing, or out
 abbrev pub IsSeen : World → List Bool → ℕ → Type 0

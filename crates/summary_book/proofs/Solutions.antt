@@ -17,7 +17,7 @@ use Rattle.claim_laws.proofs.Invariant.{all_at}
 use Rattle.claim_laws.proofs.Steps.{settled_slot}
 use Rattle.summary_book.specs.Next.{slots_by}
 use Rattle.summary_book.specs.Views.{slot_solution}
-use Rattle.summary_book.proofs.Here.{settled_stands}
+use Rattle.summary_book.proofs.Standings.{settled_stands}
 
 -- the slot of a settled component is one of the slots
 settled_one : (P : Slot → Type 0) (world : World) → All P world.slots → (place : ℕ) (slot : Slot) → settled_at world place ≡ Some slot →

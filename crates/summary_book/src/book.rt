@@ -19,11 +19,11 @@ ghost use Rattle.summary_book.specs.Views.{is_own, slot_solution};
 
 use crate::aims::Aim;
 use crate::answers::{Met, Next};
-use crate::finish::{is_kept, keep, mark, outcome};
 use crate::handing::{due_key, hand_out};
-use crate::held::{collected, holds, place_of};
 use crate::meeting::{out_in, slots_in};
+use crate::outstanding::{collected, holds, place_of};
 use crate::parts::{aimed_in, parts_of};
+use crate::publishing::{is_kept, keep, mark, outcome};
 use crate::rows::{OutRow, Parts, SlotRow};
 use crate::settled::count_set;
 use crate::turns::{Found, first_free};

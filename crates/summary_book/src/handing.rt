@@ -9,7 +9,7 @@ ghost use Rattle.claim_laws.specs.Logs.{replay};
 ghost use Rattle.shape_data.specs.declared.answer.Key.{Key};
 ghost use Rattle.summary_book.specs.Rows.{IsSight};
 
-use crate::known::known_callees;
+use crate::known_callees::known_callees;
 use crate::rows::{OutRow, Parts, SlotRow};
 use claim_core::{Claim, Event};
 use composed_keys::key_of;

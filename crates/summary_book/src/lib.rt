@@ -6,13 +6,13 @@
 pub mod aims;
 pub mod answers;
 pub mod book;
-mod finish;
 mod handing;
-mod held;
-mod known;
+mod known_callees;
 mod meeting;
+mod outstanding;
 mod parts;
 mod places;
+mod publishing;
 pub mod rows;
 mod settled;
 mod turns;

@@ -11,7 +11,7 @@ ghost use Rattle.summary_book.specs.Rows.{AreMarks, IsSight};
 ghost use Rattle.summary_book.specs.Places.{key_at};
 ghost use Rattle.summary_book.specs.Settled.{AreExact, HasKnown, IsExactAt, StayMarked};
 
-use crate::known::are_known;
+use crate::known_callees::are_known;
 use crate::places::{key_at, slot_at};
 use crate::rows::{Parts, SlotRow};
 use call_components::reach::is_marked;

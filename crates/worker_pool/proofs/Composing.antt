@@ -21,7 +21,7 @@ use Rattle.summary_book.specs.Aims.{aimed}
 use Rattle.summary_book.specs.Next.{IsSettled, slots_by}
 use Rattle.summary_book.specs.Views.{slot_solution}
 use Rattle.summary_book.proofs.Components.{aims_are}
-use Rattle.summary_book.proofs.Here.{settled_of, settled_stands, standings_length}
+use Rattle.summary_book.proofs.Standings.{settled_of, settled_stands, standings_length}
 use Rattle.worker_pool.specs.Composed.{AreComposed, EntriesAreComposed, IsComposed, answer_among, callee_among, callee_by}
 
 -- ---- lists

@@ -16,7 +16,7 @@ use Rattle.claim_laws.proofs.Still.{standings_apart, standings_known}
 use Rattle.summary_book.specs.Next.{slots_by}
 use Rattle.summary_book.specs.Views.{slot_solution}
 use Rattle.claim_core.specs.Views.{solution_of}
-use Rattle.summary_book.proofs.Here.{settled_stands}
+use Rattle.summary_book.proofs.Standings.{settled_stands}
 
 -- ---- lists
 

@@ -4,7 +4,7 @@ use Rattle.c_types_rules.specs.Tables.{joined, declared_by, items_of}
 use Rattle.c_tree.specs.declared.items.Item.{Item}
 use Rattle.c_tree.specs.declared.items.Unit.{Unit}
 use Rattle.c_tree.specs.Syntax.{item_tree, unit_tree}
-use Rattle.c_types.proofs.Joining.{joined-none}
+use Rattle.c_types.proofs.JoinedTables.{joined-none}
 use Rattle.c_types.proofs.Files.{tables_next}
 use Rattle.c_types.proofs.checker.declared.Goals as goal
 

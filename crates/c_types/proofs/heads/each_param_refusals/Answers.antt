@@ -5,7 +5,7 @@ use Rattle.c_tree.specs.declared.names.Param.{Param}
 use Rattle.c_tree.specs.declared.names.Params.{Params}
 use Rattle.c_tree.specs.Syntax.{param_tree, params_tree}
 use Rattle.c_types_names.proofs.FirstRefusals.{nothing, then, same}
-use Rattle.c_types.proofs.Naming.{lists_none}
+use Rattle.c_types.proofs.NamesInTurn.{lists_none}
 use Rattle.c_types.proofs.heads.each_param_refusals.Goals as goal
 
 pub returns-in-Empty : goal.returns-in-Empty

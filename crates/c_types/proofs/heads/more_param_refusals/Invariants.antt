@@ -4,7 +4,7 @@ use Rattle.c_types_rules.specs.Items.{each_param_refusals}
 use Rattle.c_tree.specs.Syntax.{param_tree}
 use Rattle.c_types_names.specs.FirstRefusal.{with_refusals}
 use Rattle.c_types.specs.Names.{Lists}
-use Rattle.c_types.proofs.Params.{HasLookedAt}
+use Rattle.c_types.proofs.ParamsInTurn.{HasLookedAt}
 use Rattle.c_types.proofs.heads.more_param_refusals.Given as goal
 
 abbrev pub invariant-loop-param : goal.invariant-loop-param

@@ -6,7 +6,7 @@ use Rattle.c_types_rules.specs.Programs.{items}
 use Rattle.c_tree.specs.declared.items.Item.{Item}
 use Rattle.c_tree.specs.Syntax.{item_tree}
 use Rattle.c_types_stmts.proofs.Adding.{begun, turned, passed, over, same}
-use Rattle.c_types.proofs.Joining.{joined-assoc, joined-none}
+use Rattle.c_types.proofs.JoinedTables.{joined-assoc, joined-none}
 use Rattle.c_types.proofs.items.items.Goals as goal
 
 pub loop-one-init : goal.loop-one-init

@@ -7,7 +7,7 @@ use Rattle.c_types_names.specs.FirstRefusal.{with_refusals}
 use Rattle.c_types_names.proofs.FirstRefusals.{turn, over}
 use Rattle.c_types.specs.declared.names.Named.{Named}
 use Rattle.c_types.specs.Names.{named_seen, names_before, Lists}
-use Rattle.c_types.proofs.Naming.{before-nil, before_more, lists_none, lists_more}
+use Rattle.c_types.proofs.NamesInTurn.{before-nil, before_more, lists_none, lists_more}
 use Rattle.c_types.proofs.names.refuse_second_of.Goals as goal
 
 pub loop-one-init : goal.loop-one-init

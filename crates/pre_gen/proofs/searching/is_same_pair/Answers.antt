@@ -1,6 +1,6 @@
 use Rattle.std.proofs.lemmas.Bool.Decides.{same_from_decides}
 use Rattle.candidate_laws.specs.Coming.{same_pair}
-use Rattle.pre_gen.proofs.Same.{same_pair-Decides}
+use Rattle.pre_gen.proofs.SamePairs.{same_pair-Decides}
 use Rattle.pre_gen.proofs.searching.is_same_pair.Goals as goal
 
 pub returns : goal.returns

@@ -5,7 +5,7 @@ use Rattle.call_components.specs.Reaching.{marked}
 use Rattle.claim_core.specs.Told.{events_of}
 use Rattle.claim_laws.specs.Logs.{replay, settled_at}
 use Rattle.summary_book.specs.Settled.{IsExactAt}
-use Rattle.summary_book.proofs.Counts.{within_marks}
+use Rattle.summary_book.proofs.RowLengths.{within_marks}
 use Rattle.summary_book.proofs.Events.{not_both}
 use Rattle.summary_book.proofs.Search.{marked_still}
 use Rattle.summary_book.proofs.Marks.{exact_below, exact_same, some_number}

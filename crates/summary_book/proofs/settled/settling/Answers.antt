@@ -12,8 +12,8 @@ use Rattle.summary_book.specs.Places.{key_at}
 use Rattle.summary_book.specs.Settled.{HasKnown}
 use Rattle.summary_book.proofs.Events.{not_both}
 use Rattle.component_keys.proofs.Basics.{not_true}
-use Rattle.summary_book.proofs.Here.{settled_of}
-use Rattle.summary_book.proofs.Looked.{not_false}
+use Rattle.summary_book.proofs.Standings.{settled_of}
+use Rattle.summary_book.proofs.OutstandingRows.{not_false}
 use Rattle.summary_book.proofs.settled.settling.Goals as goal
 
 pub returns-then-not-are_marked-clause-exact : goal.returns-then-not-are_marked-clause-exact

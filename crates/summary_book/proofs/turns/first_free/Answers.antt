@@ -5,7 +5,7 @@ use Rattle.claim_core.specs.Told.{events_of}
 use Rattle.claim_laws.specs.Logs.{replay}
 use Rattle.summary_book.specs.Found.{lesser}
 use Rattle.summary_book.specs.Settled.{IsExactAt}
-use Rattle.summary_book.proofs.Counts.{seen_end, seen_for, standings_count, within_marks}
+use Rattle.summary_book.proofs.RowLengths.{seen_end, seen_for, standings_count, within_marks}
 use Rattle.summary_book.proofs.Search.{all_marked, exact_at, free_first, marked_still, nothing_left, seen_blocked, seen_marked, seen_out}
 use Rattle.summary_book.proofs.Search.{seen_outside, seen_settled, waiting}
 use Rattle.summary_book.proofs.turns.first_free.Goals.{in-Settled, in-Blocked, in-Out}

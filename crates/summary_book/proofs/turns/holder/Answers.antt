@@ -5,7 +5,7 @@ use Rattle.component_keys.specs.Tests.{key_test}
 use Rattle.claim_core.specs.Told.{events_of}
 use Rattle.claim_laws.specs.Logs.{replay}
 use Rattle.claim_laws.specs.World.{Out}
-use Rattle.summary_book.proofs.Looked.{first_found, none_found, none_more}
+use Rattle.summary_book.proofs.OutstandingRows.{first_found, none_found, none_more}
 use Rattle.summary_book.proofs.turns.holder.Goals as goal
 
 pub returns-then-holds_due : goal.returns-then-holds_due

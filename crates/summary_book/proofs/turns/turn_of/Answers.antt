@@ -7,7 +7,7 @@ use Rattle.composed_keys.specs.declared.rows.Outer.{Outer as OuterRow}
 use Rattle.claim_core.specs.Told.{events_of}
 use Rattle.claim_laws.specs.Logs.{replay, settled_at}
 use Rattle.summary_book.proofs.Due.{all_settled, blocked}
-use Rattle.summary_book.proofs.Looked.{due_at, none_from, some_from, turn_free, turn_out}
+use Rattle.summary_book.proofs.OutstandingRows.{due_at, none_from, some_from, turn_free, turn_out}
 use Rattle.summary_book.proofs.turns.turn_of.Goals as goal
 
 pub returns-then-not-are_marked : goal.returns-then-not-are_marked

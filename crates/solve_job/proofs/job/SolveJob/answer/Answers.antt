@@ -5,7 +5,7 @@ use Rattle.std.proofs.lemmas.Result.{IfOk-weaker}
 use Rattle.shape_data.specs.WellFormed.{IsStorableAnswer}
 use Rattle.loaded_answers.specs.Lookup.{first_answer}
 use Rattle.solve_job.specs.Solves.{Solves}
-use Rattle.solve_job.proofs.Found.{stored_found}
+use Rattle.solve_job.proofs.AnswersFound.{stored_found}
 use Rattle.solve_job.proofs.job.SolveJob.answer.Goals as goal
 
 pub returns-in-Some-clause-solves : goal.returns-in-Some-clause-solves

@@ -17,10 +17,10 @@ use Rattle.summary_book.specs.Rows.{AreMarks}
 use Rattle.summary_book.specs.Views.{is_own}
 use Rattle.summary_book.proofs.Booked.{book_sight, claimed_book, made_small, marked_book}
 use Rattle.summary_book.proofs.Components.{components_small}
-use Rattle.summary_book.proofs.Counted.{aimed_few}
-use Rattle.summary_book.proofs.Counts.{standings_count}
+use Rattle.summary_book.proofs.MarkedCount.{aimed_few}
+use Rattle.summary_book.proofs.RowLengths.{standings_count}
 use Rattle.summary_book.proofs.Ends.{may_claim}
-use Rattle.summary_book.proofs.Here.{standings_length}
+use Rattle.summary_book.proofs.Standings.{standings_length}
 use Rattle.summary_book.proofs.Events.{told_events}
 use Rattle.summary_book.proofs.Handed.{aim_marks, aim_path, due_job, free_due, free_within, handed_own}
 use Rattle.summary_book.proofs.book.Book.next.Goals as goal

@@ -3,7 +3,7 @@ use Rattle.std.proofs.Common.{◌<◌, ◌∙◌, length, ap, sym, Some, arith}
 use Rattle.std.proofs.lemmas.Option.{slice_get-get_or}
 use Rattle.summary_book.specs.Rows.{known_row}
 use Rattle.summary_book.proofs.ProceduresByName.{at_both}
-use Rattle.summary_book.proofs.known.are_known.Goals as goal
+use Rattle.summary_book.proofs.known_callees.are_known.Goals as goal
 
 pub returns-then-not-is_known : goal.returns-then-not-is_known
 returns-then-not-is_known c = (

@@ -7,9 +7,9 @@ use Rattle.claim_laws.specs.Logs.{replay, settled_at}
 use Rattle.summary_book.specs.Views.{slot_solution}
 use Rattle.claim_core.specs.Views.{solution_of}
 use Rattle.summary_book.proofs.Collecting.{collected_more, filter_range_out, has_answer, has_key, kept_at, no_slot}
-use Rattle.summary_book.proofs.Counts.{standings_count}
+use Rattle.summary_book.proofs.RowLengths.{standings_count}
 use Rattle.summary_book.proofs.Rowed.{there_row}
-use Rattle.summary_book.proofs.held.collected.Goals as goal
+use Rattle.summary_book.proofs.outstanding.collected.Goals as goal
 
 pub unreachable-requires : goal.unreachable-requires
 unreachable-requires c =

@@ -5,7 +5,7 @@ use Rattle.claim_core.specs.Told.{events_of}
 use Rattle.claim_laws.specs.Logs.{replay, settled_at}
 use Rattle.summary_book.specs.Views.{slot_solution}
 use Rattle.claim_core.specs.Views.{solution_of}
-use Rattle.summary_book.proofs.held.collected.Given as goal
+use Rattle.summary_book.proofs.outstanding.collected.Given as goal
 
 abbrev pub invariant-loop-place : goal.invariant-loop-place
 invariant-loop-place l = map solution_of l.all.items

@@ -1,5 +1,5 @@
 use Rattle.c_parse.proofs.Cases.{flat_plain}
-use Rattle.c_parse.proofs.plain.read_flat.Goals as goal
+use Rattle.c_parse.proofs.flat_stmts.read_flat.Goals as goal
 
 pub returns-in_default-clause-value : goal.returns-in_default-clause-value
 returns-in_default-clause-value c =

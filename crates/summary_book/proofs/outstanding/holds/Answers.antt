@@ -2,8 +2,8 @@
 use Rattle.std.proofs.Common.{◌∙◌, sym, arith}
 use Rattle.std.proofs.lemmas.Option.{slice_get-get_or}
 use Rattle.summary_book.specs.Views.{is_claim}
-use Rattle.summary_book.proofs.Looked.{any_found, none_any_found, none_more}
-use Rattle.summary_book.proofs.held.holds.Goals as goal
+use Rattle.summary_book.proofs.OutstandingRows.{any_found, none_any_found, none_more}
+use Rattle.summary_book.proofs.outstanding.holds.Goals as goal
 
 pub returns-then-is_claim : goal.returns-then-is_claim
 returns-then-is_claim c = λ program claims are.

@@ -9,7 +9,7 @@ use Rattle.summary_book.specs.declared.rows.Parts.{Parts}
 use Rattle.summary_book.specs.declared.rows.SlotRow.{SlotRow}
 use Rattle.summary_book.specs.Rows.{AreMarks, IsSight}
 use Rattle.summary_book.proofs.Components.{components_length}
-use Rattle.summary_book.proofs.Here.{standings_length}
+use Rattle.summary_book.proofs.Standings.{standings_length}
 use Rattle.summary_book.proofs.Search.{AreSeen}
 
 module _ (log : List Told) (parts : Parts) (slots : List (Option SlotRow)) (sight : IsSight log parts slots) where

@@ -13,7 +13,7 @@ use Rattle.component_keys.proofs.Basics.{not_none}
 use Rattle.summary_book.proofs.Marks.{exact_below, exact_here}
 use Rattle.summary_book.proofs.Outcomes.{outcome_gone, outcome_otherwise, outcome_where_due, outcome_where_settled}
 use Rattle.summary_book.proofs.Rowed.{row_at, there_row}
-use Rattle.summary_book.proofs.finish.outcome.Goals as goal
+use Rattle.summary_book.proofs.publishing.outcome.Goals as goal
 
 pub returns-in_default-clause-outcome : goal.returns-in_default-clause-outcome
 returns-in_default-clause-outcome c = λ claim is.

@@ -6,9 +6,9 @@ use Rattle.composed_keys.specs.declared.rows.Outer.{Outer as OuterRow}
 use Rattle.claim_laws.specs.World.{is_due}
 use Rattle.summary_book.specs.Settled.{due_in}
 use Rattle.summary_book.proofs.Due.{all_settled, blocked}
-use Rattle.summary_book.proofs.Looked.{due_at, same_keys}
+use Rattle.summary_book.proofs.OutstandingRows.{due_at, same_keys}
 use Rattle.summary_book.proofs.Rowed.{row_at}
-use Rattle.summary_book.proofs.finish.is_due.Goals as goal
+use Rattle.summary_book.proofs.publishing.is_due.Goals as goal
 
 pub returns-then-not-are_marked : goal.returns-then-not-are_marked
 returns-then-not-are_marked c = λ claim is.

@@ -27,7 +27,7 @@ use Rattle.summary_book.specs.Rows.{AreOut, IsOutRow, IsSight}
 use Rattle.summary_book.specs.Views.{is_claim}
 use Rattle.summary_book.proofs.Due.{AreSettled, due_known, stands}
 use Rattle.summary_book.proofs.Events.{own_claim}
-use Rattle.summary_book.proofs.Here.{settled_of}
+use Rattle.summary_book.proofs.Standings.{settled_of}
 use Rattle.summary_book.proofs.Lists.{find_none, find_place, position_at}
 
 -- ---- row by row

@@ -2,8 +2,8 @@
 use Rattle.std.proofs.Common.{◌≡◌, ◌∙◌, sym, ap}
 use Rattle.std.specs.Option.{option_copied}
 use Rattle.component_keys.proofs.Basics.{some_same}
-use Rattle.summary_book.proofs.Looked.{claim_test}
-use Rattle.summary_book.proofs.held.is_claim.Goals as goal
+use Rattle.summary_book.proofs.OutstandingRows.{claim_test}
+use Rattle.summary_book.proofs.outstanding.is_claim.Goals as goal
 
 pub returns-in-Some : goal.returns-in-Some
 returns-in-Some c = λ program out is.

@@ -3,7 +3,7 @@ use Rattle.shape_data.specs.declared.program.Program.{Program}
 use Rattle.claim_laws.specs.World.{Out}
 use Rattle.summary_book.specs.Rows.{AreOut}
 use Rattle.summary_book.specs.Views.{is_claim}
-use Rattle.summary_book.proofs.held.holds.Given as goal
+use Rattle.summary_book.proofs.outstanding.holds.Given as goal
 
 abbrev pub invariant-loop-row : goal.invariant-loop-row
 invariant-loop-row l =

@@ -7,7 +7,7 @@ use Rattle.component_keys.specs.Keys.{flows_of}
 use Rattle.component_keys.specs.Tests.{flows_test}
 use Rattle.component_keys.proofs.Basics.{some_same}
 use Rattle.component_keys.proofs.Whole.{same_answers}
-use Rattle.summary_book.proofs.finish.has_flows.Goals as goal
+use Rattle.summary_book.proofs.publishing.has_flows.Goals as goal
 
 pub returns-in-Some : goal.returns-in-Some
 returns-in-Some c = λ key e.
