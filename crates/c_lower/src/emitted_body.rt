@@ -7,7 +7,8 @@ ghost use Rattle.c_lower.specs.Closing.{IsFinished};
 
 use crate::body::Body;
 use c_lower_emit::drafts::nodes;
-use c_lower_emit::output::{Output, Parts, Temp};
+use c_lower_emit::output::{Output, Parts};
+use c_lower_emit::temps::Temp;
 use c_types_names::kinds::CType;
 use std::alloc::{AllocError, Global};
 

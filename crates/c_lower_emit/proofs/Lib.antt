@@ -1,4 +1,4 @@
-mod Temps
+mod TakenTemps
 mod Inserting
 mod Listing
 pub mod Leading

@@ -3,7 +3,7 @@ use Rattle.c_lower_rules.specs.Code as code
 use Rattle.c_lower_rules.specs.Temporaries as temporaries
 use Rattle.c_types_names.specs.Seen.{type_seen}
 use Rattle.c_lower_emit.specs.declared.loops.Loop.{Loop}
-use Rattle.c_lower_emit.specs.declared.output.Temp.{Temp}
+use Rattle.c_lower_emit.specs.declared.temps.Temp.{Temp}
 
 -- a temporary
 abbrev pub temp_seen : Temp → temporaries.Temp

@@ -6,4 +6,5 @@ pub mod draft_list;
 pub mod drafts;
 pub mod loops;
 pub mod output;
+pub mod temps;
 pub mod uses;

@@ -1,6 +1,6 @@
 //! What was emitted so far.
-ghost use Rattle.std.specs.Prelude.{◌≡◌, ◌<◌, ◌≤◌, [], OnOk, IfOk, length, map, take};
-ghost use Rattle.c_lower_rules.specs.Temporaries.{is_free, take_temp, released};
+ghost use Rattle.std.specs.Prelude.{◌≡◌, ◌<◌, ◌≤◌, [], OnOk, IfOk, length, map};
+ghost use Rattle.c_lower_rules.specs.Temporaries.{take_temp, released};
 ghost use Rattle.c_types_names.specs.Seen.{type_seen};
 ghost use Rattle.c_lower_emit.specs.Seen.{loop_seen, temp_seen};
 ghost use Rattle.c_lower_emit.specs.Emitting.{led_out, with_draft, with_loop};
@@ -9,23 +9,17 @@ ghost use Rattle.c_lower_emit.specs.Drafts.{next_at};
 use crate::draft_list::DraftList;
 use crate::drafts::{AS_THEY_ARE, Draft, Label, Ways};
 use crate::loops::Loop;
-use c_types_names::kinds::{CType, may_agree};
+use crate::temps::{Temp, Temps};
+use c_types_names::kinds::CType;
 use shape_data::program::Cmd;
 use std::alloc::{AllocError, Global};
 use std::marker::Model;
-
-/// A temporary: its type, and whether the statement or condition at hand has used it.
-#[derive(Clone, Copy)]
-pub struct Temp<'a> {
-    pub kind: CType<'a>,
-    pub used: bool,
-}
 
 /// Nodes, temporaries and loops.
 #[derive(Drop)]
 pub struct Output<'a> {
     nodes: DraftList,
-    temps: Vec<Temp<'a>>,
+    temps: Temps<'a>,
     loops: Vec<Loop>,
 }
 
@@ -40,57 +34,11 @@ pub struct Parts<'a> {
 impl<'a> Model for Output<'a> {
     ghost use Rattle.std.specs.Prelude.{map};
     ghost use Rattle.c_lower_emit.specs.Emitting.{Out};
-    ghost use Rattle.c_lower_emit.specs.Seen.{temp_seen};
     ghost use Rattle.c_lower_emit.specs.Seen.{loop_seen};
 
     ghost Value = { Out };
 
-    ghost view = { λ o. record { nodes = o.nodes; temps = map temp_seen o.temps.items; loops = map loop_seen o.loops.items } };
-}
-
-/// Whether the temporary is of the type, and not used.
-fn is_free(kind: CType, temp: Temp) -> bool
-    ensures { result ≡ is_free (type_seen kind.entry) (temp_seen temp.entry) }
-{
-    // (types are compared by their names, so what is used is passed over first)
-    !temp.used && may_agree(Some(temp.kind), Some(kind))
-}
-
-/// The place of the first temporary of the type that is not used, or else behind all.
-fn place_of_free(temps: &[Temp], kind: CType) -> usize
-    ensures within { result ≤ length temps.now }
-    ensures place { result ≡ (take_temp (type_seen kind.entry) (map temp_seen temps.now)).place }
-{
-    for (place, temp) in temps.iter().enumerate() {
-        if is_free(kind, *temp) {
-            return place;
-        }
-    }
-    temps.len()
-}
-
-/// Takes the first temporary of the type that is not used, or else a new one, and gives its place.
-fn take_one<'a>(temps: &mut Vec<Temp<'a>>, kind: CType<'a>) -> Result<usize, AllocError>
-    ensures temps { OnOk result (map temp_seen temps.new.items ≡ (take_temp (type_seen kind.entry) (map temp_seen temps.old.items)).temps) }
-    ensures place { IfOk result (λ place. place ≡ (take_temp (type_seen kind.entry) (map temp_seen temps.old.items)).place) }
-    ensures within { IfOk result (λ place. place ≤ length temps.old.items) }
-{
-    let place = place_of_free(temps.as_slice(), kind);
-    if place < temps.len() {
-        temps[place].used = true;
-    } else {
-        temps.push(Temp { kind, used: true })?;
-    }
-    Ok(place)
-}
-
-/// Releases all temporaries.
-fn release_all(temps: &mut Vec<Temp>)
-    ensures { map temp_seen temps.new.items ≡ released (map temp_seen temps.old.items) }
-{
-    for place in 0..temps.len() {
-        temps[place].used = false;
-    }
+    ghost view = { λ o. record { nodes = o.nodes; temps = o.temps; loops = map loop_seen o.loops.items } };
 }
 
 impl<'a> Output<'a> {
@@ -100,7 +48,7 @@ impl<'a> Output<'a> {
     {
         Output {
             nodes: DraftList::new(alloc),
-            temps: Vec::new(alloc),
+            temps: Temps::new(alloc),
             loops: Vec::new(alloc),
         }
     }
@@ -115,7 +63,7 @@ impl<'a> Output<'a> {
     {
         Parts {
             nodes: self.nodes.into_vec(),
-            temps: self.temps,
+            temps: self.temps.into_vec(),
             loops: self.loops,
         }
     }
@@ -199,7 +147,7 @@ impl<'a> Output<'a> {
         ensures place { IfOk result (λ place. length self.old.temps < 4294967296
             → place ≡ (take_temp (type_seen kind.entry) self.old.temps).place) }
     {
-        let place = take_one(&mut self.temps, kind)?;
+        let place = self.temps.take(kind)?;
         Ok(u32::try_from(place).unwrap_or(u32::MAX))
     }
 
@@ -207,6 +155,6 @@ impl<'a> Output<'a> {
     pub fn release(&mut self)
         ensures { self.new ≡ record self.old { temps = released self.old.temps } }
     {
-        release_all(&mut self.temps);
+        self.temps.release();
     }
 }

@@ -1,8 +1,8 @@
 use Rattle.std.proofs.Common.{ap, map, ◌∙◌, rules}
 use Rattle.std.proofs.lemmas.List.Edits.{map_over_more}
 use Rattle.c_lower_emit.specs.Seen.{temp_seen}
-use Rattle.c_lower_emit.proofs.Temps.{unused, released_seen, all_written}
-use Rattle.c_lower_emit.proofs.output.release_all.Goals as goal
+use Rattle.c_lower_emit.proofs.TakenTemps.{unused, released_seen, all_written}
+use Rattle.c_lower_emit.proofs.temps.release_all.Goals as goal
 
 pub loop-place-preserved : goal.loop-place-preserved
 loop-place-preserved c =

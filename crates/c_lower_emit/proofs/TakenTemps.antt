@@ -1,10 +1,13 @@
 -- Temporaries as they are kept, and as they are seen.
-use Rattle.std.proofs.Common.{◌≡◌, ℕ, zero, suc, ◌<◌, ◌≤◌, Bool, true, false, cond, List, [], ◌∷◌, ◌++◌, map, length, take, drop, set}
-use Rattle.std.proofs.Common.{get_or, refl, ap, ◌∙◌, subst, arith}
+use Rattle.std.proofs.Common.{◌≡◌, ℕ, zero, suc, ◌+◌, ◌<◌, ◌≤◌, Bool, true, false, cond, List, [], ◌∷◌, ◌++◌, map, length, take, drop, set}
+use Rattle.std.proofs.Common.{get_or, not, ◌&&◌, refl, sym, ap, ◌∙◌, subst, arith}
+use Rattle.std.proofs.lemmas.List.Elements.{All-nil, All-cons, All-head, All-tail}
 use Rattle.shape_data.specs.declared.program.Ty.{Ty}
 use Rattle.c_lower_rules.specs.Temporaries.{Taken, is_free, behind_temp, take_temp, released}
-use Rattle.c_lower_emit.specs.declared.output.Temp.{Temp}
+use Rattle.c_lower_emit.specs.declared.temps.Temp.{Temp}
 use Rattle.c_lower_emit.specs.Seen.{temp_seen}
+use Rattle.c_lower_emit.specs.UsedTemps.{AreUsed}
+use Rattle.c_types_rules.specs.Types.{same_type}
 
 abbrev pub unused : Temp → Temp
 unused temp = record temp { used = false }
@@ -77,3 +80,64 @@ pub new_at : (temp : Temp) → temp.used ≡ true → (temps : List Temp) (place
     → place ≡ (take_temp (temp_seen temp).kind (map temp_seen temps)).place → length temps ≤ place
     → map temp_seen (temps ++ temp ∷ []) ≡ (take_temp (temp_seen temp).kind (map temp_seen temps)).temps
 new_at temp used temps place is le = taken_new temp used temps (subst (λ n. length temps ≤ n) is le)
+
+-- TEMPORARIES THAT ARE USED ARE PASSED OVER
+
+abbrev Used : Temp → Type 0
+Used temp = temp.used ≡ true
+
+and_not_used : (b u : Bool) → u ≡ true → (b && not u) ≡ false
+and_not_used true u = λ is. ap not is
+and_not_used false u = λ is. refl
+
+-- the first of those behind the used ones is taken
+passed_over : (kind : Ty) (n : ℕ) (temps : List Temp) → n ≤ length temps → AreUsed (take n temps)
+    → (take_temp kind (map temp_seen temps)).place ≡ n + (take_temp kind (map temp_seen (drop n temps))).place
+passed_over kind zero temps le all = omega arith
+passed_over kind (suc n) [] le all = absurd (omega (arith, le))
+passed_over kind (suc n) (first ∷ others) le all =
+    let used : is_free kind (temp_seen first) ≡ false =
+    and_not_used (same_type (temp_seen first).kind kind) first.used (All-head Used first (take n others) all) in
+    let again = passed_over kind n others (omega (arith, le)) (All-tail Used first (take n others) all) in
+    ap (λ b. (found kind first others b).place) used ∙ omega (arith, again)
+
+pub place_behind : (kind : Ty) (n : ℕ) (temps rest : List Temp) (place : ℕ) → n ≤ length temps → AreUsed (take n temps)
+    → rest ≡ drop n temps → place ≡ (take_temp kind (map temp_seen rest)).place
+    → n + place ≡ (take_temp kind (map temp_seen temps)).place
+place_behind kind n temps rest place le all is at =
+    ap (λ k. n + k) (at ∙ ap (λ ts. (take_temp kind (map temp_seen ts)).place) is) ∙ sym (passed_over kind n temps le all)
+
+-- one more is used, there or behind all
+pub used_set : (n place : ℕ) (temps : List Temp) (temp : Temp) → temp.used ≡ true → AreUsed (take n temps)
+    → AreUsed (take n (set temps place temp))
+used_set zero place temps temp used all = All-nil Used
+used_set (suc n) place [] temp used all = all
+used_set (suc n) zero (first ∷ others) temp used all = All-cons Used temp (take n others) used (All-tail Used first (take n others) all)
+used_set (suc n) (suc place) (first ∷ others) temp used all =
+    All-cons Used first (take n (set others place temp)) (All-head Used first (take n others) all)
+    (used_set n place others temp used (All-tail Used first (take n others) all))
+
+pub used_set_more : (n : ℕ) (temps : List Temp) (temp : Temp) → temp.used ≡ true → n < length temps → AreUsed (take n temps)
+    → AreUsed (take (suc n) (set temps n temp))
+used_set_more n [] temp used lt all = absurd (omega (arith, lt))
+used_set_more zero (first ∷ others) temp used lt all = All-cons Used temp [] used (All-nil Used)
+used_set_more (suc n) (first ∷ others) temp used lt all =
+    All-cons Used first (take (suc n) (set others n temp)) (All-head Used first (take n others) all)
+    (used_set_more n others temp used (omega (arith, lt)) (All-tail Used first (take n others) all))
+
+pub used_pushed : (n : ℕ) (temps : List Temp) (temp : Temp) → n ≤ length temps → AreUsed (take n temps)
+    → AreUsed (take n (temps ++ temp ∷ []))
+used_pushed zero temps temp le all = All-nil Used
+used_pushed (suc n) [] temp le all = absurd (omega (arith, le))
+used_pushed (suc n) (first ∷ others) temp le all =
+    All-cons Used first (take n (others ++ temp ∷ [])) (All-head Used first (take n others) all)
+    (used_pushed n others temp (omega (arith, le)) (All-tail Used first (take n others) all))
+
+pub used_pushed_more : (n : ℕ) (temps : List Temp) (temp : Temp) → temp.used ≡ true → n ≡ length temps → AreUsed (take n temps)
+    → AreUsed (take (suc n) (temps ++ temp ∷ []))
+used_pushed_more zero [] temp used at all = All-cons Used temp [] used (All-nil Used)
+used_pushed_more zero (first ∷ others) temp used at all = absurd (omega (arith, at))
+used_pushed_more (suc n) [] temp used at all = absurd (omega (arith, at))
+used_pushed_more (suc n) (first ∷ others) temp used at all =
+    All-cons Used first (take (suc n) (others ++ temp ∷ [])) (All-head Used first (take n others) all)
+    (used_pushed_more n others temp used (omega (arith, at)) (All-tail Used first (take n others) all))

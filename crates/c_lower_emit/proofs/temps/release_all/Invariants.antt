@@ -1,6 +1,6 @@
 use Rattle.std.proofs.Common.{◌≡◌, ◌++◌, map, take, drop}
-use Rattle.c_lower_emit.proofs.Temps.{unused}
-use Rattle.c_lower_emit.proofs.output.release_all.Given as goal
+use Rattle.c_lower_emit.proofs.TakenTemps.{unused}
+use Rattle.c_lower_emit.proofs.temps.release_all.Given as goal
 
 abbrev pub invariant-loop-place : goal.invariant-loop-place
 invariant-loop-place l = l.temps.items ≡ map unused (take l.place l.initial.temps.items) ++ drop l.place l.initial.temps.items
