@@ -1,6 +1,7 @@
 mod TakenTemps
 mod Inserting
 mod Listing
+mod Stretches
 pub mod Leading
 pub mod Joining
 pub mod Using

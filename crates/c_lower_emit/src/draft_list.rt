@@ -1,31 +1,99 @@
 //! Drafts in a row. Most have no exit left that is open, and a redirection passes over these: the places of the others are kept beside
-//! the drafts.
-ghost use Rattle.std.specs.Prelude.{◌≡◌, ◌<◌, ◌≤◌, ◌++◌, ◌∷◌, [], List, length, take, drop, filter, slice_range, All, OnOk, OnErr};
+//! the drafts. Of tests that are joined by `&&`, each keeps the exit open where it fails, long after the one where it holds leads to the
+//! test behind it: so a stretch of drafts is known that have no exit of the one kind, and one of drafts that have none of the other.
+ghost use Rattle.std.specs.Prelude.{
+  ◌≡◌,
+  ℕ,
+  ◌<◌,
+  ◌≤◌,
+  ◌++◌,
+  ◌∷◌,
+  [],
+  Bool,
+  List,
+  length,
+  take,
+  drop,
+  filter,
+  slice_range,
+  All,
+  OnOk,
+  OnErr,
+};
 ghost use Rattle.c_lower_emit.specs.declared.drafts.Draft.{Draft};
-ghost use Rattle.c_lower_emit.specs.Drafts.{led_between};
-ghost use Rattle.c_lower_emit.specs.OpenPlaces.{open_places, is_open_at, led_at_each};
+ghost use Rattle.c_lower_emit.specs.declared.drafts.Label.{Label};
+ghost use Rattle.c_lower_emit.specs.declared.drafts.Label.TheVariants.{At};
+ghost use Rattle.c_lower_emit.specs.Drafts.{as_they_are, led_between};
+ghost use Rattle.c_lower_emit.specs.OpenPlaces.{open_places, is_open_at, led_at_each, Lacks, LeadsAway};
 
-use crate::drafts::{Draft, Ways};
+use crate::drafts::{AS_THEY_ARE, Draft, Label, Ways};
 use std::alloc::{AllocError, Global};
 use std::marker::Model;
 
-/// Drafts, and the places of those that have an exit that is still open, in rising order.
+/// The drafts from one place to another, which is not among them.
+#[derive(Clone, Copy)]
+struct Stretch {
+    from: usize,
+    past: usize,
+}
+
+/// Drafts, and the places of those that have an exit that is still open, in rising order; some that have no exit `Holds`, and some that
+/// have no exit `Fails`.
 #[derive(Drop)]
 pub struct DraftList {
     drafts: Vec<Draft>,
     open_at: Vec<usize>,
+    without_holds: Stretch,
+    without_fails: Stretch,
 }
 
 impl Model for DraftList {
     ghost use Rattle.std.specs.Prelude.{◌≡◌, List};
     ghost use Rattle.c_lower_emit.specs.declared.drafts.Draft.{Draft};
-    ghost use Rattle.c_lower_emit.specs.OpenPlaces.{open_places};
+    ghost use Rattle.c_lower_emit.specs.OpenPlaces.{open_places, is_holds, is_fails, Lacks};
 
     ghost Value = { List Draft };
 
     ghost view = { λ l. l.drafts.items };
 
-    ghost invariant = { λ l. l.open_at.items ≡ open_places 0 l.drafts.items };
+    ghost invariant = { λ l. (l.open_at.items ≡ open_places 0 l.drafts.items)
+        × Lacks is_holds l.without_holds.from l.without_holds.past l.drafts.items
+        × Lacks is_fails l.without_fails.from l.without_fails.past l.drafts.items };
+}
+
+/// No drafts.
+const NONE: Stretch = Stretch { from: 0, past: 0 };
+
+impl Stretch {
+    /// Those before the place.
+    fn before(self, place: usize) -> Stretch
+        ensures from { result.from ≡ self.from }
+        ensures within { result.past ≤ self.past }
+        ensures before { result.past ≤ place }
+    {
+        Stretch {
+            past: self.past.min(place),
+            ..self
+        }
+    }
+
+    /// The stretch, where it goes on up to the place at least; else none of the drafts, at that place.
+    fn up_to(self, place: usize) -> Stretch
+        ensures from { result.from ≤ place }
+        ensures past { place ≤ result.past }
+        ensures within { (size : ℕ) → self.past ≤ size → place ≤ size → result.past ≤ size }
+        ensures lacks { (exit : Label → Bool) → (drafts : List Draft) → place ≤ length drafts → Lacks exit self.from self.past drafts
+            → Lacks exit result.from result.past drafts }
+    {
+        if self.from <= place && place <= self.past {
+            self
+        } else {
+            Stretch {
+                from: place,
+                past: place,
+            }
+        }
+    }
 }
 
 /// How many of the drafts before the place have an exit that is still open. It takes one step for each of the others that has one.
@@ -90,6 +158,50 @@ fn redirect_open(
     places.truncate(first + kept);
 }
 
+/// Replaces each exit of the drafts from one place to another. `open_at` has the places of those with an open exit, before the call
+/// and after it. Its cost is the number of these from the first place on.
+fn redirect_between(
+    drafts: &mut Vec<Draft>,
+    open_at: &mut Vec<usize>,
+    from: usize,
+    past: usize,
+    ways: Ways,
+)
+    requires order { from ≤ past }
+    requires within { past ≤ length drafts.old.items }
+    requires listed { open_at.old.items ≡ open_places 0 drafts.old.items }
+    ensures drafts { drafts.new.items ≡ led_between from past ways drafts.old.items }
+    ensures listed { open_at.new.items ≡ open_places 0 drafts.new.items }
+{
+    let first = open_before(open_at, from);
+    let behind = open_before(open_at, past);
+    redirect_open(drafts, open_at, first, behind, ways);
+}
+
+/// Leads an exit of all drafts from a place on elsewhere, and gives a stretch of drafts that lack it then. Those of `without` lack it
+/// already: where they go on up to the place, only the drafts behind them are looked at.
+fn lead_rest(
+    drafts: &mut Vec<Draft>,
+    open_at: &mut Vec<usize>,
+    without: Stretch,
+    from: usize,
+    ways: Ways,
+) -> Stretch
+    requires from { from ≤ length drafts.old.items }
+    requires within { without.past ≤ length drafts.old.items }
+    requires listed { open_at.old.items ≡ open_places 0 drafts.old.items }
+    ensures drafts { (exit : Label → Bool) → LeadsAway exit ways → Lacks exit without.from without.past drafts.old.items
+        → drafts.new.items ≡ led_between from (length drafts.old.items) ways drafts.old.items }
+    ensures listed { open_at.new.items ≡ open_places 0 drafts.new.items }
+    ensures without { (exit : Label → Bool) → LeadsAway exit ways → Lacks exit without.from without.past drafts.old.items
+        → Lacks exit result.from result.past drafts.new.items }
+{
+    let past = drafts.len();
+    let known = without.up_to(from);
+    redirect_between(drafts, open_at, known.past, past, ways);
+    Stretch { past, ..known }
+}
+
 impl DraftList {
     /// No drafts.
     pub fn new(alloc: Global) -> DraftList
@@ -98,6 +210,8 @@ impl DraftList {
         DraftList {
             drafts: Vec::new(alloc),
             open_at: Vec::new(alloc),
+            without_holds: NONE,
+            without_fails: NONE,
         }
     }
 
@@ -137,8 +251,47 @@ impl DraftList {
     {
         let past = past.min(self.drafts.len());
         let from = from.min(past);
-        let first = open_before(&self.open_at, from);
-        let behind = open_before(&self.open_at, past);
-        redirect_open(&mut self.drafts, &mut self.open_at, first, behind, ways);
+        redirect_between(&mut self.drafts, &mut self.open_at, from, past, ways);
+        self.without_holds = self.without_holds.before(from);
+        self.without_fails = self.without_fails.before(from);
+    }
+
+    /// Leads the tests from a place on to the other place where they hold. Its cost is the number of drafts with an open exit from that
+    /// place on. Where the last such call began there, too, only those count from the first one on that was added or redirected since.
+    pub fn lead_holds(&mut self, from: usize, to: u32)
+        ensures { from ≤ length self.old
+            → self.new ≡ led_between from (length self.old) (record as_they_are { holds = At to }) self.old }
+    {
+        let ways = Ways {
+            holds: Label::At(to),
+            ..AS_THEY_ARE
+        };
+        let from = from.min(self.drafts.len());
+        self.without_holds = lead_rest(
+            &mut self.drafts,
+            &mut self.open_at,
+            self.without_holds,
+            from,
+            ways,
+        );
+    }
+
+    /// The same, where they don't hold.
+    pub fn lead_fails(&mut self, from: usize, to: u32)
+        ensures { from ≤ length self.old
+            → self.new ≡ led_between from (length self.old) (record as_they_are { fails = At to }) self.old }
+    {
+        let ways = Ways {
+            fails: Label::At(to),
+            ..AS_THEY_ARE
+        };
+        let from = from.min(self.drafts.len());
+        self.without_fails = lead_rest(
+            &mut self.drafts,
+            &mut self.open_at,
+            self.without_fails,
+            from,
+            ways,
+        );
     }
 }

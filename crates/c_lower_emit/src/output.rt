@@ -4,7 +4,8 @@ ghost use Rattle.c_lower_rules.specs.Temporaries.{take_temp, released};
 ghost use Rattle.c_types_names.specs.Seen.{type_seen};
 ghost use Rattle.c_lower_emit.specs.Seen.{loop_seen, temp_seen};
 ghost use Rattle.c_lower_emit.specs.Emitting.{led_out, with_draft, with_loop};
-ghost use Rattle.c_lower_emit.specs.Drafts.{next_at};
+ghost use Rattle.c_lower_emit.specs.Drafts.{as_they_are, next_at};
+ghost use Rattle.c_lower_emit.specs.declared.drafts.Label.TheVariants.{At};
 
 use crate::draft_list::DraftList;
 use crate::drafts::{AS_THEY_ARE, Draft, Label, Ways};
@@ -100,6 +101,25 @@ impl<'a> Output<'a> {
         ensures { from ≤ past → past ≤ length self.old.nodes → self.new ≡ led_out from past ways self.old }
     {
         self.nodes.redirect(from, past, ways);
+    }
+
+    /// Leads the test that begins at a place to the next node where it holds. Where tests are joined to a longer and longer one that begins
+    /// there, and that is led on so each time, all these calls together cost the number of its nodes.
+    pub fn lead_holds(&mut self, from: usize)
+        ensures { from ≤ length self.old.nodes → length self.old.nodes < 4294967296
+            → self.new ≡ led_out from (length self.old.nodes) (record as_they_are { holds = At (length self.old.nodes) }) self.old }
+    {
+        let here = self.here();
+        self.nodes.lead_holds(from, here);
+    }
+
+    /// The same, where it doesn't hold.
+    pub fn lead_fails(&mut self, from: usize)
+        ensures { from ≤ length self.old.nodes → length self.old.nodes < 4294967296
+            → self.new ≡ led_out from (length self.old.nodes) (record as_they_are { fails = At (length self.old.nodes) }) self.old }
+    {
+        let here = self.here();
+        self.nodes.lead_fails(from, here);
     }
 
     /// The pieces from one place to another go on where what follows begins.

@@ -113,24 +113,14 @@ pub fn compared<'a>(
 pub fn lead_where_holds(from: usize, out: &mut Output)
     ensures { LeadsWhereHolds from out.old out.new }
 {
-    let ways = Ways {
-        holds: Label::At(out.here()),
-        ..AS_THEY_ARE
-    };
-    let past = out.len();
-    out.redirect(from, past, ways);
+    out.lead_holds(from);
 }
 
 /// Leads the test that begins at a place to what comes next where it doesn't hold.
 pub fn lead_where_fails(from: usize, out: &mut Output)
     ensures { LeadsWhereFails from out.old out.new }
 {
-    let ways = Ways {
-        fails: Label::At(out.here()),
-        ..AS_THEY_ARE
-    };
-    let past = out.len();
-    out.redirect(from, past, ways);
+    out.lead_fails(from);
 }
 
 /// What two tests give of which the second stands behind where the first holds, as [`compared`] does.
