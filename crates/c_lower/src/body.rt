@@ -113,6 +113,8 @@ pub fn lower_body<'a>(
     if begin.place() == 0 {
         return body_of(alloc, out);
     }
+    // (what was emitted is let go first, so that no two bodies stand in memory)
+    drop(out);
     let out = opened(alloc, context, head, body, locals)?;
     body_of(alloc, out)
 }

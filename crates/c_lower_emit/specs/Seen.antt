@@ -11,4 +11,4 @@ temp_seen temp = record { kind = type_seen temp.kind; used = temp.used }
 
 -- a loop
 abbrev pub loop_seen : Loop → code.Loop
-loop_seen one = record { head = one.head; past = one.past; visible = one.visible.items }
+loop_seen one = record { head = one.head; past = one.past; visible = one.visible }

@@ -8,3 +8,4 @@ pub mod loops;
 pub mod output;
 pub mod temps;
 pub mod uses;
+pub mod visible_slots;

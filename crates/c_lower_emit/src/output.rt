@@ -11,6 +11,7 @@ use crate::draft_list::DraftList;
 use crate::drafts::{AS_THEY_ARE, Draft, Label, Ways};
 use crate::loops::Loop;
 use crate::temps::{Temp, Temps};
+use crate::visible_slots::VisibleSlots;
 use c_types_names::kinds::CType;
 use shape_data::program::Cmd;
 use std::alloc::{AllocError, Global};
@@ -103,8 +104,8 @@ impl<'a> Output<'a> {
         self.nodes.redirect(from, past, ways);
     }
 
-    /// Leads the test that begins at a place to the next node where it holds. Where tests are joined to a longer and longer one that begins
-    /// there, and that is led on so each time, all these calls together cost the number of its nodes.
+    /// The test that begins at a place goes on at the next node where it holds. For a chain of tests that begin there and are led on so one
+    /// after another, each with the first node of the one behind it, the cost of all is the number of their nodes.
     pub fn lead_holds(&mut self, from: usize)
         ensures { from ≤ length self.old.nodes → length self.old.nodes < 4294967296
             → self.new ≡ led_out from (length self.old.nodes) (record as_they_are { holds = At (length self.old.nodes) }) self.old }
@@ -145,9 +146,14 @@ impl<'a> Output<'a> {
     }
 
     /// Adds a loop, whose nodes are those from its head on, at a place among the loops.
-    pub fn add_loop(&mut self, place: usize, head: u32, visible: Vec<u32>) -> Result<(), AllocError>
+    pub fn add_loop(
+        &mut self,
+        place: usize,
+        head: u32,
+        visible: VisibleSlots,
+    ) -> Result<(), AllocError>
         ensures { OnOk result (place ≤ length self.old.loops → length self.old.nodes < 4294967296
-            → self.new ≡ with_loop place (record { head = head; past = length self.old.nodes; visible = visible.items }) self.old) }
+            → self.new ≡ with_loop place (record { head = head; past = length self.old.nodes; visible = visible }) self.old) }
     {
         let past = self.here();
         self.loops.insert(

@@ -1,6 +1,6 @@
 -- The slots of names, as variables are declared and forgotten. The last one declared is the first of each list here.
-use Rattle.std.proofs.Common.{◌≡◌, ℕ, zero, suc, ◌≤◌, Bool, true, false, List, [], ◌∷◌, ◌++◌, length, map, take, reverse, Option}
-use Rattle.std.proofs.Common.{Some, if◌then◌else◌, unwrap_or, refl, sym, ap, ◌∙◌, is_some, arith}
+use Rattle.std.proofs.Common.{◌≡◌, ℕ, Bool, true, false, List, [], ◌∷◌, ◌++◌, map, reverse, Option}
+use Rattle.std.proofs.Common.{Some, if◌then◌else◌, unwrap_or, refl, sym, ap, ◌∙◌, is_some}
 use Rattle.std.proofs.lemmas.List.{map-append, reverse-append}
 use Rattle.std.proofs.lemmas.Slice.Eq.{bytes_eq-Decides}
 use Rattle.std.specs.Str.{bytes_eq}
@@ -11,14 +11,11 @@ use Rattle.c_types_names.specs.FirstOfName.{or_last}
 use Rattle.c_lower_exprs.specs.declared.slots.Bound.{Bound}
 use Rattle.c_lower_exprs.specs.declared.slots.Declared.{Declared}
 use Rattle.c_lower_exprs.specs.Seen.{bound_seen, stacked}
-use Rattle.c_lower_exprs.specs.Slots.{bound_of, slot_among}
-use Rattle.c_lower_exprs.proofs.Stacking.{stacked-append, stacked-nil, stacked-one}
+use Rattle.c_lower_exprs.specs.Slots.{bound_of, slot_among, slots_of}
+use Rattle.c_lower_exprs.proofs.Stacking.{stacked-nil, stacked-push}
 
 abbrev pub declared_seen : Declared → contexts.Bound
 declared_seen one = bound_seen one.bound
-
-abbrev pub declared_slot : Declared → ℕ
-declared_slot one = one.bound.slot
 
 reverse-first : {X : Type 0} (x : X) (xs : List X) → reverse (x ∷ xs) ≡ reverse xs ++ x ∷ []
 reverse-first x xs = reverse-append (x ∷ []) xs
@@ -83,17 +80,12 @@ slot_there last before =
     ap (λ b. is_some (if b then Some last.bound.slot else slot_among before last.bound.name.now))
     ((bytes_eq-Decides last.bound.name.now last.bound.name.now).1 refl)
 
--- a loop went through all
-pub all_kept : (all : List Declared) (n : ℕ) → length all ≤ n → map declared_slot (take n all) ≡ map declared_slot all
-all_kept [] zero = λ le. refl
-all_kept [] (suc n) = λ le. refl
-all_kept (x ∷ xs) zero = λ le. absurd (omega (arith, le))
-all_kept (x ∷ xs) (suc n) = λ le. ap (λ ys. declared_slot x ∷ ys) (all_kept xs n (omega (arith, le)))
+-- no variable has no slot
+pub slots_none : [] ≡ slots_of []
+slots_none = ap (map slot_of_bound) (sym stacked-nil)
 
-pub slots_back : (all : List Declared) → reverse (map declared_slot all) ≡ map slot_of_bound (stacked (map bound_of all))
-slots_back [] = ap (map slot_of_bound) (sym stacked-nil)
-slots_back (x ∷ xs) =
-    reverse-append (declared_slot x ∷ []) (map declared_slot xs) ∙ ap (λ ys. ys ++ declared_slot x ∷ []) (slots_back xs)
-    ∙ ap (λ ys. map slot_of_bound (stacked (map bound_of xs)) ++ map slot_of_bound ys) (sym (stacked-one x.bound))
-    ∙ sym (map-append slot_of_bound (stacked (map bound_of xs)) (stacked (x.bound ∷ [])))
-    ∙ ap (map slot_of_bound) (sym (stacked-append (x.bound ∷ []) (map bound_of xs)))
+-- the slot of one more comes first
+pub slots_push : (all : List Declared) (one : Declared) → slots_of (all ++ one ∷ []) ≡ one.bound.slot ∷ slots_of all
+slots_push all one =
+    ap (λ bound. map slot_of_bound (stacked bound)) (map-append bound_of all (one ∷ []))
+    ∙ ap (map slot_of_bound) (stacked-push (map bound_of all) one.bound)

@@ -13,6 +13,7 @@ ghost use Rattle.c_lower_exprs.specs.Contexts.{FieldsFit, behind_variable, IsWit
 
 use crate::params::{add_params, param_count};
 use crate::slots::{Bound, Slots};
+use c_lower_emit::visible_slots::VisibleSlots;
 use c_tree::places::place_of_specifier;
 use c_tree::{Head, Name, Place};
 use c_types_names::env::Env;
@@ -155,8 +156,8 @@ impl<'a> Context<'a> {
     }
 
     /// The slots of the variables in scope, the innermost one first.
-    pub fn visible(&self) -> Result<Vec<u32>, AllocError>
-        ensures { IfOk result (λ slots. slots.items ≡ visible self.now) }
+    pub fn visible(&self) -> Result<VisibleSlots, AllocError>
+        ensures { IfOk result (λ slots. slots ≡ visible self.now) }
     {
         self.bound.listed(self.alloc)
     }

@@ -4,6 +4,7 @@ ghost use Rattle.c_lower_rules.specs.Contexts.{slot_in, slot_of_bound};
 ghost use Rattle.c_lower_exprs.specs.Seen.{stacked};
 ghost use Rattle.c_lower_exprs.specs.Slots.{IsBound, slot_found, bound_of};
 
+use c_lower_emit::visible_slots::VisibleSlots;
 use c_tree::Name;
 use c_types_names::first_of_name::{Firsts, first_of, set};
 use std::alloc::{AllocError, Global};
@@ -28,10 +29,11 @@ struct Declared<'a> {
 type SlotsOfNames<'a> = Firsts<'a, Option<u32>>;
 
 /// Variables and their slots, the innermost one last. To find, to add and to forget one takes O(log n) comparisons of names, where n names
-/// have been declared.
+/// have been declared. The slots are also kept as a list of their own, so that a copy of it looks at no variable.
 pub struct Slots<'a> {
     all: Vec<Declared<'a>>,
     of_names: SlotsOfNames<'a>,
+    visible: VisibleSlots,
 }
 
 impl<'a> Model for Slots<'a> {
@@ -43,7 +45,7 @@ impl<'a> Model for Slots<'a> {
 
     ghost view = { λ s. map bound_of s.all.items };
 
-    ghost invariant = { λ s. IsBound s.all.items s.of_names };
+    ghost invariant = { λ s. IsBound s.all.items s.of_names s.visible };
 }
 
 // Written out, so that callers' proofs take the end of the slots as one call.
@@ -52,6 +54,7 @@ impl<'a> Drop for Slots<'a> {
         let Slots {
             all: _all,
             of_names: _of_names,
+            visible: _visible,
         } = self;
     }
 }
@@ -64,24 +67,34 @@ fn slot_found<'a>(of_names: &SlotsOfNames<'a>, name: &Name) -> Option<u32>
 }
 
 /// Forgets the last variable.
-fn forget_last<'a>(all: &mut Vec<Declared<'a>>, of_names: &mut SlotsOfNames<'a>)
-    requires bound { IsBound all.old.items of_names.old }
+fn forget_last<'a>(
+    all: &mut Vec<Declared<'a>>,
+    of_names: &mut SlotsOfNames<'a>,
+    visible: &mut VisibleSlots,
+)
+    requires bound { IsBound all.old.items of_names.old visible.old }
     requires some { 0 < length all.old.items }
-    ensures bound { IsBound all.new.items of_names.new }
+    ensures bound { IsBound all.new.items of_names.new visible.new }
     ensures items { all.new.items ≡ take (length all.old.items - 1) all.old.items }
 {
     let last = all.pop().unwrap();
     set(of_names, last.bound.name, last.hidden).unwrap();
+    visible.pop();
 }
 
 /// Forgets all variables but the first ones.
-fn forget_behind<'a>(all: &mut Vec<Declared<'a>>, of_names: &mut SlotsOfNames<'a>, len: usize)
-    requires { IsBound all.old.items of_names.old }
-    ensures bound { IsBound all.new.items of_names.new }
+fn forget_behind<'a>(
+    all: &mut Vec<Declared<'a>>,
+    of_names: &mut SlotsOfNames<'a>,
+    visible: &mut VisibleSlots,
+    len: usize,
+)
+    requires { IsBound all.old.items of_names.old visible.old }
+    ensures bound { IsBound all.new.items of_names.new visible.new }
     ensures items { all.new.items ≡ take len all.old.items }
 {
     while all.len() > len {
-        forget_last(all, of_names);
+        forget_last(all, of_names, visible);
     }
 }
 
@@ -89,30 +102,27 @@ fn forget_behind<'a>(all: &mut Vec<Declared<'a>>, of_names: &mut SlotsOfNames<'a
 fn declare<'a>(
     all: &mut Vec<Declared<'a>>,
     of_names: &mut SlotsOfNames<'a>,
+    visible: &mut VisibleSlots,
     bound: Bound<'a>,
 ) -> Result<(), AllocError>
-    requires { IsBound all.old.items of_names.old }
-    ensures bound { IsBound all.new.items of_names.new }
+    requires { IsBound all.old.items of_names.old visible.old }
+    ensures bound { IsBound all.new.items of_names.new visible.new }
     ensures more { OnOk result (map bound_of all.new.items ≡ map bound_of all.old.items ++ bound.entry ∷ []) }
     ensures same { OnErr result (all.new.items ≡ all.old.items) }
 {
     all.reserve(1)?;
+    visible.push(bound.slot)?;
     let hidden = slot_found(of_names, bound.name);
-    set(of_names, bound.name, Some(bound.slot))?;
-    all.push(Declared { bound, hidden }).unwrap();
-    Ok(())
-}
-
-/// The slots of the variables, the last one first.
-fn slots_of(alloc: Global, all: &[Declared]) -> Result<Vec<u32>, AllocError>
-    ensures { IfOk result (λ slots. slots.items ≡ map slot_of_bound (stacked (map bound_of all.now))) }
-{
-    let mut slots = Vec::with_capacity(alloc, all.len())?;
-    for one in all {
-        slots.push(one.bound.slot)?;
+    match set(of_names, bound.name, Some(bound.slot)) {
+        Ok(()) => {
+            all.push(Declared { bound, hidden }).unwrap();
+            Ok(())
+        }
+        Err(fault) => {
+            visible.pop();
+            Err(fault)
+        }
     }
-    slots.reverse();
-    Ok(slots)
 }
 
 impl<'a> Slots<'a> {
@@ -123,6 +133,7 @@ impl<'a> Slots<'a> {
         Slots {
             all: Vec::new(alloc),
             of_names: BTreeMap::new(alloc),
+            visible: VisibleSlots::new(alloc),
         }
     }
 
@@ -141,10 +152,10 @@ impl<'a> Slots<'a> {
     }
 
     /// The slots of the variables, the last one first.
-    pub fn listed(&self, alloc: Global) -> Result<Vec<u32>, AllocError>
-        ensures { IfOk result (λ slots. slots.items ≡ map slot_of_bound (stacked self.now)) }
+    pub fn listed(&self, alloc: Global) -> Result<VisibleSlots, AllocError>
+        ensures { IfOk result (λ slots. slots ≡ map slot_of_bound (stacked self.now)) }
     {
-        slots_of(alloc, self.all.as_slice())
+        self.visible.copy(alloc)
     }
 
     /// With one more variable.
@@ -152,13 +163,13 @@ impl<'a> Slots<'a> {
         ensures more { OnOk result (self.new ≡ self.old ++ bound.entry ∷ []) }
         ensures same { OnErr result (self.new ≡ self.old) }
     {
-        declare(&mut self.all, &mut self.of_names, bound)
+        declare(&mut self.all, &mut self.of_names, &mut self.visible, bound)
     }
 
     /// Forgets all variables but the first ones.
     pub fn truncate(&mut self, len: usize)
         ensures { self.new ≡ take len self.old }
     {
-        forget_behind(&mut self.all, &mut self.of_names, len);
+        forget_behind(&mut self.all, &mut self.of_names, &mut self.visible, len);
     }
 }

@@ -6,11 +6,11 @@ use Rattle.std.proofs.lemmas.List.{at_drop_more}
 use Rattle.shape_data.specs.declared.program.Ty.{Ty}
 use Rattle.c_lower_rules.specs.Marks.{slots_that}
 
-then_is : {A : Type 0} (b : Bool) (one other : A) → b ≡ true → (if b then one else other) ≡ one
+pub then_is : {A : Type 0} (b : Bool) (one other : A) → b ≡ true → (if b then one else other) ≡ one
 then_is true one other is = refl
 then_is false one other is = absurd cc
 
-else_is : {A : Type 0} (b : Bool) (one other : A) → b ≡ false → (if b then one else other) ≡ other
+pub else_is : {A : Type 0} (b : Bool) (one other : A) → b ≡ false → (if b then one else other) ≡ other
 else_is false one other is = refl
 else_is true one other is = absurd cc
 

@@ -1,3 +1,4 @@
 mod Keeping
+mod Gathering
 mod Flagging
 mod Heading

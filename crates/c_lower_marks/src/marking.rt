@@ -6,6 +6,7 @@ ghost use Rattle.c_lower_marks.specs.Placed.{marks_from, with_marks};
 
 use crate::assigned::assigned_flags;
 use c_lower_emit::loops::Loop;
+use c_lower_emit::visible_slots::VisibleSlots;
 use shape_data::Row;
 use shape_data::program::{HeadMark, Node, Ty};
 use std::alloc::{AllocError, Global};
@@ -19,18 +20,6 @@ fn is_int(kind: &Ty) -> bool
         Ty::Ptr(_) => false,
         Ty::Void => false,
     }
-}
-
-/// Whether the slot is one of those.
-fn is_listed(slots: &[u32], slot: u32) -> bool
-    ensures { result ≡ is_listed slots.now slot }
-{
-    for one in slots {
-        if *one == slot {
-            return true;
-        }
-    }
-    false
 }
 
 /// Whether the type is int and the flag of the slot is set.
@@ -63,13 +52,13 @@ fn ints(
 }
 
 /// The slots that hold no variable in scope.
-fn dead(alloc: Global, slots: &[Ty], visible: &[u32]) -> Result<Row<u32>, AllocError>
+fn dead(alloc: Global, slots: &[Ty], visible: &VisibleSlots) -> Result<Row<u32>, AllocError>
     requires { length slots.now < 4294967296 }
     ensures { IfOk result (λ dead. dead ≡ slots_that (λ slot kind. not (is_listed visible.now slot)) 0 slots.now) }
 {
     let mut dead = Vec::new(alloc);
     for (slot, _kind) in slots.iter().enumerate() {
-        if !is_listed(visible, slot as u32) {
+        if !visible.contains(slot as u32) {
             dead.push(slot as u32)?;
         }
     }
@@ -103,7 +92,7 @@ fn mark_by(
         [] => Ok(None),
         [first, ..] => Ok(Some(HeadMark {
             ints: ints(alloc, slots, nodes, loops)?,
-            dead: dead(alloc, slots, first.visible.as_slice())?,
+            dead: dead(alloc, slots, &first.visible)?,
         })),
     }
 }

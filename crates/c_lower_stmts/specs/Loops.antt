@@ -27,7 +27,7 @@ ClosesLoop opened body step body_begin step_begin old new =
     (test : Test) → (inner last : Code) → (u v x : List Temp) → (start behind mid : Out) → opened.head ≡ length start.nodes
     → opened.index ≡ length start.loops → body ≡ length behind.nodes → step ≡ length mid.nodes → length old.nodes < 4294967296
     → EmitsTest test u start behind → EmitsCode inner v body_begin behind mid → EmitsCode last x step_begin mid old
-    → EmitsCode (repeat opened.visible.items test inner last) x (At (length start.nodes)) start new
+    → EmitsCode (repeat opened.visible test inner last) x (At (length start.nodes)) start new
 
 -- the body, and the test that begins at `from`, are the loop then; a run of it begins at `begin`
 abbrev pub ClosesLoopBehind : Opened → ℕ → Label → Label → Out → Out → Type 0
@@ -35,4 +35,4 @@ ClosesLoopBehind opened from body_begin begin old new =
     (test : Test) → (inner : Code) → (u v : List Temp) → (start mid : Out) → opened.head ≡ length start.nodes
     → opened.index ≡ length start.loops → from ≡ length mid.nodes → length old.nodes < 4294967296
     → EmitsCode inner u body_begin start mid → EmitsTest test v mid old
-    → EmitsCode (repeat_first opened.visible.items inner test) v begin start new
+    → EmitsCode (repeat_first opened.visible inner test) v begin start new

@@ -7,6 +7,7 @@ ghost use Rattle.c_lower_stmts.specs.Loops.{all_to, round, ClosesLoop, ClosesLoo
 
 use c_lower_emit::drafts::{AS_THEY_ARE, Label, Ways};
 use c_lower_emit::output::Output;
+use c_lower_emit::visible_slots::VisibleSlots;
 use c_lower_exprs::context::Context;
 use std::alloc::AllocError;
 
@@ -15,14 +16,14 @@ use std::alloc::AllocError;
 pub struct Opened {
     pub head: usize,
     pub index: usize,
-    pub visible: Vec<u32>,
+    pub visible: VisibleSlots,
 }
 
 /// Where a loop begins.
 pub fn open(c: &Context, out: &Output) -> Result<Opened, AllocError>
     ensures head { IfOk result (λ opened. opened.head ≡ length out.now.nodes) }
     ensures index { IfOk result (λ opened. opened.index ≡ length out.now.loops) }
-    ensures visible { IfOk result (λ opened. opened.visible.items ≡ visible c.now) }
+    ensures visible { IfOk result (λ opened. opened.visible ≡ visible c.now) }
 {
     let visible = c.visible()?;
     Ok(Opened {
@@ -95,9 +96,9 @@ pub fn close(
 }
 
 /// Adds the loop.
-fn add(index: usize, head: usize, visible: Vec<u32>, out: &mut Output) -> Result<(), AllocError>
+fn add(index: usize, head: usize, visible: VisibleSlots, out: &mut Output) -> Result<(), AllocError>
     ensures { OnOk result (index ≤ length out.old.loops → head < 4294967296 → length out.old.nodes < 4294967296
-        → out.new ≡ with_loop index (record { head = head; past = length out.old.nodes; visible = visible.items }) out.old) }
+        → out.new ≡ with_loop index (record { head = head; past = length out.old.nodes; visible = visible }) out.old) }
 {
     out.add_loop(index, u32::try_from(head).unwrap_or(u32::MAX), visible)
 }

@@ -1,5 +1,6 @@
 //! Marks of one loop.
 use c_lower_emit::loops::Loop;
+use c_lower_emit::visible_slots::VisibleSlots;
 use c_lower_marks::mark;
 use shape_data::program::{Cmd, Node, Operand, TestOp, Ty};
 use std::alloc::Global;
@@ -33,7 +34,7 @@ fn the_head_of_a_loop_gets_a_mark(rt: HostRuntime) -> Result<(), Fail> {
         from: Operand::Num(0),
         next: 0,
     }))?;
-    let mut visible = Vec::new(alloc);
+    let mut visible = VisibleSlots::new(alloc);
     visible.push(0)?;
     let one = Loop {
         head: 0,

@@ -5,6 +5,8 @@
 #[cfg(test)]
 mod c_front_tests;
 #[cfg(test)]
+mod c_lower_emit_tests;
+#[cfg(test)]
 mod c_lower_marks_tests;
 #[cfg(test)]
 mod c_lower_sizes_tests;

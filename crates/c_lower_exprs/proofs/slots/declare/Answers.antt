@@ -2,22 +2,24 @@ use Rattle.std.proofs.Common.{◌≡◌, [], ◌∷◌, ◌++◌, reverse, sym, 
 use Rattle.c_types_names.specs.FirstOfName.{first_of}
 use Rattle.c_types_names.proofs.Binding.{reverse-last}
 use Rattle.c_lower_exprs.specs.declared.slots.Declared.{Declared}
-use Rattle.c_lower_exprs.specs.Slots.{AreLinked, slot_among}
-use Rattle.c_lower_exprs.proofs.SlotsOfNames.{declared_found}
+use Rattle.c_lower_exprs.specs.Slots.{AreLinked, slot_among, slots_of}
+use Rattle.c_lower_exprs.proofs.SlotsOfNames.{declared_found, slots_push}
 use Rattle.c_lower_exprs.proofs.slots.declare.Goals as goal
 
-pub returns-clause-bound : goal.returns-clause-bound
-returns-clause-bound c =
+pub returns-in-Ok-clause-bound : goal.returns-in-Ok-clause-bound
+returns-in-Ok-clause-bound c =
     let all = c.args.all.now.items in
     let name = c.args.bound.name.now in
     let one : Declared = record { bound = c.args.bound; hidden = c.slot_found-hidden.result } in
-    let items : c.push.new.self.items ≡ all ++ one ∷ [] = search rules in
-    let turned : reverse c.push.new.self.items ≡ one ∷ reverse all = ap reverse items ∙ reverse-last all one in
+    let items : c.push-in-Ok.new.self.items ≡ all ++ one ∷ [] = search rules in
+    let turned : reverse c.push-in-Ok.new.self.items ≡ one ∷ reverse all = ap reverse items ∙ reverse-last all one in
     let hidden : one.hidden ≡ slot_among (reverse all) name = c.slot_found-hidden.ensures ∙ c.requires.found name in
     record {
       linked = subst AreLinked (sym turned) (hidden, c.requires.linked);
       found = λ n.
           declared_found (first_of c.args.of_names.now) (first_of c.set.new.firsts) (reverse all) c.args.bound c.requires.found
-          c.in_ok-set.ensures.thing c.slot_found-hidden.result n
+          c.in-Ok.ensures.thing c.slot_found-hidden.result n
           ∙ ap (λ xs. slot_among xs n) (sym turned);
+      listed =
+          c.in_ok-push.ensures.more ∙ ap (λ ns. one.bound.slot ∷ ns) c.requires.listed ∙ sym (slots_push all one) ∙ ap slots_of (sym items);
     }

@@ -4,7 +4,7 @@ use Rattle.c_lower_exprs.proofs.slots.forget_behind.Given as goal
 
 abbrev pub invariant-loop-all : goal.invariant-loop-all
 invariant-loop-all l = record {
-  bound : IsBound l.all.items l.of_names;
+  bound : IsBound l.all.items l.of_names l.visible;
   items : take l.len l.all.items ≡ take l.len l.initial.all.items;
 }
 

@@ -1,9 +1,9 @@
-use Rattle.std.proofs.Common.{◌≡◌, true, [], ◌∷◌, ◌++◌, reverse, is_some, ap, subst, ◌∙◌, rules}
+use Rattle.std.proofs.Common.{◌≡◌, true, [], ◌∷◌, ◌++◌, reverse, drop, is_some, ap, subst, ◌∙◌, rules}
 use Rattle.c_types_names.specs.FirstOfName.{first_of}
 use Rattle.c_types_names.proofs.Noting.{from_ok}
 use Rattle.c_types_names.proofs.Binding.{reverse-last, must_be_ok}
-use Rattle.c_lower_exprs.specs.Slots.{AreLinked, slot_among, slot_found}
-use Rattle.c_lower_exprs.proofs.SlotsOfNames.{slot_there, forgotten_found}
+use Rattle.c_lower_exprs.specs.Slots.{AreLinked, slot_among, slot_found, slots_of}
+use Rattle.c_lower_exprs.proofs.SlotsOfNames.{slot_there, forgotten_found, slots_push}
 use Rattle.c_lower_exprs.proofs.slots.forget_last.Goals as goal
 
 pub unwrap-requires : goal.unwrap-requires
@@ -29,4 +29,5 @@ returns-clause-bound c =
       found = forgotten_found (first_of c.args.of_names.now) (first_of c.set.new.firsts) (reverse rest) last
           (λ n. c.requires.bound.found n ∙ ap (λ xs. slot_among xs n) turned) (linked.0)
           (from_ok c.set.result c.unwrap.result _ c.unwrap.ensures c.set.ensures.thing);
+      listed = c.pop-2.ensures ∙ ap (drop 1) (c.requires.bound.listed ∙ ap slots_of items ∙ slots_push rest last);
     }

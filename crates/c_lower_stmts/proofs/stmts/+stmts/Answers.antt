@@ -176,7 +176,7 @@ while_loop-returns-clause-laid t c = λ place n line.
     (record { begin = c.at.result; locals = first.locals }) c.args.out.now c.close.new.out)
     (sym c.in_ok-laid.ensures.context)
     (while_laid c.args.c.now line c.args.locals opened.opened.head opened.opened.index c.len-from.result c.len-past.result
-    opened.opened.visible.items place test body first
+    opened.opened.visible place test body first
     c.at.result c.args.out.now c.tested.new.out c.nested.new.out c.close.new.out opened.ensures.head opened.ensures.index
     opened.ensures.visible c.len-from.ensures
     c.len-past.ensures c.at.ensures (c.in_ok-tested.ensures n.0 line c.args.locals)
@@ -200,7 +200,7 @@ do_loop-returns-clause-laid t c = λ place n line.
     (state (on_line c.args.c.now line) c.args.locals c.args.out.now)) c.args.c.now c.args.locals x
     (record { begin = c.in_ok-begin.begin; locals = first.locals }) c.args.out.now c.close_behind.new.out)
     (sym kept)
-    (do_laid c.args.c.now line c.args.locals opened.opened.head opened.opened.index c.len-from.result opened.opened.visible.items place test
+    (do_laid c.args.c.now line c.args.locals opened.opened.head opened.opened.index c.len-from.result opened.opened.visible place test
     body first
     c.in_ok-begin.begin c.args.out.now c.nested.new.out c.tested.new.out c.close_behind.new.out opened.ensures.head opened.ensures.index
     opened.ensures.visible
@@ -247,7 +247,7 @@ for_loop-returns-clause-laid t c = λ n line.
     (record { begin = c.followed_by.result; locals = third.locals }) c.args.out.now c.lead_next.new.self)
     (sym left)
     (for_laid c.args.c.now inner line c.args.locals c.len-start.result opened.opened.head opened.opened.index c.len-from.result
-    c.len-past.result opened.opened.visible.items place starts
+    c.len-past.result opened.opened.visible place starts
     test ends body first second third c.followed_by.result c.at-label.result c.args.out.now c.init.new.out c.tested_for.new.out
     c.nested.new.out c.step.new.out c.close.new.out c.lead_next.new.self within c.len-start.ensures opened.ensures.head opened.ensures.index
     opened.ensures.visible c.len-from.ensures

@@ -22,7 +22,7 @@ returns c = λ within lt.
     ∙ ap (λ ls. record c.args.self.now { loops = ls })
     (map-insert loop_seen c.self.inside.loops.items c.args.place
     (record { head = c.args.head; past = c.here-past.result; visible = c.args.visible }))
-    ∙ ap (λ (o : Out). with_loop c.args.place (record { head = c.args.head; past = c.here-past.result; visible = c.args.visible.items })
+    ∙ ap (λ (o : Out). with_loop c.args.place (record { head = c.args.head; past = c.here-past.result; visible = c.args.visible })
     (record c.args.self.now { loops = o.loops })) c.self.view_is
-    ∙ ap (λ n. with_loop c.args.place (record { head = c.args.head; past = n; visible = c.args.visible.items }) c.args.self.now)
+    ∙ ap (λ n. with_loop c.args.place (record { head = c.args.head; past = n; visible = c.args.visible }) c.args.self.now)
     (c.here-past.ensures lt)
