@@ -16,7 +16,7 @@ use Rattle.shape_data.specs.declared.answer.Kept.{Kept}
 use Rattle.claim_core.specs.Views.{Solution, solution_of}
 use Rattle.certificate_laws.specs.Limits.{AnswerWidens, StorableIsAnalysable, analysable}
 use Rattle.bottom_up.specs.Laws.{IsRight}
-use Rattle.solve_job.specs.Solves.{IsStoredEntry}
+use Rattle.session_replies.specs.Solving.{IsStoredEntry}
 use Rattle.store_json.specs.declared.reading.Unread.{Unread}
 use Rattle.summary_store.specs.Laws.{LoadedAreInductive, OneLoading, SomeLoading}
 use Rattle.summary_store.specs.Loading.{Contents, IsLoaded, IsLoadedEntry}

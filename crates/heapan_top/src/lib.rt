@@ -12,6 +12,6 @@ mod turns;
 
 pub use loaded_answers::{LoadedAnswers, agrees};
 pub use outcome::Outcome;
-pub use plain_answers::plain;
 pub use session::run;
+pub use session_replies::plain;
 pub use status::Status;

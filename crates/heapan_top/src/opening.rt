@@ -7,7 +7,7 @@ ghost use Rattle.heapan_top.specs.Stores.{Opens, front_of, store_told};
 
 use crate::status::Status;
 use io_ports::{Held, KeepFault, Keeper};
-use solve_job::StoredAnswers;
+use session_replies::StoredAnswers;
 use std::alloc::{AllocError, Global};
 use std::sync::Arc;
 use summary_store::laws::loaded_are_inductive;

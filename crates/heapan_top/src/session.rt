@@ -22,7 +22,7 @@ ghost use Rattle.heapan_top.specs.Laws.{HonestReplies, PrintsValid};
 ghost use Rattle.heapan_top.specs.Parts.{IsLed, IsWriteEnd, path_bytes, setting_of};
 ghost use Rattle.heapan_top.specs.Stores.{KeepsOthers, front_of, path_told, store_told};
 ghost use Rattle.heapan_top.specs.Work.{CountsSession, IsClaimedOnce};
-ghost use Rattle.solve_job.specs.Solves.{Solves};
+ghost use Rattle.session_replies.specs.Solving.{Solves};
 
 use crate::laws::{honest_replies, one_opening, one_reply, printed_is_valid};
 use crate::leading::Answering;
@@ -34,8 +34,8 @@ use claim_laws::claims_hold;
 use command_words::{Asked, asked_by};
 use io_ports::{Gate, Keeper, Sink, Source, write_all};
 use reporters::Reporter;
+use session_replies::{SolveJob, StoredAnswers};
 use shape_data::exact::share;
-use solve_job::{SolveJob, StoredAnswers};
 use std::alloc::Global;
 use std::sync::{Arc, Wait};
 use std::thread::Threads;

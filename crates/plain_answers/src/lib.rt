@@ -10,3 +10,5 @@ mod keys;
 pub mod laws;
 
 pub use answers::plain;
+pub use solve_job::laws::agreed_are_looked_up;
+pub use solve_job::{SolveJob, StoredAnswers};

@@ -6,3 +6,4 @@ pub mod Parts
 pub mod Saves
 pub mod Texts
 pub mod Work
+pub mod Solving

@@ -11,5 +11,6 @@ pub mod session;
 pub mod texts;
 pub mod told;
 
+pub use plain_answers::{SolveJob, StoredAnswers, plain};
 pub use reply::Reply;
 pub use session::Session;

@@ -6,5 +6,6 @@ mod job;
 pub mod laws;
 mod stored;
 
+pub use comp_solve::solve;
 pub use job::SolveJob;
 pub use stored::StoredAnswers;
