@@ -8,7 +8,6 @@ use Rattle.c_lower_emit.specs.declared.drafts.Label.{Label}
 use Rattle.c_lower_emit.specs.declared.drafts.Label.TheVariants.{At, Next, Breaks, Continues, Holds, Fails}
 use Rattle.c_lower_emit.specs.declared.drafts.Ways.{Ways}
 use Rattle.c_lower_emit.specs.Drafts.{Places, resolve, redirect, next_at, redirected, led_between, aimed, laid}
-use Rattle.c_lower_emit.specs.Emitting.{Out, led_out}
 
 -- where what the exits become leads
 abbrev pub led : Places → Ways → Places
@@ -92,6 +91,6 @@ between_kept from past le ds =
     ∙ take-append-drop from ds
 
 -- so nothing changes where pieces are to go on at their own exit
-pub next_led_to_next : (begin : Label) → begin ≡ Next → (from past : ℕ) → from ≤ past → (o : Out) → o ≡ led_out from past (next_at begin) o
-next_led_to_next begin is from past le o =
-    ap (λ ds. record o { nodes = ds }) (sym (between_kept from past le o.nodes)) ∙ ap (λ t. led_out from past (next_at t) o) (sym is)
+pub next_led_to_next : (begin : Label) → begin ≡ Next → (from past : ℕ) → from ≤ past → (ds : List Draft)
+    → ds ≡ led_between from past (next_at begin) ds
+next_led_to_next begin is from past le ds = sym (between_kept from past le ds) ∙ ap (λ t. led_between from past (next_at t) ds) (sym is)

@@ -1,3 +1,4 @@
+mod FirstTemps
 mod TakenTemps
 mod Inserting
 mod Listing

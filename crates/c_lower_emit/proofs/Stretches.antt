@@ -1,14 +1,15 @@
 -- Drafts from one place to another that lack an exit.
-use Rattle.std.proofs.Common.{◌≡◌, ℕ, zero, suc, ◌-◌, ◌<◌, ◌≤◌, ◌||◌, Bool, false, List, [], ◌∷◌, ◌++◌, map, length}
-use Rattle.std.proofs.Common.{take, drop, refl, sym, ap, ◌∙◌, append_assoc, arith}
-use Rattle.std.proofs.lemmas.Bool.{or_parts, true≢false}
-use Rattle.std.proofs.lemmas.List.{append-nil, length-append, length_push, length-take-le, length-drop, length-map, take_all, drop_all}
+use Rattle.std.proofs.Common.{◌≡◌, ◌≢◌, ◌⊎◌, inl, inr, ℕ, zero, suc, ◌+◌, ◌-◌, ◌<◌, ◌≤◌, ◌||◌, Bool, false, List, [], ◌∷◌, ◌++◌}
+use Rattle.std.proofs.Common.{map, length, take, drop, refl, sym, ap, ◌∙◌, append_assoc, arith}
+use Rattle.std.specs.Prelude.{max}
+use Rattle.std.proofs.lemmas.Bool.{or_parts, true≢false, cases_lt}
+use Rattle.std.proofs.lemmas.List.{length-append, length_push, length-take-le, length-drop, length-map, take_all}
 use Rattle.c_lower_emit.specs.declared.drafts.Draft.{Draft}
 use Rattle.c_lower_emit.specs.declared.drafts.Label.{Label}
 use Rattle.c_lower_emit.specs.declared.drafts.Label.TheVariants.{At, Next, Breaks, Continues, Holds, Fails}
 use Rattle.c_lower_emit.specs.declared.drafts.Ways.{Ways}
-use Rattle.c_lower_emit.specs.Drafts.{redirect, redirected, as_they_are, led_between}
-use Rattle.c_lower_emit.specs.OpenPlaces.{is_holds, is_fails, has_exit, has_exit_at, Lacks, LeadsAway}
+use Rattle.c_lower_emit.specs.Drafts.{redirect, redirected, as_they_are, next_at, led_between}
+use Rattle.c_lower_emit.specs.Stretches.{is_holds, is_fails, is_next, has_exit, has_exit_at, Lacks, LeadsAway}
 
 -- WAYS
 
@@ -56,24 +57,51 @@ fails_away place = record { others = others; gone = gone }
     gone Holds = refl
     gone Fails = refl
 
--- where one of the two exits of a test is led to a place, nothing comes to have the other
-pub holds_brings_no_fails : (place : ℕ) (t : Label) → is_fails t ≡ false
-    → is_fails (redirect (record as_they_are { holds = At place }) t) ≡ false
-holds_brings_no_fails place (At n) = λ lacks. lacks
-holds_brings_no_fails place Next = λ lacks. lacks
-holds_brings_no_fails place Breaks = λ lacks. lacks
-holds_brings_no_fails place Continues = λ lacks. lacks
-holds_brings_no_fails place Holds = λ lacks. refl
-holds_brings_no_fails place Fails = λ lacks. lacks
+not_next : (t : Label) → t ≢ Next → is_next t ≡ false
+not_next (At n) = λ other. refl
+not_next Next = λ other. absurd (other refl)
+not_next Breaks = λ other. refl
+not_next Continues = λ other. refl
+not_next Holds = λ other. refl
+not_next Fails = λ other. refl
 
-pub fails_brings_no_holds : (place : ℕ) (t : Label) → is_holds t ≡ false
-    → is_holds (redirect (record as_they_are { fails = At place }) t) ≡ false
-fails_brings_no_holds place (At n) = λ lacks. lacks
-fails_brings_no_holds place Next = λ lacks. lacks
-fails_brings_no_holds place Breaks = λ lacks. lacks
-fails_brings_no_holds place Continues = λ lacks. lacks
-fails_brings_no_holds place Holds = λ lacks. lacks
-fails_brings_no_holds place Fails = λ lacks. refl
+pub next_away : (begin : Label) → begin ≢ Next → LeadsAway is_next (next_at begin)
+next_away begin other = record { others = others; gone = gone }
+  where
+    others : (t : Label) → is_next t ≡ false → redirect (next_at begin) t ≡ t
+    others (At n) = λ lacks. refl
+    others Next = λ lacks. absurd (true≢false lacks)
+    others Breaks = λ lacks. refl
+    others Continues = λ lacks. refl
+    others Holds = λ lacks. refl
+    others Fails = λ lacks. refl
+
+    gone : (t : Label) → is_next (redirect (next_at begin) t) ≡ false
+    gone (At n) = refl
+    gone Next = not_next begin other
+    gone Breaks = refl
+    gone Continues = refl
+    gone Holds = refl
+    gone Fails = refl
+
+-- where an exit is led to a place, nothing comes to have another exit
+pub holds_brings_none : (exit : Label → Bool) (place : ℕ) → exit (At place) ≡ false → (t : Label) → exit t ≡ false
+    → exit (redirect (record as_they_are { holds = At place }) t) ≡ false
+holds_brings_none exit place not_at (At n) = λ lacks. lacks
+holds_brings_none exit place not_at Next = λ lacks. lacks
+holds_brings_none exit place not_at Breaks = λ lacks. lacks
+holds_brings_none exit place not_at Continues = λ lacks. lacks
+holds_brings_none exit place not_at Holds = λ lacks. not_at
+holds_brings_none exit place not_at Fails = λ lacks. lacks
+
+pub fails_brings_none : (exit : Label → Bool) (place : ℕ) → exit (At place) ≡ false → (t : Label) → exit t ≡ false
+    → exit (redirect (record as_they_are { fails = At place }) t) ≡ false
+fails_brings_none exit place not_at (At n) = λ lacks. lacks
+fails_brings_none exit place not_at Next = λ lacks. lacks
+fails_brings_none exit place not_at Breaks = λ lacks. lacks
+fails_brings_none exit place not_at Continues = λ lacks. lacks
+fails_brings_none exit place not_at Holds = λ lacks. lacks
+fails_brings_none exit place not_at Fails = λ lacks. not_at
 
 -- ONE DRAFT
 
@@ -97,56 +125,81 @@ none_comes exit w brings d lacks =
     let parts = or_parts (exit d.next) (exit d.other) lacks in
     both_no (exit (redirect w d.next)) (exit (redirect w d.other)) (brings d.next parts.0) (brings d.other parts.1)
 
--- DRAFTS FROM A PLACE ON
+-- DRAFTS FROM ONE PLACE TO ANOTHER
 
-abbrev led_on : ℕ → Ways → List Draft → List Draft
-led_on n w ds = take n ds ++ map (redirected w) (drop n ds)
+-- the same, one draft after another
+abbrev led_part : ℕ → ℕ → Ways → List Draft → List Draft
+led_part zero zero w ds = ds
+led_part zero (suc p) w [] = []
+led_part zero (suc p) w (d ∷ ds) = redirected w d ∷ led_part zero p w ds
+led_part (suc f) zero w ds = ds
+led_part (suc f) (suc p) w [] = []
+led_part (suc f) (suc p) w (d ∷ ds) = d ∷ led_part f p w ds
 
-led_on_is : (w : Ways) (n past : ℕ) (ds : List Draft) → past ≡ length ds → led_between n past w ds ≡ led_on n w ds
-led_on_is w n past ds is =
-    let left = length-drop n ds in
-    ap (λ es. (take n ds ++ map (redirected w) es) ++ drop past ds) (take_all (past - n) (drop n ds) (omega (arith, is, left)))
-    ∙ ap (λ es. led_on n w ds ++ es) (drop_all past ds (omega (arith, is)))
-    ∙ append-nil (led_on n w ds)
+led_part_count : (w : Ways) (from count past : ℕ) (ds : List Draft) → from + count ≡ past
+    → (take from ds ++ map (redirected w) (take count (drop from ds))) ++ drop past ds ≡ led_part from past w ds
+led_part_count w zero zero zero ds = λ is. refl
+led_part_count w zero zero (suc p) ds = λ is. absurd (omega (arith, is))
+led_part_count w zero (suc k) zero ds = λ is. absurd (omega (arith, is))
+led_part_count w zero (suc k) (suc p) [] = λ is. refl
+led_part_count w zero (suc k) (suc p) (d ∷ ds) = λ is. ap (λ es. redirected w d ∷ es) (led_part_count w 0 k p ds (omega (arith, is)))
+led_part_count w (suc f) zero zero ds = λ is. absurd (omega (arith, is))
+led_part_count w (suc f) zero (suc p) [] = λ is. refl
+led_part_count w (suc f) zero (suc p) (d ∷ ds) = λ is. ap (λ es. d ∷ es) (led_part_count w f 0 p ds (omega (arith, is)))
+led_part_count w (suc f) (suc k) zero ds = λ is. absurd (omega (arith, is))
+led_part_count w (suc f) (suc k) (suc p) [] = λ is. refl
+led_part_count w (suc f) (suc k) (suc p) (d ∷ ds) = λ is. ap (λ es. d ∷ es) (led_part_count w f (suc k) p ds (omega (arith, is)))
+
+led_part_is : (w : Ways) (from past : ℕ) (ds : List Draft) → from ≤ past → led_between from past w ds ≡ led_part from past w ds
+led_part_is w from past ds le = led_part_count w from (past - from) past ds (omega (arith, le))
+
+-- between a place and itself there is none
+none_led : (w : Ways) (n : ℕ) (ds : List Draft) → led_part n n w ds ≡ ds
+none_led w zero ds = refl
+none_led w (suc n) [] = refl
+none_led w (suc n) (d ∷ ds) = ap (λ es. d ∷ es) (none_led w n ds)
 
 -- those that lack the exit may be passed over
-passed : (exit : Label → Bool) (w : Ways) → LeadsAway exit w → (from begin : ℕ) (ds : List Draft) → from ≤ begin → begin ≤ length ds
-    → ((n : ℕ) → from ≤ n → n < begin → has_exit_at exit ds n ≡ false) → led_on begin w ds ≡ led_on from w ds
-passed exit w away zero zero ds = λ le within none. refl
-passed exit w away zero (suc b) [] = λ le within none. absurd (omega (arith, within))
-passed exit w away zero (suc b) (d ∷ ds) = λ le within none.
+passed : (exit : Label → Bool) (w : Ways) → LeadsAway exit w → (from begin past : ℕ) (ds : List Draft) → from ≤ begin → begin ≤ past
+    → ((n : ℕ) → from ≤ n → n < begin → has_exit_at exit ds n ≡ false) → led_part begin past w ds ≡ led_part from past w ds
+passed exit w away zero zero past ds = λ le order none. refl
+passed exit w away zero (suc b) zero ds = λ le order none. absurd (omega (arith, order))
+passed exit w away zero (suc b) (suc p) [] = λ le order none. refl
+passed exit w away zero (suc b) (suc p) (d ∷ ds) = λ le order none.
     ap (λ es. d ∷ es)
-    (passed exit w away 0 b ds (omega arith) (omega (arith, within)) (λ n low lt. none (suc n) (omega arith) (omega (arith, lt))))
-    ∙ ap (λ e. e ∷ map (redirected w) ds) (sym (stays exit w away d (none 0 (omega arith) (omega arith))))
-passed exit w away (suc f) zero ds = λ le within none. absurd (omega (arith, le))
-passed exit w away (suc f) (suc b) [] = λ le within none. absurd (omega (arith, within))
-passed exit w away (suc f) (suc b) (d ∷ ds) = λ le within none.
+    (passed exit w away 0 b p ds (omega arith) (omega (arith, order)) (λ n low lt. none (suc n) (omega arith) (omega (arith, lt))))
+    ∙ ap (λ e. e ∷ led_part 0 p w ds) (sym (stays exit w away d (none 0 (omega arith) (omega arith))))
+passed exit w away (suc f) zero past ds = λ le order none. absurd (omega (arith, le))
+passed exit w away (suc f) (suc b) zero ds = λ le order none. absurd (omega (arith, order))
+passed exit w away (suc f) (suc b) (suc p) [] = λ le order none. refl
+passed exit w away (suc f) (suc b) (suc p) (d ∷ ds) = λ le order none.
     ap (λ es. d ∷ es)
-    (passed exit w away f b ds (omega (arith, le)) (omega (arith, within))
+    (passed exit w away f b p ds (omega (arith, le)) (omega (arith, order))
     (λ n low lt. none (suc n) (omega (arith, low)) (omega (arith, lt))))
 
-all_gone : (exit : Label → Bool) (w : Ways) → LeadsAway exit w → (ds : List Draft) (n : ℕ)
-    → has_exit_at exit (map (redirected w) ds) n ≡ false
-all_gone exit w away [] n = refl
-all_gone exit w away (d ∷ ds) zero = none_left exit w away d
-all_gone exit w away (d ∷ ds) (suc n) = all_gone exit w away ds n
+gone_between : (exit : Label → Bool) (w : Ways) → LeadsAway exit w → (from past : ℕ) (ds : List Draft) (n : ℕ) → n < past
+    → (n < from → has_exit_at exit ds n ≡ false) → has_exit_at exit (led_part from past w ds) n ≡ false
+gone_between exit w away zero zero ds n = λ lt before. absurd (omega (arith, lt))
+gone_between exit w away zero (suc p) [] n = λ lt before. refl
+gone_between exit w away zero (suc p) (d ∷ ds) zero = λ lt before. none_left exit w away d
+gone_between exit w away zero (suc p) (d ∷ ds) (suc n) = λ lt before.
+    gone_between exit w away 0 p ds n (omega (arith, lt)) (λ low. absurd (omega (arith, low)))
+gone_between exit w away (suc f) zero ds n = λ lt before. absurd (omega (arith, lt))
+gone_between exit w away (suc f) (suc p) [] n = λ lt before. refl
+gone_between exit w away (suc f) (suc p) (d ∷ ds) zero = λ lt before. before (omega arith)
+gone_between exit w away (suc f) (suc p) (d ∷ ds) (suc n) = λ lt before.
+    gone_between exit w away f p ds n (omega (arith, lt)) (λ low. before (omega (arith, low)))
 
-gone_on : (exit : Label → Bool) (w : Ways) → LeadsAway exit w → (from : ℕ) (ds : List Draft) (n : ℕ)
-    → (n < from → has_exit_at exit ds n ≡ false) → has_exit_at exit (led_on from w ds) n ≡ false
-gone_on exit w away zero ds n = λ before. all_gone exit w away ds n
-gone_on exit w away (suc f) [] n = λ before. refl
-gone_on exit w away (suc f) (d ∷ ds) zero = λ before. before (omega arith)
-gone_on exit w away (suc f) (d ∷ ds) (suc n) = λ before. gone_on exit w away f ds n (λ lt. before (omega (arith, lt)))
-
-none_comes_on : (exit : Label → Bool) (w : Ways) → ((t : Label) → exit t ≡ false → exit (redirect w t) ≡ false) → (from : ℕ)
-    (ds : List Draft) (n : ℕ) → has_exit_at exit ds n ≡ false
-    → has_exit_at exit (led_on from w ds) n ≡ false
-none_comes_on exit w brings zero [] n = λ lacks. refl
-none_comes_on exit w brings zero (d ∷ ds) zero = λ lacks. none_comes exit w brings d lacks
-none_comes_on exit w brings zero (d ∷ ds) (suc n) = λ lacks. none_comes_on exit w brings 0 ds n lacks
-none_comes_on exit w brings (suc f) [] n = λ lacks. refl
-none_comes_on exit w brings (suc f) (d ∷ ds) zero = λ lacks. lacks
-none_comes_on exit w brings (suc f) (d ∷ ds) (suc n) = λ lacks. none_comes_on exit w brings f ds n lacks
+none_comes_between : (exit : Label → Bool) (w : Ways) → ((t : Label) → exit t ≡ false → exit (redirect w t) ≡ false) → (from past : ℕ)
+    (ds : List Draft) (n : ℕ) → has_exit_at exit ds n ≡ false → has_exit_at exit (led_part from past w ds) n ≡ false
+none_comes_between exit w brings zero zero ds n = λ lacks. lacks
+none_comes_between exit w brings zero (suc p) [] n = λ lacks. refl
+none_comes_between exit w brings zero (suc p) (d ∷ ds) zero = λ lacks. none_comes exit w brings d lacks
+none_comes_between exit w brings zero (suc p) (d ∷ ds) (suc n) = λ lacks. none_comes_between exit w brings 0 p ds n lacks
+none_comes_between exit w brings (suc f) zero ds n = λ lacks. lacks
+none_comes_between exit w brings (suc f) (suc p) [] n = λ lacks. refl
+none_comes_between exit w brings (suc f) (suc p) (d ∷ ds) zero = λ lacks. lacks
+none_comes_between exit w brings (suc f) (suc p) (d ∷ ds) (suc n) = λ lacks. none_comes_between exit w brings f p ds n lacks
 
 -- what stands before a place is as it was, whatever comes behind
 as_before : (exit : Label → Bool) (at : ℕ) (ds es : List Draft) (n : ℕ) → at ≤ length ds → n < at
@@ -199,35 +252,45 @@ before_lack exit w low high from past at upto ds le within same fits before es l
           ∙ h.none n (omega (arith, above, same)) (omega (arith, lt, fits));
     }
 
--- with all others from the first place on
-pub rest_lack : (exit : Label → Bool) (w : Ways) → LeadsAway exit w → (low begin past : ℕ) (ds : List Draft) → past ≡ length ds
-    → begin ≤ past → (es : List Draft) → es ≡ led_between begin past w ds → Lacks exit low begin ds → Lacks exit low past es
-rest_lack exit w away low begin past ds is le es led h =
-    let long = ap length led ∙ led_length w begin past ds le (omega (arith, is)) in
+-- with those behind the stretch that are led elsewhere
+pub more_lack : (exit : Label → Bool) (w : Ways) → LeadsAway exit w → (low begin past : ℕ) (ds : List Draft) → begin ≤ past
+    → past ≤ length ds → (es : List Draft) → es ≡ led_between begin past w ds → Lacks exit low begin ds → Lacks exit low past es
+more_lack exit w away low begin past ds le within es is h =
+    let long = ap length is ∙ led_length w begin past ds le within in
     record {
-      within = omega (arith, is, long);
+      within = omega (arith, within, long);
       none = λ n above lt.
-          ap (λ fs. has_exit_at exit fs n) (led ∙ led_on_is w begin past ds is)
-          ∙ gone_on exit w away begin ds n (λ before. h.none n above before);
+          ap (λ fs. has_exit_at exit fs n) (is ∙ led_part_is w begin past ds le)
+          ∙ gone_between exit w away begin past ds n lt (λ before. h.none n above before);
     }
 
 -- where ways bring no such exit, those that lack it lack it still
 pub still_lack : (exit : Label → Bool) (w : Ways) → ((t : Label) → exit t ≡ false → exit (redirect w t) ≡ false) → (low high from past : ℕ)
-    (ds : List Draft) → past ≡ length ds → from ≤ past → (es : List Draft) → es ≡ led_between from past w ds → Lacks exit low high ds
+    (ds : List Draft) → from ≤ past → past ≤ length ds → (es : List Draft) → es ≡ led_between from past w ds → Lacks exit low high ds
     → Lacks exit low high es
-still_lack exit w brings low high from past ds is le es led h =
-    let within = h.within in
-    let long = ap length led ∙ led_length w from past ds le (omega (arith, is)) in
+still_lack exit w brings low high from past ds le within es is h =
+    let fits = h.within in
+    let long = ap length is ∙ led_length w from past ds le within in
     record {
-      within = omega (arith, within, long);
+      within = omega (arith, fits, long);
       none = λ n above lt.
-          ap (λ fs. has_exit_at exit fs n) (led ∙ led_on_is w from past ds is) ∙ none_comes_on exit w brings from ds n (h.none n above lt);
+          ap (λ fs. has_exit_at exit fs n) (is ∙ led_part_is w from past ds le)
+          ∙ none_comes_between exit w brings from past ds n (h.none n above lt);
     }
 
--- to lead those behind the stretch elsewhere is to lead all
-pub rest_is_all : (exit : Label → Bool) (w : Ways) → LeadsAway exit w → (low begin from past : ℕ) (ds : List Draft) → past ≡ length ds
-    → low ≤ from → from ≤ begin → Lacks exit low begin ds → led_between begin past w ds ≡ led_between from past w ds
-rest_is_all exit w away low begin from past ds is above le h =
-    led_on_is w begin past ds is
-    ∙ passed exit w away from begin ds le h.within (λ n high lt. h.none n (omega (arith, above, high)) lt)
-    ∙ sym (led_on_is w from past ds is)
+-- to lead those behind the stretch elsewhere, if there are any, is to lead all
+pub rest_is_all : (exit : Label → Bool) (w : Ways) → LeadsAway exit w → (low begin from past upto : ℕ) (ds : List Draft) → low ≤ from
+    → from ≤ begin → from ≤ past → upto ≡ max past begin → Lacks exit low begin ds
+    → led_between begin upto w ds ≡ led_between from past w ds
+rest_is_all exit w away low begin from past upto ds above le order is h =
+    led_part_is w begin upto ds (omega (arith, is)) ∙ by_order (cases_lt past begin) ∙ sym (led_part_is w from past ds order)
+  where
+    lacks : (n : ℕ) → from ≤ n → n < begin → has_exit_at exit ds n ≡ false
+    lacks n high lt = h.none n (omega (arith, above, high)) lt
+
+    by_order : (past < begin) ⊎ (begin ≤ past) → led_part begin upto w ds ≡ led_part from past w ds
+    by_order (inr behind) =
+        ap (λ n. led_part begin n w ds) (omega (arith, is, behind)) ∙ passed exit w away from begin past ds le behind lacks
+    by_order (inl before) =
+        ap (λ n. led_part begin n w ds) (omega (arith, is, before)) ∙ none_led w begin ds ∙ sym (none_led w past ds)
+        ∙ passed exit w away from past past ds order (omega arith) (λ n high lt. lacks n high (omega (arith, lt, before)))

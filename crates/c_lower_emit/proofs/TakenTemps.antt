@@ -1,16 +1,16 @@
 -- Temporaries as they are kept, and as they are seen.
-use Rattle.std.proofs.Common.{◌≡◌, ℕ, zero, suc, ◌+◌, ◌<◌, ◌≤◌, Bool, true, false, cond, List, [], ◌∷◌, ◌++◌, map, length, take, drop, set}
-use Rattle.std.proofs.Common.{get_or, not, ◌&&◌, refl, sym, ap, ◌∙◌, subst, arith}
+use Rattle.std.proofs.Common.{◌≡◌, ◌≢◌, ◌==◌, ⊎_elim, ℕ, zero, suc, ◌+◌, ◌<◌, ◌≤◌, Bool, true, false, cond, List, [], ◌∷◌, ◌++◌, map}
+use Rattle.std.proofs.Common.{length, take, drop, set, get_or, not, ◌&&◌, refl, sym, ap, ◌∙◌, subst, arith}
+use Rattle.std.proofs.lemmas.Bool.Decides.{eqb_tells}
+use Rattle.std.proofs.lemmas.List.{at_drop_more}
 use Rattle.std.proofs.lemmas.List.Elements.{All-nil, All-cons, All-head, All-tail}
 use Rattle.shape_data.specs.declared.program.Ty.{Ty}
 use Rattle.c_lower_rules.specs.Temporaries.{Taken, is_free, behind_temp, take_temp, released}
 use Rattle.c_lower_emit.specs.declared.temps.Temp.{Temp}
+use Rattle.c_types_names.specs.Seen.{type_seen}
 use Rattle.c_lower_emit.specs.Seen.{temp_seen}
-use Rattle.c_lower_emit.specs.UsedTemps.{AreUsed}
+use Rattle.c_lower_emit.specs.KeptTemps.{AreUsed, unused}
 use Rattle.c_types_rules.specs.Types.{same_type}
-
-abbrev pub unused : Temp → Temp
-unused temp = record temp { used = false }
 
 abbrev pub in_use : Temp → Temp
 in_use temp = record temp { used = true }
@@ -141,3 +141,39 @@ used_pushed_more (suc n) [] temp used at all = absurd (omega (arith, at))
 used_pushed_more (suc n) (first ∷ others) temp used at all =
     All-cons Used first (take (suc n) (others ++ temp ∷ [])) (All-head Used first (take n others) all)
     (used_pushed_more n others temp used (omega (arith, at)) (All-tail Used first (take n others) all))
+
+-- ONE AFTER ANOTHER IS LOOKED AT
+
+-- the temporary is free, and so is taken
+pub taken_here : (kind : Ty) (temps : List Temp) (place : ℕ) (temp : Temp) → place < length temps → temp ≡ get_or temps place temp
+    → is_free kind (temp_seen temp) ≡ true → (take_temp kind (map temp_seen (drop place temps))).place ≡ 0
+taken_here kind temps place temp lt is free =
+    at_drop_more (λ ts. (take_temp kind (map temp_seen ts)).place) temps place temp lt
+    ∙ ap (λ t. (take_temp kind (map temp_seen (t ∷ drop (place + 1) temps))).place) (sym is)
+    ∙ ap (λ b. (found kind temp (drop (place + 1) temps) b).place) free
+
+-- it is not, and is passed over
+pub taken_later : (kind : Ty) (temps : List Temp) (place : ℕ) (temp : Temp) → place < length temps → temp ≡ get_or temps place temp
+    → is_free kind (temp_seen temp) ≡ false
+    → (take_temp kind (map temp_seen (drop place temps))).place ≡ suc (take_temp kind (map temp_seen (drop (place + 1) temps))).place
+taken_later kind temps place temp lt is busy =
+    at_drop_more (λ ts. (take_temp kind (map temp_seen ts)).place) temps place temp lt
+    ∙ ap (λ t. (take_temp kind (map temp_seen (t ∷ drop (place + 1) temps))).place) (sym is)
+    ∙ ap (λ b. (found kind temp (drop (place + 1) temps) b).place) busy
+
+-- whether it is, by the place of the first of its type
+module _ (kind : Ty) (first : ℕ) (temp : Temp) (tells : (temp.first == first) ≡ same_type (type_seen temp.kind) kind) where
+  pub free_if : temp.first ≡ first → temp.used ≡ false → is_free kind (temp_seen temp) ≡ true
+  free_if same unused =
+      let like : same_type (type_seen temp.kind) kind ≡ true =
+      sym tells ∙ ⊎_elim (λ t. t.0) (λ t. absurd (t.1 same)) (eqb_tells temp.first first) in
+      ap (λ b. b && not temp.used) like ∙ ap not unused
+
+  pub busy_if_used : temp.used ≡ true → is_free kind (temp_seen temp) ≡ false
+  busy_if_used used = and_not_used (same_type (type_seen temp.kind) kind) temp.used used
+
+  pub busy_if_other : temp.first ≢ first → is_free kind (temp_seen temp) ≡ false
+  busy_if_other apart =
+      let other : same_type (type_seen temp.kind) kind ≡ false =
+      sym tells ∙ ⊎_elim (λ t. absurd (apart t.1)) (λ t. t.0) (eqb_tells temp.first first) in
+      ap (λ b. b && not temp.used) other

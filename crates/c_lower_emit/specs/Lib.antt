@@ -1,6 +1,8 @@
 pub mod Drafts
 pub mod OpenPlaces
+pub mod Stretches
 pub mod VisibleSlots
 pub mod Seen
 pub mod Emitting
-pub mod UsedTemps
+pub mod KeptTemps
+pub mod FirstOfKind

@@ -1,6 +1,7 @@
 //! Drafts in a row. Most have no exit left that is open, and a redirection passes over these: the places of the others are kept beside
-//! the drafts. Of tests that are joined by `&&`, each keeps the exit open where it fails, long after the one where it holds leads to the
-//! test behind it: so a stretch of drafts is known that have no exit of the one kind, and one of drafts that have none of the other.
+//! the drafts. A test of a chain of `&&` keeps `Fails` open to the chain's end, while `Holds` is led on at once, and a statement before a
+//! `break` keeps `Breaks` open to the loop's end, while `Next` is led on at once; so it is remembered from where to where no draft has
+//! `Holds`, none has `Fails`, and none has `Next`.
 ghost use Rattle.std.specs.Prelude.{
   ◌≡◌,
   ℕ,
@@ -23,8 +24,9 @@ ghost use Rattle.std.specs.Prelude.{
 ghost use Rattle.c_lower_emit.specs.declared.drafts.Draft.{Draft};
 ghost use Rattle.c_lower_emit.specs.declared.drafts.Label.{Label};
 ghost use Rattle.c_lower_emit.specs.declared.drafts.Label.TheVariants.{At};
-ghost use Rattle.c_lower_emit.specs.Drafts.{as_they_are, led_between};
-ghost use Rattle.c_lower_emit.specs.OpenPlaces.{open_places, is_open_at, led_at_each, Lacks, LeadsAway};
+ghost use Rattle.c_lower_emit.specs.Drafts.{as_they_are, next_at, led_between};
+ghost use Rattle.c_lower_emit.specs.OpenPlaces.{open_places, is_open_at, led_at_each};
+ghost use Rattle.c_lower_emit.specs.Stretches.{Lacks, LeadsAway};
 
 use crate::drafts::{AS_THEY_ARE, Draft, Label, Ways};
 use std::alloc::{AllocError, Global};
@@ -37,28 +39,33 @@ struct Stretch {
     past: usize,
 }
 
-/// Drafts, and the places of those that have an exit that is still open, in rising order; some that have no exit `Holds`, and some that
-/// have no exit `Fails`.
+/// Drafts, and the places of those that have an exit that is still open, in rising order; some that have no exit `Holds`, some that have
+/// no exit `Fails`, and some that have no exit `Next`.
 #[derive(Drop)]
 pub struct DraftList {
     drafts: Vec<Draft>,
     open_at: Vec<usize>,
     without_holds: Stretch,
     without_fails: Stretch,
+    without_next: Stretch,
 }
 
 impl Model for DraftList {
     ghost use Rattle.std.specs.Prelude.{◌≡◌, List};
     ghost use Rattle.c_lower_emit.specs.declared.drafts.Draft.{Draft};
-    ghost use Rattle.c_lower_emit.specs.OpenPlaces.{open_places, is_holds, is_fails, Lacks};
+    ghost use Rattle.c_lower_emit.specs.OpenPlaces.{open_places};
+    ghost use Rattle.c_lower_emit.specs.Stretches.{is_holds, is_fails, is_next, Lacks};
 
     ghost Value = { List Draft };
 
     ghost view = { λ l. l.drafts.items };
 
-    ghost invariant = { λ l. (l.open_at.items ≡ open_places 0 l.drafts.items)
-        × Lacks is_holds l.without_holds.from l.without_holds.past l.drafts.items
-        × Lacks is_fails l.without_fails.from l.without_fails.past l.drafts.items };
+    ghost invariant = { λ l. record {
+      listed : l.open_at.items ≡ open_places 0 l.drafts.items;
+      holds : Lacks is_holds l.without_holds.from l.without_holds.past l.drafts.items;
+      fails : Lacks is_fails l.without_fails.from l.without_fails.past l.drafts.items;
+      next : Lacks is_next l.without_next.from l.without_next.past l.drafts.items;
+    } };
 }
 
 /// No drafts.
@@ -178,26 +185,28 @@ fn redirect_between(
     redirect_open(drafts, open_at, first, behind, ways);
 }
 
-/// Leads an exit of all drafts from a place on elsewhere, and gives a stretch of drafts that lack it then. Those of `without` lack it
-/// already: where they go on up to the place, only the drafts behind them are looked at.
+/// Leads an exit of the drafts from one place to another elsewhere, and gives a stretch of drafts that lack it then. Those of `without`
+/// lack it already: where they go on up to the first place, only the drafts behind them are looked at.
 fn lead_rest(
     drafts: &mut Vec<Draft>,
     open_at: &mut Vec<usize>,
     without: Stretch,
     from: usize,
+    past: usize,
     ways: Ways,
 ) -> Stretch
-    requires from { from ≤ length drafts.old.items }
-    requires within { without.past ≤ length drafts.old.items }
+    requires order { from ≤ past }
+    requires within { past ≤ length drafts.old.items }
+    requires without { without.past ≤ length drafts.old.items }
     requires listed { open_at.old.items ≡ open_places 0 drafts.old.items }
     ensures drafts { (exit : Label → Bool) → LeadsAway exit ways → Lacks exit without.from without.past drafts.old.items
-        → drafts.new.items ≡ led_between from (length drafts.old.items) ways drafts.old.items }
+        → drafts.new.items ≡ led_between from past ways drafts.old.items }
     ensures listed { open_at.new.items ≡ open_places 0 drafts.new.items }
     ensures without { (exit : Label → Bool) → LeadsAway exit ways → Lacks exit without.from without.past drafts.old.items
         → Lacks exit result.from result.past drafts.new.items }
 {
-    let past = drafts.len();
     let known = without.up_to(from);
+    let past = past.max(known.past);
     redirect_between(drafts, open_at, known.past, past, ways);
     Stretch { past, ..known }
 }
@@ -212,6 +221,7 @@ impl DraftList {
             open_at: Vec::new(alloc),
             without_holds: NONE,
             without_fails: NONE,
+            without_next: NONE,
         }
     }
 
@@ -254,6 +264,7 @@ impl DraftList {
         redirect_between(&mut self.drafts, &mut self.open_at, from, past, ways);
         self.without_holds = self.without_holds.before(from);
         self.without_fails = self.without_fails.before(from);
+        self.without_next = self.without_next.before(from);
     }
 
     /// Leads the tests from a place on to the other place where they hold. Its cost is the number of drafts with an open exit from that
@@ -266,12 +277,14 @@ impl DraftList {
             holds: Label::At(to),
             ..AS_THEY_ARE
         };
-        let from = from.min(self.drafts.len());
+        let past = self.drafts.len();
+        let from = from.min(past);
         self.without_holds = lead_rest(
             &mut self.drafts,
             &mut self.open_at,
             self.without_holds,
             from,
+            past,
             ways,
         );
     }
@@ -285,13 +298,43 @@ impl DraftList {
             fails: Label::At(to),
             ..AS_THEY_ARE
         };
-        let from = from.min(self.drafts.len());
+        let past = self.drafts.len();
+        let from = from.min(past);
         self.without_fails = lead_rest(
             &mut self.drafts,
             &mut self.open_at,
             self.without_fails,
             from,
+            past,
             ways,
         );
+    }
+
+    /// The pieces from one place to another go on where what follows begins. Its cost is the number of drafts with an open exit from the
+    /// first place on. Where the last such call began there, too, only those count from the place on up to which that call led them, or
+    /// from the first one on that was redirected since.
+    pub fn lead_next(&mut self, from: usize, past: usize, begin: Label)
+        ensures { from ≤ past → past ≤ length self.old → self.new ≡ led_between from past (next_at begin) self.old }
+    {
+        // These exits lead there already: nothing changes, so no draft is looked at, however many there are.
+        if let Label::Next = begin {
+            return;
+        }
+        let ways = Ways {
+            next: begin,
+            ..AS_THEY_ARE
+        };
+        let past = past.min(self.drafts.len());
+        let from = from.min(past);
+        self.without_next = lead_rest(
+            &mut self.drafts,
+            &mut self.open_at,
+            self.without_next,
+            from,
+            past,
+            ways,
+        );
+        self.without_holds = self.without_holds.before(from);
+        self.without_fails = self.without_fails.before(from);
     }
 }

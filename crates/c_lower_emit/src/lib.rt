@@ -4,6 +4,7 @@
 
 pub mod draft_list;
 pub mod drafts;
+mod first_of_kind;
 pub mod loops;
 pub mod output;
 pub mod temps;

@@ -8,7 +8,7 @@ ghost use Rattle.c_lower_emit.specs.Drafts.{as_they_are, next_at};
 ghost use Rattle.c_lower_emit.specs.declared.drafts.Label.TheVariants.{At};
 
 use crate::draft_list::DraftList;
-use crate::drafts::{AS_THEY_ARE, Draft, Label, Ways};
+use crate::drafts::{Draft, Label, Ways};
 use crate::loops::Loop;
 use crate::temps::{Temp, Temps};
 use crate::visible_slots::VisibleSlots;
@@ -105,7 +105,8 @@ impl<'a> Output<'a> {
     }
 
     /// The test that begins at a place goes on at the next node where it holds. For a chain of tests that begin there and are led on so one
-    /// after another, each with the first node of the one behind it, the cost of all is the number of their nodes.
+    /// after another, each with the first node of the one behind it, the cost of all is the number of their nodes; but where an operand has
+    /// a chain of its own behind its first node, all is looked at again.
     pub fn lead_holds(&mut self, from: usize)
         ensures { from ≤ length self.old.nodes → length self.old.nodes < 4294967296
             → self.new ≡ led_out from (length self.old.nodes) (record as_they_are { holds = At (length self.old.nodes) }) self.old }
@@ -127,15 +128,7 @@ impl<'a> Output<'a> {
     pub fn lead_next(&mut self, from: usize, past: usize, begin: Label)
         ensures { from ≤ past → past ≤ length self.old.nodes → self.new ≡ led_out from past (next_at begin) self.old }
     {
-        // These exits lead there already: nothing changes, so no piece is looked at, however many there are.
-        if let Label::Next = begin {
-            return;
-        }
-        let ways = Ways {
-            next: begin,
-            ..AS_THEY_ARE
-        };
-        self.redirect(from, past, ways);
+        self.nodes.lead_next(from, past, begin);
     }
 
     /// How many loops there are.

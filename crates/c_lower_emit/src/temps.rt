@@ -1,26 +1,32 @@
 //! The temporaries of a procedure: which are there, and which the statement or condition at hand has used.
-ghost use Rattle.std.specs.Prelude.{◌≡◌, ◌<◌, ◌≤◌, ◌+◌, [], OnOk, IfOk, length, map, take};
-ghost use Rattle.c_lower_rules.specs.Temporaries.{is_free, take_temp, released};
+ghost use Rattle.std.specs.Prelude.{◌≡◌, ◌==◌, ◌≤◌, ◌+◌, ◌++◌, ◌∷◌, [], All, OnOk, OnErr, IfOk, length, map, true};
+ghost use Rattle.shape_data.specs.declared.program.Ty.{Ty};
+ghost use Rattle.c_types_rules.specs.Types.{same_type};
+ghost use Rattle.c_lower_rules.specs.Temporaries.{take_temp, released};
 ghost use Rattle.c_types_names.specs.Seen.{type_seen};
 ghost use Rattle.c_lower_emit.specs.Seen.{temp_seen};
-ghost use Rattle.c_lower_emit.specs.UsedTemps.{AreUsed};
+ghost use Rattle.c_lower_emit.specs.KeptTemps.{AreFirst, IsKept, first_like, unused};
 
-use c_types_names::kinds::{CType, may_agree};
+use crate::first_of_kind::FirstOfKind;
+use c_types_names::kinds::CType;
 use std::alloc::{AllocError, Global};
 use std::marker::Model;
 
-/// A temporary: its type, and whether the statement or condition at hand has used it.
+/// A temporary: its type, whether the statement or condition at hand has used it, and the place of the first temporary of the type, by
+/// which temporaries of one type are told from others.
 #[derive(Clone, Copy)]
 pub struct Temp<'a> {
     pub kind: CType<'a>,
     pub used: bool,
+    pub first: usize,
 }
 
-/// Temporaries in the order in which they were first needed. Those before a place are known to be used, so that none of them is looked at
-/// again before all are released.
+/// Temporaries in the order in which they were first needed, with the place of the first one of each type. Those before a place are known
+/// to be used, so that none of them is looked at again before all are released.
 #[derive(Drop)]
 pub struct Temps<'a> {
     all: Vec<Temp<'a>>,
+    firsts: FirstOfKind<'a>,
     used_before: usize,
 }
 
@@ -28,64 +34,84 @@ impl<'a> Model for Temps<'a> {
     ghost use Rattle.std.specs.Prelude.{List, map};
     ghost use Rattle.c_lower_rules.specs.Temporaries.{Temp};
     ghost use Rattle.c_lower_emit.specs.Seen.{temp_seen};
-    ghost use Rattle.c_lower_emit.specs.UsedTemps.{IsUsedBefore};
+    ghost use Rattle.c_lower_emit.specs.KeptTemps.{IsKept};
 
     ghost Value = { List Temp };
 
     ghost view = { λ t. map temp_seen t.all.items };
 
-    ghost invariant = { λ t. IsUsedBefore t.used_before t.all.items };
+    ghost invariant = { λ t. IsKept t.firsts t.used_before t.all.items };
 }
 
-/// Whether the temporary is of the type, and not used.
-fn is_free(kind: CType, temp: Temp) -> bool
-    ensures { result ≡ is_free (type_seen kind.entry) (temp_seen temp.entry) }
-{
-    // (types are compared by their names, so what is used is passed over first)
-    !temp.used && may_agree(Some(temp.kind), Some(kind))
-}
-
-/// The place of the first temporary of the type that is not used, or else behind all.
-fn place_of_free(temps: &[Temp], kind: CType) -> usize
+/// The place of the first temporary of a type that is not used, or else behind all. Of that type are those whose first one stands there.
+fn place_of_free(temps: &[Temp], first: usize) -> usize
     ensures within { result ≤ length temps.now }
-    ensures place { result ≡ (take_temp (type_seen kind.entry) (map temp_seen temps.now)).place }
+    ensures place { (kind : Ty) → All (λ temp. (temp.first == first) ≡ same_type (type_seen temp.kind) kind) temps.now
+        → result ≡ (take_temp kind (map temp_seen temps.now)).place }
 {
     for (place, temp) in temps.iter().enumerate() {
-        if is_free(kind, *temp) {
+        if temp.first == first && !temp.used {
             return place;
         }
     }
     temps.len()
 }
 
+/// Adds a temporary of the type that is used. The place of the first one is `first`, if there is one, else it is behind all.
+fn add_used<'a>(
+    temps: &mut Vec<Temp<'a>>,
+    firsts: &mut FirstOfKind<'a>,
+    kind: CType<'a>,
+    first: usize,
+) -> Result<(), AllocError>
+    requires firsts { AreFirst firsts.old temps.old.items }
+    requires first { first ≡ first_like (type_seen kind) temps.old.items }
+    ensures more { OnOk result (temps.new.items ≡ temps.old.items ++ record { kind = kind.entry; used = true; first = first } ∷ []) }
+    ensures same { OnErr result (temps.new.items ≡ temps.old.items) }
+    ensures firsts { AreFirst firsts.new temps.new.items }
+{
+    temps.reserve(1)?;
+    if first == temps.len() {
+        firsts.set(kind, first)?;
+    }
+    temps
+        .push(Temp {
+            kind,
+            used: true,
+            first,
+        })
+        .unwrap();
+    Ok(())
+}
+
 /// Takes the first temporary of the type that is not used, or else a new one, and gives its place. All before `from` are used.
 fn take_one<'a>(
     temps: &mut Vec<Temp<'a>>,
+    firsts: &mut FirstOfKind<'a>,
     from: usize,
     kind: CType<'a>,
 ) -> Result<usize, AllocError>
-    requires within { from ≤ length temps.old.items }
-    requires used { AreUsed (take from temps.old.items) }
+    requires { IsKept firsts.old from temps.old.items }
     ensures temps { OnOk result (map temp_seen temps.new.items ≡ (take_temp (type_seen kind.entry) (map temp_seen temps.old.items)).temps) }
     ensures place { IfOk result (λ place. place ≡ (take_temp (type_seen kind.entry) (map temp_seen temps.old.items)).place) }
     ensures within { IfOk result (λ place. place ≤ length temps.old.items) }
-    ensures more { IfOk result (λ place. place < length temps.new.items) }
-    ensures long { length temps.old.items ≤ length temps.new.items }
-    ensures kept { AreUsed (take from temps.new.items) }
-    ensures used { IfOk result (λ place. place ≡ from → AreUsed (take (from + 1) temps.new.items)) }
+    ensures kept { IsKept firsts.new from temps.new.items }
+    ensures used { IfOk result (λ place. place ≡ from → IsKept firsts.new (from + 1) temps.new.items) }
 {
-    let place = from + place_of_free(&temps[from..], kind);
+    let first = firsts.get(kind).unwrap_or(temps.len());
+    let place = from + place_of_free(&temps[from..], first);
     if place < temps.len() {
         temps[place].used = true;
     } else {
-        temps.push(Temp { kind, used: true })?;
+        add_used(temps, firsts, kind, first)?;
     }
     Ok(place)
 }
 
 /// Releases all temporaries.
 fn release_all(temps: &mut Vec<Temp>)
-    ensures { map temp_seen temps.new.items ≡ released (map temp_seen temps.old.items) }
+    ensures seen { map temp_seen temps.new.items ≡ released (map temp_seen temps.old.items) }
+    ensures all { temps.new.items ≡ map unused temps.old.items }
 {
     for place in 0..temps.len() {
         temps[place].used = false;
@@ -99,6 +125,7 @@ impl<'a> Temps<'a> {
     {
         Temps {
             all: Vec::new(alloc),
+            firsts: FirstOfKind::new(alloc),
             used_before: 0,
         }
     }
@@ -116,7 +143,7 @@ impl<'a> Temps<'a> {
         ensures place { IfOk result (λ place. place ≡ (take_temp (type_seen kind.entry) self.old).place) }
         ensures within { IfOk result (λ place. place ≤ length self.old) }
     {
-        let place = take_one(&mut self.all, self.used_before, kind)?;
+        let place = take_one(&mut self.all, &mut self.firsts, self.used_before, kind)?;
         if place == self.used_before {
             self.used_before += 1;
         }

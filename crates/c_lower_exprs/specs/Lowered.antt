@@ -31,7 +31,7 @@ IsCalled used c callee operands first before old new found =
     (args : List Lowering) → EmitsArguments (arguments (no_arguments before.temps) args) first before old operands
     → IsLowered used (called c callee args) first before new found
 
--- the test that begins at a place leads to what comes next where it holds, or where it doesn't hold
+-- the test that begins at a place leads to what comes next where it holds
 abbrev pub LeadsWhereHolds : ℕ → Out → Out → Type 0
 LeadsWhereHolds from old new =
     from ≤ length old.nodes → length old.nodes < 4294967296

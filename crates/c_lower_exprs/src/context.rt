@@ -1,5 +1,5 @@
 //! What the names of a body mean at a place of it.
-ghost use Rattle.std.specs.Prelude.{◌≡◌, ◌≤◌, ◌<◌, ◌+◌, ◌-◌, map, length, OnOk, IfOk};
+ghost use Rattle.std.specs.Prelude.{◌≡◌, ◌≤◌, ◌<◌, ◌+◌, ◌-◌, length, OnOk, IfOk};
 ghost use Rattle.c_types_rules.specs.Scopes.{variable};
 ghost use Rattle.c_types_rules.specs.Expressions.{kind_of_variable};
 ghost use Rattle.c_types_rules.specs.Programs.{known};

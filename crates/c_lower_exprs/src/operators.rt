@@ -13,8 +13,6 @@ ghost use Rattle.c_lower_exprs.specs.Lowered.{
   IsCompared,
   IsBoth,
   IsEither,
-  LeadsWhereHolds,
-  LeadsWhereFails,
 };
 
 use crate::members::{Found, tag_of};
@@ -107,20 +105,6 @@ pub fn compared<'a>(
         kind: CType::Int,
         operand,
     })
-}
-
-/// Leads the test that begins at a place to what comes next where it holds.
-pub fn lead_where_holds(from: usize, out: &mut Output)
-    ensures { LeadsWhereHolds from out.old out.new }
-{
-    out.lead_holds(from);
-}
-
-/// Leads the test that begins at a place to what comes next where it doesn't hold.
-pub fn lead_where_fails(from: usize, out: &mut Output)
-    ensures { LeadsWhereFails from out.old out.new }
-{
-    out.lead_fails(from);
 }
 
 /// What two tests give of which the second stands behind where the first holds, as [`compared`] does.

@@ -11,10 +11,7 @@ ghost use Rattle.c_lower_exprs.specs.Lowered.{IsLowered, EmitsArguments};
 ghost use Rattle.c_lower_exprs.specs.Operators.{binary_of};
 
 use crate::members::{Found, members};
-use crate::operators::{
-    arithmetic, both, called, compared, either, lead_where_fails, lead_where_holds, negated,
-    negation, new,
-};
+use crate::operators::{arithmetic, both, called, compared, either, negated, negation, new};
 use crate::site::Site;
 use c_lower_emit::output::Output;
 use c_lower_emit::uses::Use;
@@ -176,7 +173,7 @@ fn chain<'a>(
             let to = out.begin_truth(site.spot(), used)?;
             let from = out.len();
             chain(site, first, links, last, Use::Test, out)?;
-            lead_where_holds(from, out);
+            out.lead_holds(from);
             lower(site, &links[last].operand, Use::Test, out)?;
             both(site, to, from, used, out)
         }
@@ -184,7 +181,7 @@ fn chain<'a>(
             let to = out.begin_truth(site.spot(), used)?;
             let from = out.len();
             chain(site, first, links, last, Use::Test, out)?;
-            lead_where_fails(from, out);
+            out.lead_fails(from);
             lower(site, &links[last].operand, Use::Test, out)?;
             either(site, to, from, used, out)
         }

@@ -3,7 +3,6 @@ use c_lower_emit::loops::Loop;
 use c_lower_emit::visible_slots::VisibleSlots;
 use c_lower_marks::mark;
 use shape_data::program::{Cmd, Node, Operand, TestOp, Ty};
-use std::alloc::Global;
 use std::rt::HostRuntime;
 use std::test::Fail;
 

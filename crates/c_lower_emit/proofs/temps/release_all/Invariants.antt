@@ -1,5 +1,5 @@
 use Rattle.std.proofs.Common.{◌≡◌, ◌++◌, map, take, drop}
-use Rattle.c_lower_emit.proofs.TakenTemps.{unused}
+use Rattle.c_lower_emit.specs.KeptTemps.{unused}
 use Rattle.c_lower_emit.proofs.temps.release_all.Given as goal
 
 abbrev pub invariant-loop-place : goal.invariant-loop-place

@@ -115,10 +115,10 @@ chain-returns-in_ok-lower-in-Both t c =
     (sym (chain_is c.args.links.now.items c.args.count c.if-count-eq0.false c.requires ctx before c.index.result.now
     c.index-in-Both.result.now c.index.ensures c.index-in-Both.ensures
     ∙ c.in-Both.ensures ctx some last))
-    (is some last c.args.out.now c.begin_truth-in-Both.new.self c.chain-in-Both.new.out c.lead_where_holds.new.out
+    (is some last c.args.out.now c.begin_truth-in-Both.new.self c.chain-in-Both.new.out c.lead_holds.new.self
     (subst (λ f. BeginsTruth c.args.used f c.args.out.now c.begin_truth-in-Both.new.self c.in_ok-to-in-Both.to)
     c.spot-in-Both.ensures.first_temp c.in_ok-to-in-Both.ensures) c.len-from-in-Both.ensures
-    (c.in_ok-chain-in-Both.ensures first links).emits c.lead_where_holds.ensures
+    (c.in_ok-chain-in-Both.ensures first links).emits c.lead_holds.ensures
     (c.in_ok-lower-in-Both.ensures
     (operand_numbers c.args.links.now.items c.args.count c.if-count-eq0.false c.requires c.index-in-Both.result.now c.index-in-Both.ensures
     links)).emits)) c.both.ensures
@@ -134,10 +134,10 @@ chain-returns-in_ok-lower-in-Either t c =
     (sym (chain_is c.args.links.now.items c.args.count c.if-count-eq0.false c.requires ctx before c.index.result.now
     c.index-in-Either.result.now c.index.ensures c.index-in-Either.ensures
     ∙ c.in-Either.ensures ctx some last))
-    (is some last c.args.out.now c.begin_truth-in-Either.new.self c.chain-in-Either.new.out c.lead_where_fails.new.out
+    (is some last c.args.out.now c.begin_truth-in-Either.new.self c.chain-in-Either.new.out c.lead_fails.new.self
     (subst (λ f. BeginsTruth c.args.used f c.args.out.now c.begin_truth-in-Either.new.self c.in_ok-to-in-Either.to)
     c.spot-in-Either.ensures.first_temp c.in_ok-to-in-Either.ensures) c.len-from-in-Either.ensures
-    (c.in_ok-chain-in-Either.ensures first links).emits c.lead_where_fails.ensures
+    (c.in_ok-chain-in-Either.ensures first links).emits c.lead_fails.ensures
     (c.in_ok-lower-in-Either.ensures
     (operand_numbers c.args.links.now.items c.args.count c.if-count-eq0.false c.requires c.index-in-Either.result.now
     c.index-in-Either.ensures links)).emits)) c.either.ensures
