@@ -2,6 +2,7 @@ pub mod Marking
 pub mod Walk
 pub mod Naming
 pub mod Sorting
+pub mod NameOrder
 pub mod Grouped
 pub mod Graphs
 pub mod Searched

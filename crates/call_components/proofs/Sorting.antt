@@ -1,25 +1,20 @@
 -- A sorted list of numbers is the one that the definition gives by putting one number in after the other.
-use Rattle.std.proofs.Common.{Ordering, ◌≡◌, ◌≢◌, ℕ, zero, suc, ◌+◌, ◌<◌, ◌≤◌, ◌==◌, nat_lt, nat_eq, Bool, true, false, cond, List, [], ◌∷◌}
-use Rattle.std.proofs.Common.{◌++◌, length, get_or, Some, None, Result, Ok, Err, ◌⊎◌, inl, inr, refl, sym, ap, ◌∙◌, subst, arith, All}
-use Rattle.std.specs.Prelude.{⊤, if◌then◌else◌, slice_index_or, position, MatchResult}
+use Rattle.std.proofs.Common.{Ordering, ◌≡◌, ℕ, zero, suc, ◌+◌, ◌<◌, ◌≤◌, ◌==◌, Bool, true, false, cond, List, [], ◌∷◌}
+use Rattle.std.proofs.Common.{◌++◌, length, get_or, refl, sym, ap, ◌∙◌, arith, All, AllPairs}
+use Rattle.std.specs.Prelude.{⊤, if◌then◌else◌, slice_index_or}
 use Rattle.std.specs.Ordering.{nat_cmp, is_lt, is_gt, ordering_reverse, ordering_then, MatchOrdering}
 use Rattle.std.specs.declared.cmp.Ordering.TheVariants.{Less, Equal, Greater}
 use Rattle.std.specs.Cmp.{IsTotalOrder, IsStrictWeakOrder}
-use Rattle.std.specs.Cmp.Lexicographic.{pointwise, slice_cmp, bytes_decides}
-use Rattle.std.specs.List.{Contains, position_or_len, sum_by}
-use Rattle.std.specs.List.Sorted.{IsBinarySearchResult, IsPartitionPoint, IsPermutation, IsSearchInRange, IsSortedBy}
-use Rattle.std.proofs.lemmas.Bool.{cases_lt}
-use Rattle.std.proofs.lemmas.Bool.Decides.{Decides-eqb, Decides-ltb}
+use Rattle.std.specs.Cmp.Lexicographic.{slice_cmp}
+use Rattle.std.specs.List.{Contains, sum_by}
+use Rattle.std.specs.List.Sorted.{IsPermutation, IsSortedBy}
+use Rattle.std.proofs.lemmas.Bool.Decides.{Decides-eqb}
 use Rattle.std.proofs.lemmas.Cmp.{ranked, upto, tied_itself, nat_cmp_total, nat_list_cmp_total, on_total, then_total}
 use Rattle.std.proofs.lemmas.List.Elements.{All-nil, All-cons, All-tail, All-weaker, All-contains}
-use Rattle.std.proofs.lemmas.List.Sorted.{ranks_by, searchable_from_sorted, sorted_far, sum_by-IsPermutation}
-use Rattle.std.proofs.lemmas.List.Sums.{position_or_len_is, sum_by-cons, sum_by_push}
-use Rattle.std.proofs.lemmas.Map.Lookups.{exact_bytes}
-use Rattle.std.proofs.lemmas.Option.{get_or_from_slice_get, slice_get_within, slice_get-get_or}
+use Rattle.std.proofs.lemmas.List.Sorted.{ranks_by, sorted_far, sum_by-IsPermutation}
+use Rattle.std.proofs.lemmas.List.Sums.{sum_by-cons, sum_by_push}
 use Rattle.component_keys.specs.Components.{in_name_order, by_name}
-use Rattle.component_keys.proofs.Ordered.{held_at}
-use Rattle.component_keys.proofs.Whole.{by_name_holds}
-use Rattle.call_components.specs.Sorting.{AreApart, name_rank, below}
+use Rattle.call_components.specs.Sorting.{name_rank, below}
 use Rattle.call_components.proofs.Naming.{is_before, All-put, by_name_below}
 
 turned : (r : Ordering) → is_lt (ordering_reverse r) ≡ is_gt r
@@ -41,37 +36,6 @@ second_equal : (r s : Ordering) → ordering_then r s ≡ Equal → s ≡ Equal
 second_equal Less s e = cc
 second_equal Equal s e = e
 second_equal Greater s e = cc
-
-first_not_less : (r s : Ordering) → is_lt (ordering_then r s) ≡ false → is_lt r ≡ false
-first_not_less Less s e = cc
-first_not_less Equal s e = refl
-first_not_less Greater s e = refl
-
-not_less : (k place : ℕ) → nat_lt k place ≡ false → place ≤ k
-not_less k place e = by_order (cases_lt k place)
-  where
-    by_order : (k < place) ⊎ (place ≤ k) → place ≤ k
-    by_order (inl lt) = let t : nat_lt k place ≡ true = (Decides-ltb k place).1 lt in let never : true ≡ false = sym t ∙ e in cc
-    by_order (inr le) = le
-
--- ---- the first that passes a test
-
-position_some : (p : List ℕ → Bool) (xs : List (List ℕ)) (place : ℕ) → place < length xs → p (get_or xs place []) ≡ true →
-    ((k : ℕ) → k < place → p (get_or xs k []) ≡ false) → position p xs ≡ Some place
-position_some p xs place lt passes before =
-    let e : position_or_len p xs ≡ place = position_or_len_is p xs place [] (omega (arith, lt)) before (λ less. passes) in
-    let t : nat_lt place (length xs) ≡ true = (Decides-ltb place (length xs)).1 lt in
-    rw (e, t) refl
-
-position_none : (p : List ℕ → Bool) (xs : List (List ℕ)) → ((k : ℕ) → k < length xs → p (get_or xs k []) ≡ false) → position p xs ≡ None
-position_none p xs none =
-    let e : position_or_len p xs ≡ length xs =
-    position_or_len_is p xs (length xs) [] (omega arith) none (λ less. absurd (omega (arith, less))) in
-    ap (λ n. cond (nat_lt n (length xs)) (Some n) None) e ∙ not_below (nat_lt (length xs) (length xs)) refl
-  where
-    not_below : (b : Bool) → nat_lt (length xs) (length xs) ≡ b → cond b (Some (length xs)) None ≡ None
-    not_below true t = let less : length xs < length xs = (Decides-ltb (length xs) (length xs)).0 t in absurd (omega (arith, less))
-    not_below false t = refl
 
 less_number : (x y : ℕ) (r : Ordering) → MatchOrdering r (x < y) (x ≡ y) (y < x) → x < y → is_gt r ≡ false
 less_number x y Less h lt = refl
@@ -115,14 +79,14 @@ module _ (names : List (List ℕ)) where
   abbrev rank : ℕ → ℕ → Ordering
   rank = name_rank names
 
-  total : IsTotalOrder (name_rank names)
+  pub total : IsTotalOrder (name_rank names)
   total = then_total (on_total (λ number. slice_index_or names number []) nat_list_cmp_total) nat_cmp_total
 
   pub ranks_numbers : IsStrictWeakOrder (λ one other. is_lt (name_rank names one other))
   ranks_numbers = ranks_by total (λ number. number)
 
   -- the one stands before the other, or is the same
-  abbrev IsUpTo : ℕ → ℕ → Type 0
+  abbrev pub IsUpTo : ℕ → ℕ → Type 0
   IsUpTo one other = is_gt (rank one other) ≡ false
 
   alike : (one other : ℕ) → IsUpTo one other → IsUpTo other one → one ≡ other
@@ -238,86 +202,12 @@ module _ (names : List (List ℕ)) where
       (rising_from after (sorted_far (λ one other. is_lt (name_rank names one other)) ranks_numbers after sorted)) (by_name_rising n)
       (λ x. sum_by-IsPermutation (own x) before after moved ∙ ap (times x) is ∙ sym (times_by_name x n))
 
-  -- ---- a name is looked up in the order
-
   rising_pairs : (xs : List ℕ) → IsRising xs → (i j d : ℕ) → i < j → j < length xs → IsUpTo (get_or xs i d) (get_or xs j d)
   rising_pairs [] rising i j d lt less = absurd (omega (arith, less))
   rising_pairs (x ∷ xs) rising i zero d lt less = absurd (omega (arith, lt))
   rising_pairs (x ∷ xs) rising zero (suc j) d lt less = rising.0 j d (omega (arith, less))
   rising_pairs (x ∷ xs) rising (suc i) (suc j) d lt less = rising_pairs xs rising.1 i j d (omega (arith, lt)) (omega (arith, less))
 
-  by_name_sorted : (n : ℕ) →
-      IsSortedBy (λ one other. is_lt (slice_cmp nat_cmp (slice_index_or names one []) (slice_index_or names other []))) (by_name names n)
-  by_name_sorted n k d low high =
-      let one : ℕ = get_or (by_name names n) k d in
-      let next : ℕ = get_or (by_name names n) (k + 1) d in
-      first_not_less (slice_cmp nat_cmp (slice_index_or names next []) (slice_index_or names one [])) (nat_cmp next one)
-      (ap is_lt (total.antisymm next one) ∙ turned (rank one next)
-      ∙ rising_pairs (by_name names n) (by_name_rising n) k (k + 1) d (omega arith) high)
-
-  -- where each name of the order is another one, none is this one
-  none_named : (name : List ℕ) →
-      ((k d : ℕ) → k < length (by_name names (length names)) →
-      slice_cmp nat_cmp (get_or names (get_or (by_name names (length names)) k d) []) name ≢ Equal) →
-      position (λ other. pointwise nat_eq other name) names ≡ None
-  none_named name differ =
-      position_none (λ other. pointwise nat_eq other name) names (λ i lt. by_test i lt (pointwise nat_eq (get_or names i []) name) refl)
-    where
-      by_test : (i : ℕ) → i < length names → (b : Bool) → pointwise nat_eq (get_or names i []) name ≡ b →
-          pointwise nat_eq (get_or names i []) name ≡ false
-      by_test i lt false e = e
-      by_test i lt true e =
-          let order : List ℕ = by_name names (length names) in
-          let place = held_at order i (by_name_holds names (length names) i lt) in
-          let same : get_or names i [] ≡ name = (bytes_decides (get_or names i []) name).0 e in
-          let number : get_or order place.0 i ≡ i = get_or_from_slice_get order place.0 i i place.1 in
-          let named : get_or names (get_or order place.0 i) [] ≡ name = ap (λ n. get_or names n []) number ∙ same in
-          absurd (differ place.0 i (slice_get_within order place.0 i place.1)
-          (ap (λ l. slice_cmp nat_cmp l name) named ∙ tied_itself nat_list_cmp_total name))
-
-  -- the number that is found is the first of its name, since it is the only one
-  one_named : AreApart names → (name : List ℕ) (number : ℕ) → number < length names →
-      slice_cmp nat_cmp (get_or names number []) name ≡ Equal →
-      position (λ other. pointwise nat_eq other name) names ≡ Some number
-  one_named apart name number lt e =
-      position_some (λ other. pointwise nat_eq other name) names number lt ((bytes_decides (get_or names number []) name).1 same)
-      (λ i less. by_test i less (pointwise nat_eq (get_or names i []) name) refl)
-    where
-      same : get_or names number [] ≡ name
-      same = exact_bytes (get_or names number []) name e
-
-      by_test : (i : ℕ) → i < number → (b : Bool) → pointwise nat_eq (get_or names i []) name ≡ b →
-          pointwise nat_eq (get_or names i []) name ≡ false
-      by_test i less false f = f
-      by_test i less true f =
-          let is : get_or names i [] ≡ name = (bytes_decides (get_or names i []) name).0 f in
-          let one : i ≡ number =
-          apart i number name (slice_get-get_or names i [] (omega (arith, less, lt)) ∙ ap (λ l. Some l) is)
-          (slice_get-get_or names number [] lt ∙ ap (λ l. Some l) same) in
-          absurd (omega (arith, one, less))
-
-  pub looked_up : AreApart names → (order : List ℕ) → order ≡ by_name names (length names) → (name : List ℕ) (r : Result ℕ ℕ) →
-      IsSearchInRange r (length order) →
-      IsBinarySearchResult (λ number. slice_cmp nat_cmp (slice_index_or names number []) name) order r →
-      MatchResult r (λ place. position (λ other. pointwise nat_eq other name) names ≡ Some (get_or order place 0))
-      (λ place. position (λ other. pointwise nat_eq other name) names ≡ None)
-  looked_up apart order is name (Ok place) range answer =
-      one_named apart name (get_or order place 0)
-      (subst (All (λ k. k < length names)) (sym is) (by_name_below names (length names)) place 0 range) (answer 0)
-  looked_up apart order is name (Err place) range answer =
-      none_named name
-      (subst (λ o. (k d : ℕ) → k < length o → slice_cmp nat_cmp (slice_index_or names (get_or o k d) []) name ≢ Equal) is
-      (λ k d lt e. apart_from k (nat_lt k place) refl d lt e))
-    where
-      parted : IsPartitionPoint (λ number. slice_cmp nat_cmp (slice_index_or names number []) name ≡ Less)
-          (λ number. slice_cmp nat_cmp (slice_index_or names number []) name ≡ Greater) order place
-      parted =
-          answer
-          (searchable_from_sorted nat_list_cmp_total (λ number. slice_index_or names number []) order name
-          (subst (IsSortedBy (λ one other. is_lt (slice_cmp nat_cmp (slice_index_or names one []) (slice_index_or names other []))))
-          (sym is) (by_name_sorted (length names))))
-
-      apart_from : (k : ℕ) (b : Bool) → nat_lt k place ≡ b → (d : ℕ) → k < length order →
-          slice_cmp nat_cmp (slice_index_or names (get_or order k d) []) name ≢ Equal
-      apart_from k true b d lt e = let less : Less ≡ Equal = sym (parted.0 k d (omega arith) ((Decides-ltb k place).0 b)) ∙ e in cc
-      apart_from k false b d lt e = let more : Greater ≡ Equal = sym (parted.1 k d (not_less k place b) lt) ∙ e in cc
+  -- of two numbers of the order the first is up to the second
+  pub by_name_pairs : (n : ℕ) → AllPairs IsUpTo (by_name names n)
+  by_name_pairs n i j d lt within = rising_pairs (by_name names n) (by_name_rising n) i j d lt within

@@ -1,9 +1,8 @@
 -- How numbers are sorted by their names.
-use Rattle.std.specs.Prelude.{◌≡◌, ℕ, zero, suc, List, [], ◌∷◌, ◌++◌, slice_get, slice_index_or}
+use Rattle.std.specs.Prelude.{ℕ, zero, suc, Bool, List, [], ◌∷◌, ◌++◌, slice_index_or}
 use Rattle.std.specs.Cmp.Lexicographic.{slice_cmp}
-use Rattle.std.specs.Ordering.{nat_cmp, ordering_then}
+use Rattle.std.specs.Ordering.{nat_cmp, is_lt, ordering_then}
 use Rattle.std.specs.declared.cmp.Ordering.{Ordering}
-use Rattle.std.specs.declared.option.Option.TheVariants.{Some}
 
 -- by names, and where those are the same by the numbers themselves
 abbrev pub name_rank : List (List ℕ) → ℕ → ℕ → Ordering
@@ -15,6 +14,6 @@ abbrev pub below : ℕ → List ℕ
 below zero = []
 below (suc number) = below number ++ number ∷ []
 
--- no two names are the same
-abbrev pub AreApart : List (List ℕ) → Type 0
-AreApart names = (i j : ℕ) (name : List ℕ) → slice_get names i ≡ Some name → slice_get names j ≡ Some name → i ≡ j
+-- the number's name stands ahead of this one
+abbrev pub is_ahead : List (List ℕ) → List ℕ → ℕ → Bool
+is_ahead names name number = is_lt (slice_cmp nat_cmp (slice_index_or names number []) name)

@@ -1,7 +1,8 @@
-//! Numbers in order of their names.
-ghost use Rattle.std.specs.Prelude.{◌≡◌, [], ◌<◌, length, nat_eq, position, IfOk, slice_index_or};
+//! Numbers in order of their names, and names looked up by them, where names may stand there more than once.
+ghost use Rattle.std.specs.Prelude.{◌≡◌, [], ◌<◌, ◌≤◌, length, nat_eq, position, true, false, IfOk, slice_index_or};
+ghost use Rattle.std.specs.List.Sorted.{IsPartitionPoint};
 ghost use Rattle.std.specs.Cmp.Lexicographic.{pointwise};
-ghost use Rattle.call_components.specs.Sorting.{AreApart, name_rank};
+ghost use Rattle.call_components.specs.Sorting.{is_ahead, name_rank};
 ghost use Rattle.component_keys.specs.Components.{by_name};
 
 use shape_data::Name;
@@ -40,14 +41,25 @@ pub fn in_order(alloc: Global, names: &[Name]) -> Result<Vec<u32>, AllocError>
     Ok(order)
 }
 
-/// The number of a name, where no two names are the same, by the numbers in order of their names.
-pub fn number_named(names: &[Name], order: &[u32], name: &Name) -> Option<u32>
-    requires apart { AreApart names.now }
-    requires order { order.now ≡ by_name names.now (length names.now) }
+/// How many numbers have names that stand ahead of this one.
+fn count_ahead(names: &[Name], order: &[u32], name: &Name) -> usize
+    requires { order.now ≡ by_name names.now (length names.now) }
+    ensures bound { result ≤ length order.now }
+    ensures parted { IsPartitionPoint (λ number. is_ahead names.now name.now number ≡ true)
+        (λ number. is_ahead names.now name.now number ≡ false) order.now result }
+{
+    order.partition_point(|number| name_of(names, *number).cmp(&name.as_bytes()).is_lt())
+}
+
+/// The first number of a name, by the numbers in order of their names. It takes time in proportion to a logarithm of their number.
+pub fn first_named(names: &[Name], order: &[u32], name: &Name) -> Option<u32>
+    requires { order.now ≡ by_name names.now (length names.now) }
     ensures { result ≡ position (λ other. pointwise nat_eq other name.now) names.now }
 {
-    match order.binary_search_by(|number| name_of(names, *number).cmp(&name.as_bytes())) {
-        Ok(place) => Some(order[place]),
-        Err(_) => None,
+    let number = *order.get(count_ahead(names, order, name))?;
+    if name_of(names, number) == name.as_bytes() {
+        Some(number)
+    } else {
+        None
     }
 }

@@ -161,7 +161,6 @@ fn standing_of(
     known: &[Standing],
     row: &Component,
 ) -> Result<Standing, AllocError>
-    requires small { length program.now.structs < 4294967296 }
     requires structures { AreStructures program.now.structs structures.now }
     requires members { All (λ number. number < length program.now.procs) row.now.members.items }
     requires outer { All (λ outer. outer.number < length program.now.procs) row.now.outer.items }

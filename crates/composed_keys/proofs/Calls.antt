@@ -112,7 +112,7 @@ named_proc program i name at =
     mapped_some (λ (proc : Proc). proc.flow.name) (slice_get program.procs i) name
     (sym (at_map (λ (proc : Proc). proc.flow.name) program.procs i) ∙ ap (λ names. slice_get names i) (names_are program) ∙ at)
 
-pub names_differ : (program : Program) → IsProgram program → (i j : ℕ) (name : List ℕ) →
+names_differ : (program : Program) → IsProgram program → (i j : ℕ) (name : List ℕ) →
     slice_get (names_of (flows_of program)) i ≡ Some name → slice_get (names_of (flows_of program)) j ≡ Some name → i ≡ j
 names_differ program formed i j name at_i at_j =
     let one = named_proc program i name at_i in

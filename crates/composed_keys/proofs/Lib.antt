@@ -6,4 +6,3 @@ pub mod Recursion
 pub mod Components
 pub mod Compared
 pub mod CallRows
-pub mod NameOrder

@@ -19,6 +19,7 @@ use Rattle.component_keys.proofs.Basics.{not_none, mapped_some, at_map}
 use Rattle.component_keys.proofs.Ordered.{held_at}
 use Rattle.call_components.specs.Reaching.{AreReached, marked}
 use Rattle.composed_keys.proofs.Calls.{nothing_at, position_within}
+use Rattle.composed_keys.specs.Named.{AreInOrder}
 use Rattle.composed_keys.specs.Used.{noted}
 
 filter_map_append : {X Y : Type 0} (f : X → Option Y) (xs ys : List X) → filter_map f (xs ++ ys) ≡ filter_map f xs ++ filter_map f ys
@@ -91,6 +92,12 @@ pointed_defined structs number callee h =
         subst (λ n. n < length structs) (get_or_from_slice_get (pointed_by structs def.0) place.0 callee callee at)
         (numbers_below structs (filter_map (λ (field : Field). type_struct field.ty) def.0.fields) place.0 callee
         (slice_get_within (pointed_by structs def.0) place.0 callee at))
+
+-- the order of the structures is that of their names
+pub order_is : (structs : List StructDef) (names : List (List ℕ)) (order : List ℕ) → AreInOrder structs names order →
+    order ≡ by_name (map (λ (def : StructDef). def.name) structs) (length structs)
+order_is structs names order are = are.sorted ∙ ap (λ n. by_name n (length n)) are.named
+    ∙ ap (by_name (map (λ (def : StructDef). def.name) structs)) (length-map structs (λ def. def.name))
 
 -- the structures at the marked places
 abbrev pub shown_at : List StructDef → List Bool → List ℕ → List StructDef

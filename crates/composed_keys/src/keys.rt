@@ -63,7 +63,6 @@ pub fn key_of(
     members: &[u32],
     callees: Row<Callee>,
 ) -> Result<Key, AllocError>
-    requires small { length program.now.structs < 4294967296 }
     requires members { All (λ number. number < length program.now.procs) members.now }
     requires structures { AreStructures program.now.structs structures.now }
     ensures { IfOk result (λ key. key ≡ key_over program.now.structs (filter_map (slice_get (flows_of program.now)) members.now) callees) }
@@ -102,7 +101,6 @@ pub fn is_key_of(
     members: &[u32],
     key: &Key,
 ) -> Result<bool, AllocError>
-    requires small { length program.now.structs < 4294967296 }
     requires members { All (λ number. number < length program.now.procs) members.now }
     requires structures { AreStructures program.now.structs structures.now }
     ensures { IfOk result (λ is. IsTrue is

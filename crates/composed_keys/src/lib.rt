@@ -4,7 +4,6 @@
 
 pub mod callees;
 pub mod keys;
-mod name_search;
 pub mod outside;
 pub mod programs;
 pub mod rows;

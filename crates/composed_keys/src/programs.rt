@@ -4,7 +4,6 @@
 ghost use Rattle.std.specs.Prelude.{◌≡◌, ◌<◌, map, length, All, IfOk};
 ghost use Rattle.std.specs.List.{filter_map};
 ghost use Rattle.call_components.specs.Reaching.{rows};
-ghost use Rattle.call_components.specs.Sorting.{AreApart};
 ghost use Rattle.component_keys.specs.Components.{by_name};
 ghost use Rattle.component_keys.specs.Keys.{flows_of, program_components};
 ghost use Rattle.component_keys.specs.Laws.{IsCallGraph};
@@ -15,7 +14,7 @@ ghost use Rattle.shape_data.specs.WellFormed.{IsProgram};
 use crate::outside::rows_of;
 use crate::rows::Component;
 use call_components::listing::ordered_components;
-use call_components::order::{in_order, number_named};
+use call_components::order::{first_named, in_order};
 use shape_data::program::{Cmd, Flow, Node, Proc, Program};
 use shape_data::{Name, copy_of};
 use std::alloc::{AllocError, Global};
@@ -33,12 +32,11 @@ fn names_in(alloc: Global, procs: &[Proc]) -> Result<Vec<Name>, AllocError>
 
 /// The place of the procedure that a command calls.
 fn called_number(names: &[Name], order: &[u32], node: &Node) -> Option<u32>
-    requires apart { AreApart names.now }
-    requires order { order.now ≡ by_name names.now (length names.now) }
+    requires { order.now ≡ by_name names.now (length names.now) }
     ensures { result ≡ called_in names.now node.now }
 {
     match &node.cmd {
-        Cmd::Call { callee, .. } => number_named(names, order, callee),
+        Cmd::Call { callee, .. } => first_named(names, order, callee),
         _ => None,
     }
 }
@@ -50,8 +48,7 @@ fn called_numbers(
     order: &[u32],
     flow: &Flow,
 ) -> Result<Vec<u32>, AllocError>
-    requires apart { AreApart names.now }
-    requires order { order.now ≡ by_name names.now (length names.now) }
+    requires { order.now ≡ by_name names.now (length names.now) }
     ensures { IfOk result (λ calls. calls.items ≡ filter_map (called_in names.now) flow.now.nodes) }
 {
     flow.nodes
@@ -67,8 +64,7 @@ fn calls_in(
     order: &[u32],
     procs: &[Proc],
 ) -> Result<Vec<Vec<u32>>, AllocError>
-    requires apart { AreApart names.now }
-    requires order { order.now ≡ by_name names.now (length names.now) }
+    requires { order.now ≡ by_name names.now (length names.now) }
     ensures { IfOk result (λ calls. rows calls.items ≡ map (λ proc. filter_map (called_in names.now) proc.flow.nodes) procs.now) }
 {
     let mut calls = Vec::with_capacity(alloc, procs.len())?;

@@ -3,7 +3,7 @@ ghost use Rattle.std.specs.Prelude.{◌≡◌};
 ghost use Rattle.component_keys.specs.Structures.{struct_number};
 ghost use Rattle.composed_keys.specs.Named.{AreInOrder};
 
-use crate::name_search::first_named;
+use call_components::order::first_named;
 use shape_data::Name;
 use shape_data::program::StructDef;
 use std::marker::Model;

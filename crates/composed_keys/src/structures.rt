@@ -301,8 +301,7 @@ pub fn used(
     flows: &[Flow],
     callees: &[Callee],
 ) -> Result<Row<StructDef>, AllocError>
-    requires small { length structs.now < 4294967296 }
-    requires table { AreStructures structs.now table.now }
+    requires { AreStructures structs.now table.now }
     ensures { IfOk result (λ used. used ≡ structs_used structs.now flows.now callees.now) }
 {
     let index = StructureIndex::new(structs, &table.names, &table.order);

@@ -11,7 +11,6 @@ use Rattle.shape_data.specs.declared.program.Program.{Program}
 use Rattle.shape_laws.proofs.StepsStacks.{within-some}
 use Rattle.component_keys.specs.Keys.{Component, Outer, flows_of, names_of}
 use Rattle.component_keys.proofs.Basics.{both_true, not_none, some_same}
-use Rattle.composed_keys.specs.declared.rows.Component.{Component as ComponentRow}
 use Rattle.composed_keys.specs.declared.rows.Outer.{Outer as OuterRow}
 use Rattle.composed_keys.specs.Callees.{known_as}
 use Rattle.composed_keys.specs.Rows.{outer_value}

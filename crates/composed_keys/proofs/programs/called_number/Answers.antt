@@ -3,4 +3,4 @@ use Rattle.composed_keys.specs.Programs.{number_called}
 use Rattle.composed_keys.proofs.programs.called_number.Goals as goal
 
 pub returns-in-Call : goal.returns-in-Call
-returns-in-Call c = c.number_named.ensures ∙ sym (ap (number_called c.args.names.now) c.in-Call.is)
+returns-in-Call c = c.first_named.ensures ∙ sym (ap (number_called c.args.names.now) c.in-Call.is)

@@ -1,22 +1,14 @@
 -- Who calls whom in a program is a graph of calls.
-use Rattle.std.proofs.Common.{◌≡◌, ◌<◌, ◌∙◌, length, sym, ap, subst, arith}
+use Rattle.std.proofs.Common.{◌≡◌, ◌<◌, ◌∙◌, length, sym, ap, arith}
 use Rattle.std.proofs.lemmas.Result.{IfOk-weaker}
 use Rattle.component_keys.specs.Components.{by_name}
 use Rattle.component_keys.specs.Keys.{calls_in, flows_of, names_of}
 use Rattle.call_components.specs.Reaching.{rows}
-use Rattle.call_components.specs.Sorting.{AreApart}
-use Rattle.composed_keys.proofs.Calls.{names_differ}
 use Rattle.composed_keys.proofs.Components.{calls_told, graph, names_length, names_told, rows_are, rows_within}
 use Rattle.composed_keys.proofs.programs.components_of.Goals as goal
 
-pub calls_in-requires-clause-apart : goal.calls_in-requires-clause-apart
-calls_in-requires-clause-apart c =
-    subst AreApart
-    (sym (names_told c.args.program.now _ c.in_ok-names.names.items c.deref-2.result.now c.as_slice-procs.ensures c.in_ok-names.ensures
-    c.deref-2.ensures.value)) (names_differ c.args.program.now c.requires)
-
-pub calls_in-requires-clause-order : goal.calls_in-requires-clause-order
-calls_in-requires-clause-order c = c.deref-3.ensures.value
+pub calls_in-requires : goal.calls_in-requires
+calls_in-requires c = c.deref-3.ensures.value
     ∙ (c.in_ok-order.ensures ∙ ap (λ n. by_name n (length n)) (c.deref.ensures.value ∙ sym c.deref-2.ensures.value))
 
 pub components_in-requires-clause-small : goal.components_in-requires-clause-small

@@ -1,5 +1,5 @@
 -- One component after the other gives its slot's key and answer.
-use Rattle.std.proofs.Common.{◌≡◌, ◌<◌, ◌∙◌, length, map, sym, ap, Some, arith}
+use Rattle.std.proofs.Common.{◌≡◌, ◌<◌, ◌∙◌, length, map, sym, ap, arith}
 use Rattle.std.specs.List.{filter, filter_map, range_with_len}
 use Rattle.call_components.specs.Reaching.{marked}
 use Rattle.claim_core.specs.Told.{events_of}

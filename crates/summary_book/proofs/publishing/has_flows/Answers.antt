@@ -1,5 +1,5 @@
 -- The key of the claim stands in the log.
-use Rattle.std.proofs.Common.{◌≡◌, ◌∙◌, slice_get, sym, ap, Some}
+use Rattle.std.proofs.Common.{◌≡◌, ◌∙◌, slice_get, sym, ap}
 use Rattle.std.specs.List.{filter_map}
 use Rattle.std.specs.Option.{option_copied}
 use Rattle.shape_data.specs.declared.answer.Key.{Key}

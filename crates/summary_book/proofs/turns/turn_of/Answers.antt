@@ -1,5 +1,5 @@
 -- A component's turn by the marks of whom it calls, its slot and the outstanding claims.
-use Rattle.std.proofs.Common.{◌≡◌, ◌∙◌, false, true, sym, ap, Some, None, slice_get}
+use Rattle.std.proofs.Common.{◌≡◌, ◌∙◌, false, true, sym, ap, Some, slice_get}
 use Rattle.std.specs.List.{list_all}
 use Rattle.std.proofs.lemmas.Option.{slice_get-get_or}
 use Rattle.call_components.specs.Reaching.{marked}

@@ -2,8 +2,8 @@
 use Rattle.std.proofs.Common.{rules, ◌≡◌, ◌<◌, ◌≤◌, ◌∙◌, [], true, false, length, get_or, sym}
 use Rattle.std.specs.Prelude.{nat_eq}
 use Rattle.std.specs.Cmp.Lexicographic.{pointwise}
-use Rattle.composed_keys.proofs.NameOrder.{found_first, found_none, found_other}
-use Rattle.composed_keys.proofs.name_search.first_named.Goals as goal
+use Rattle.call_components.proofs.NameOrder.{found_first, found_none, found_other}
+use Rattle.call_components.proofs.order.first_named.Goals as goal
 
 pub returns-in_err-number : goal.returns-in_err-number
 returns-in_err-number c =

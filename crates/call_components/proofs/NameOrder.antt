@@ -1,38 +1,25 @@
 -- The first number of a name stands first among those of its name, where numbers stand in order of their names.
 use Rattle.std.proofs.Common.{Ordering, ◌≡◌, ℕ, zero, suc, ◌+◌, ◌<◌, ◌≤◌, nat_lt, nat_eq, Bool, true, false, cond, List, [], ◌∷◌, length}
 use Rattle.std.proofs.Common.{get_or, Some, None, ◌⊎◌, inl, inr, refl, sym, ap, ◌∙◌, subst, arith, All, AllPairs}
-use Rattle.std.specs.Prelude.{if◌then◌else◌, slice_index_or, position}
+use Rattle.std.specs.Prelude.{slice_index_or, position}
 use Rattle.std.specs.Ordering.{nat_cmp, is_lt, is_gt, ordering_index, ordering_reverse, ordering_then, MatchOrdering}
 use Rattle.std.specs.declared.cmp.Ordering.TheVariants.{Less, Equal, Greater}
-use Rattle.std.specs.Cmp.{IsTotalOrder}
 use Rattle.std.specs.Cmp.Lexicographic.{pointwise, slice_cmp, bytes_decides}
 use Rattle.std.specs.List.{position_or_len}
 use Rattle.std.specs.List.Sorted.{IsPartitionPoint, IsPartitionedBy, IsSortedBy}
 use Rattle.std.proofs.lemmas.Bool.{cases_lt}
 use Rattle.std.proofs.lemmas.Bool.Decides.{Decides-ltb}
-use Rattle.std.proofs.lemmas.Cmp.{ranked, upto, tied_itself, nat_cmp_total, nat_list_cmp_total, on_total, then_total}
-use Rattle.std.proofs.lemmas.List.Elements.{All-cons, All-tail, All-weaker}
-use Rattle.std.proofs.lemmas.List.Kept.{AllPairs-cons}
+use Rattle.std.proofs.lemmas.Cmp.{ranked, tied_itself, nat_list_cmp_total}
 use Rattle.std.proofs.lemmas.List.Sorted.{searchable_from_sorted}
 use Rattle.std.proofs.lemmas.List.Sums.{position_or_len_is}
 use Rattle.std.proofs.lemmas.Map.Lookups.{exact_bytes}
 use Rattle.std.proofs.lemmas.Option.{get_or_from_slice_get, slice_get_within}
-use Rattle.component_keys.specs.Components.{holds, in_name_order, by_name}
+use Rattle.component_keys.specs.Components.{holds, by_name}
 use Rattle.component_keys.proofs.Ordered.{held_at}
 use Rattle.component_keys.proofs.Whole.{by_name_holds}
-use Rattle.call_components.specs.Sorting.{name_rank}
-use Rattle.call_components.proofs.Naming.{is_before, All-put, by_name_below}
-use Rattle.composed_keys.specs.Named.{is_ahead}
-
-first_less : (r s : Ordering) → is_lt r ≡ true → is_gt (ordering_then r s) ≡ false
-first_less Less s e = refl
-first_less Equal s e = cc
-first_less Greater s e = cc
-
-none_greater : (r s : Ordering) → is_lt (ordering_reverse r) ≡ false → is_gt s ≡ false → is_gt (ordering_then r s) ≡ false
-none_greater Less s e f = refl
-none_greater Equal s e f = f
-none_greater Greater s e f = cc
+use Rattle.call_components.specs.Sorting.{is_ahead, name_rank}
+use Rattle.call_components.proofs.Naming.{by_name_below}
+use Rattle.call_components.proofs.Sorting.{total, IsUpTo, by_name_pairs}
 
 -- what a pair that does not fall says of names: none falls, and where they are the same, the numbers don't
 first_not_greater : (r s : Ordering) → is_gt (ordering_then r s) ≡ false → is_lt (ordering_reverse r) ≡ false
@@ -58,11 +45,6 @@ index_less Equal Greater le e = cc
 index_less Greater Less le e = absurd (omega (arith, le))
 index_less Greater Equal le e = cc
 index_less Greater Greater le e = cc
-
-less_number : (x y : ℕ) (r : Ordering) → MatchOrdering r (x < y) (x ≡ y) (y < x) → x < y → is_gt r ≡ false
-less_number x y Less h lt = refl
-less_number x y Equal h lt = refl
-less_number x y Greater h lt = absurd (omega (arith, h, lt))
 
 not_more : (x y : ℕ) (r : Ordering) → MatchOrdering r (x < y) (x ≡ y) (y < x) → is_gt r ≡ false → x ≤ y
 not_more x y Less h e = omega (arith, h)
@@ -93,49 +75,12 @@ module _ (names : List (List ℕ)) where
   abbrev by_names : ℕ → ℕ → Ordering
   by_names one other = slice_cmp nat_cmp (slice_index_or names one []) (slice_index_or names other [])
 
-  total : IsTotalOrder (name_rank names)
-  total = then_total (on_total (λ number. slice_index_or names number []) nat_list_cmp_total) nat_cmp_total
-
-  -- the one stands before the other, or is the same
-  abbrev IsUpTo : ℕ → ℕ → Type 0
-  IsUpTo one other = is_gt (name_rank names one other) ≡ false
-
-  put_rising : (number : ℕ) (order : List ℕ) → All (λ x. x < number) order → AllPairs IsUpTo order →
-      AllPairs IsUpTo (in_name_order names number order)
-  put_rising number [] less rising = λ i j d lt within. absurd (omega (arith, lt, within))
-  put_rising number (x ∷ order) less rising =
-      by_test (is_before names number x) refl
-      (put_rising number order (All-tail (λ y. y < number) x order less)
-      (λ i j d lt within. rising (suc i) (suc j) d (omega (arith, lt)) (omega (arith, within))))
-    where
-      behind : All (IsUpTo x) order
-      behind = λ k d lt. rising 0 (suc k) d (omega arith) (omega (arith, lt))
-
-      by_test : (b : Bool) → is_before names number x ≡ b → AllPairs IsUpTo (in_name_order names number order) →
-          AllPairs IsUpTo (if b then number ∷ x ∷ order else x ∷ in_name_order names number order)
-      by_test true e again =
-          let here : IsUpTo number x = first_less (by_names number x) (nat_cmp number x) e in
-          AllPairs-cons IsUpTo number (x ∷ order)
-          (All-cons (IsUpTo number) x order here
-          (All-weaker (IsUpTo x) (IsUpTo number) (λ z le. upto total number x z here le) order behind)) rising
-      by_test false e again =
-          let own : x < number = less 0 0 (omega arith) in
-          let here : IsUpTo x number =
-          none_greater (by_names x number) (nat_cmp x number)
-          (ap is_lt (sym (nat_list_cmp_total.antisymm (slice_index_or names number []) (slice_index_or names x []))) ∙ e)
-          (less_number x number (nat_cmp x number) (ranked x number (nat_cmp x number) refl) own) in
-          AllPairs-cons IsUpTo x (in_name_order names number order) (All-put (IsUpTo x) names number order here behind) again
-
-  by_name_rising : (n : ℕ) → AllPairs IsUpTo (by_name names n)
-  by_name_rising zero = λ i j d lt within. absurd (omega (arith, within))
-  by_name_rising (suc n) = put_rising n (by_name names n) (by_name_below names n) (by_name_rising n)
-
   by_name_sorted : (n : ℕ) → IsSortedBy (λ one other. is_lt (by_names one other)) (by_name names n)
   by_name_sorted n k d low high =
       let one : ℕ = get_or (by_name names n) k d in
       let next : ℕ = get_or (by_name names n) (k + 1) d in
       ap is_lt (nat_list_cmp_total.antisymm (slice_index_or names next []) (slice_index_or names one [])) ∙
-      first_not_greater (by_names one next) (nat_cmp one next) (by_name_rising n k (k + 1) d (omega arith) high)
+      first_not_greater (by_names one next) (nat_cmp one next) (by_name_pairs names n k (k + 1) d (omega arith) high)
 
   -- those ahead of a name stand first
   pub ahead_first : (order : List ℕ) → order ≡ by_name names (length names) → (name : List ℕ) → IsPartitionedBy (is_ahead names name) order
@@ -157,14 +102,14 @@ module _ (names : List (List ℕ)) where
     not_ahead number same = ap is_lt (ap (λ l. slice_cmp nat_cmp l name) same ∙ tied_itself nat_list_cmp_total name)
 
     -- who has the name stands at the place or behind it, so the number at the place is up to it
-    up_to : (i : ℕ) → i < length names → get_or names i [] ≡ name → (place < length order) × IsUpTo (get_or order place 0) i
+    up_to : (i : ℕ) → i < length names → get_or names i [] ≡ name → (place < length order) × IsUpTo names (get_or order place 0) i
     up_to i lt same =
         let at = held_at order i (subst (λ o. holds o i ≡ true) (sym is) (by_name_holds names (length names) i lt)) in
         from at.0 (slice_get_within order at.0 i at.1) (get_or_from_slice_get order at.0 i 0 at.1) (cases_lt at.0 place)
         (cases_lt place at.0)
       where
         from : (q : ℕ) → q < length order → get_or order q 0 ≡ i → (q < place) ⊎ (place ≤ q) → (place < q) ⊎ (q ≤ place) →
-            (place < length order) × IsUpTo (get_or order place 0) i
+            (place < length order) × IsUpTo names (get_or order place 0) i
         from q within own (inl less) other =
             let ahead : is_ahead names name i ≡ true =
             subst (λ k. is_ahead names name k ≡ true) own (parted.0 q 0 (omega arith) less) in
@@ -172,14 +117,14 @@ module _ (names : List (List ℕ)) where
             cc
         from q within own (inr le) (inl less) = (
           omega (arith, less, within),
-          subst (IsUpTo (get_or order place 0)) own
-              (subst (AllPairs IsUpTo) (sym is) (by_name_rising (length names)) place q 0 less within),
+          subst (IsUpTo names (get_or order place 0)) own
+              (subst (AllPairs (IsUpTo names)) (sym is) (by_name_pairs names (length names)) place q 0 less within),
         )
         from q within own (inr le) (inr more) =
             let one : place ≡ q = omega (arith, le, more) in
             let number : get_or order place 0 ≡ i = ap (λ k. get_or order k 0) one ∙ own in (
               omega (arith, one, within),
-              ap (λ k. is_gt (name_rank names k i)) number ∙ ap is_gt (tied_itself total i),
+              ap (λ k. is_gt (name_rank names k i)) number ∙ ap is_gt (tied_itself (total names) i),
             )
 
     -- the number at the place is the first of its name
@@ -198,7 +143,7 @@ module _ (names : List (List ℕ)) where
         by_test i less true e =
             let under : number < length names = bound in
             let same : get_or names i [] ≡ name = (bytes_decides (get_or names i []) name).0 e in
-            let up = subst (λ k. IsUpTo k i) (sym own) (up_to i (omega (arith, less, under)) same).1 in
+            let up = subst (λ k. IsUpTo names k i) (sym own) (up_to i (omega (arith, less, under)) same).1 in
             let tied : by_names number i ≡ Equal =
             ap (λ l. slice_cmp nat_cmp l (get_or names i [])) ((bytes_decides (get_or names number []) name).0 named ∙ sym same) ∙
             tied_itself nat_list_cmp_total (get_or names i []) in
@@ -217,7 +162,7 @@ module _ (names : List (List ℕ)) where
         by_test i lt false e = e
         by_test i lt true e =
             let same : get_or names i [] ≡ name = (bytes_decides (get_or names i []) name).0 e in
-            let up = subst (λ k. IsUpTo k i) (sym own) (up_to i lt same).1 in
+            let up = subst (λ k. IsUpTo names k i) (sym own) (up_to i lt same).1 in
             let no_more : is_lt (ordering_reverse (slice_cmp nat_cmp (get_or names number []) name)) ≡ false =
             ap (λ l. is_lt (ordering_reverse (slice_cmp nat_cmp (get_or names number []) l))) (sym same) ∙
             first_not_greater (by_names number i) (nat_cmp number i) up in

@@ -1,9 +1,9 @@
 -- The binary search ends behind the names that stand ahead.
 use Rattle.std.proofs.Common.{rules}
 use Rattle.std.proofs.lemmas.Fn.{always_returns_same}
-use Rattle.composed_keys.specs.Named.{is_ahead}
-use Rattle.composed_keys.proofs.NameOrder.{ahead_first}
-use Rattle.composed_keys.proofs.name_search.count_ahead.Goals as goal
+use Rattle.call_components.specs.Sorting.{is_ahead}
+use Rattle.call_components.proofs.NameOrder.{ahead_first}
+use Rattle.call_components.proofs.order.count_ahead.Goals as goal
 
 pub returns-clause-parted : goal.returns-clause-parted
 returns-clause-parted c =
