@@ -79,7 +79,7 @@ summaries_same known others procs same =
 
 -- ---- honest entries
 
-looked_up_same : (loaded : List Solution) → IsHonest loaded → (key : Key) → (lookup loaded key).procs ≡ (lookup [] key).procs
+looked_up_same : (loaded : List Solution) → IsHonest loaded → (key : Key) → (lookup solve loaded key).procs ≡ (lookup solve [] key).procs
 looked_up_same loaded honest key =
     looked_up (λ (one : Solution). one.answer.procs ≡ (solve one.key).procs) loaded honest (λ k answer. answer.procs ≡ (solve k).procs)
     (λ one own. own) key refl
@@ -88,7 +88,7 @@ known_from_nothing : (loaded : List Solution) → IsHonest loaded → (program :
     map unmarked (bottom_up loaded program) ≡ map unmarked (bottom_up [] program)
 unfolding known_by
 known_from_nothing loaded honest program =
-    known_same (lookup loaded) (lookup []) (looked_up_same loaded honest) program.structs (program_components program) [] [] refl
+    known_same (lookup solve loaded) (lookup solve []) (looked_up_same loaded honest) program.structs (program_components program) [] [] refl
 
 pub honest_known : HonestIsFromNothing
 honest_known loaded honest program =

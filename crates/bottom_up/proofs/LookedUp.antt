@@ -16,7 +16,7 @@ use Rattle.bottom_up.specs.Laws.{AreRight, IsRight, LookedUpAreRight}
 -- what holds of each loaded entry, and of what solving gives, holds of it
 pub looked_up : (Q : Solution → Type 0) (loaded : List Solution) → All Q loaded → (P : Key → Answer → Type 0) →
     ((one : Solution) → Q one → P one.key one.answer) →
-    (key : Key) → P key (solve key) → P key (lookup loaded key)
+    (key : Key) → P key (solve key) → P key (lookup solve loaded key)
 looked_up Q loaded all P holds key solved = by_entry (find (λ (one : Solution). key_test.0 one.key key) loaded) refl
   where
     by_entry : (o : Option Solution) → find (λ (one : Solution). key_test.0 one.key key) loaded ≡ o →

@@ -14,6 +14,7 @@ use Rattle.shape_data.specs.declared.program.StructDef.{StructDef}
 use Rattle.shape_data.specs.declared.symbolic.Spec.{Spec}
 use Rattle.component_keys.specs.Keys.{Component, Outer, key_over, program_components, specs_in}
 use Rattle.loaded_answers.specs.Lookup.{lookup}
+use Rattle.solve_laws.specs.Solving.{solve}
 use Rattle.claim_core.specs.Views.{Solution}
 
 -- a key with the answer that it is given
@@ -56,7 +57,7 @@ known_by answer_of program = known_over answer_of program.structs (program_compo
 
 -- BOTTOM UP, over loaded entries: each key is looked up
 abbrev pub bottom_up : List Solution → Program → List Solution
-bottom_up loaded program = known_by (lookup loaded) program
+bottom_up loaded program = known_by (lookup solve loaded) program
 
 -- THE SUMMARIES
 

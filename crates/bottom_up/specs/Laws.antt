@@ -52,7 +52,7 @@ pub record IsRight (one : Solution) : Type 0 where
 
 -- over right entries what is looked up is right
 abbrev pub LookedUpAreRight : Type 0
-LookedUpAreRight = (loaded : List Solution) → All IsRight loaded → AreRight (lookup loaded)
+LookedUpAreRight = (loaded : List Solution) → All IsRight loaded → AreRight (lookup solve loaded)
 
 -- so over right entries each procedure of a well-formed program is reported, and over none at all, where each key is solved
 abbrev pub EachIsReported : Type 0

@@ -8,12 +8,10 @@ ghost use Rattle.solve_laws.specs.Attempts.{attempt as attempt_of, trial_of as t
 ghost use Rattle.solve_laws.specs.Solving.{attempts_under as attempts_under_of};
 ghost use Rattle.solve_laws.specs.Standing.{AreTasks};
 
-use annotation_laws::Annotated;
-use candidate_laws::laws::candidates_are_well_formed;
 use certificate_steps::Task;
 use exec_laws::Table;
-use post_gen::annotate;
-use pre_gen::candidates;
+use post_gen::{Annotated, annotate};
+use pre_gen::{candidates, candidates_are_well_formed};
 use shape_data::answer::{Key, Reason};
 use shape_data::symbolic::{Spec, SymHeap};
 use shape_data::{Row, copy_of};

@@ -22,9 +22,9 @@ ghost use Rattle.solve_laws.specs.Standing.{AllStanding, AreFormed, AreTasks, Is
 use crate::attempts::try_pre;
 use crate::standing::{count_of, specs_of};
 use crate::tables::table_with;
-use candidate_laws::Found;
 use certificate_steps::Task;
 use exec_laws::Table;
+use pre_gen::Found;
 use shape_data::answer::{Key, Reason};
 use shape_data::symbolic::{Cert, Spec};
 use shape_data::{Row, copy_of};

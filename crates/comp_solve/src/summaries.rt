@@ -11,7 +11,7 @@ ghost use Rattle.solve_laws.specs.Solving.{without_specs as without_specs_of};
 
 use crate::rounds::MOST_ROUNDS;
 use crate::standing::{certs_in, specs_in};
-use candidate_laws::{Dropped, Found};
+use pre_gen::{Dropped, Found};
 use shape_data::answer::{Budget, ProcSummary, Reason};
 use shape_data::program::Flow;
 use shape_data::symbolic::Spec;

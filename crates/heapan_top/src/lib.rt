@@ -13,5 +13,5 @@ mod turns;
 pub use loaded_answers::{LoadedAnswers, agrees};
 pub use outcome::Outcome;
 pub use session::run;
-pub use session_replies::plain;
+pub use session_replies::{StoredAnswers, plain};
 pub use status::Status;

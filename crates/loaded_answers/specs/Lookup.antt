@@ -10,7 +10,6 @@ use Rattle.shape_data.specs.declared.answer.Key.{Key}
 use Rattle.shape_data.specs.declared.program.Flow.{Flow}
 use Rattle.component_keys.specs.Tests.{key_test}
 use Rattle.claim_core.specs.Views.{Solution}
-use Rattle.solve_laws.specs.Solving.{solve}
 
 -- the first entry that has the key
 abbrev pub first_entry : List Solution → Key → Option Solution
@@ -21,8 +20,8 @@ abbrev pub first_answer : List Solution → Key → Option Answer
 first_answer loaded key = option_map (λ (one : Solution). one.answer) (first_entry loaded key)
 
 -- the answer to a key: that of the first entry that has it, else what solving it gives
-abbrev pub lookup : List Solution → Key → Answer
-lookup loaded key = unwrap_or (first_answer loaded key) (solve key)
+abbrev pub lookup : (Key → Answer) → List Solution → Key → Answer
+lookup solve loaded key = unwrap_or (first_answer loaded key) (solve key)
 
 -- a map finds for each key the answer of the first entry that has it
 abbrev pub AreFound : {A S : Type 0} → (A → Answer) → List Solution → IndexMap Key A S → Type 0

@@ -26,7 +26,7 @@ use Rattle.bottom_up.proofs.Formed.{IsOutside, is_outside}
 use Rattle.bottom_up.proofs.ListPlaces.{zip_mapped}
 use Rattle.bottom_up.proofs.LookedUp.{looked_up}
 use Rattle.bottom_up.proofs.Over.{answer_is, known_is, known_of_component}
-use Rattle.solve_job.specs.Solves.{IsStoredEntry}
+use Rattle.solve_job.specs.Solves.{IsStoredEntry, solve}
 use Rattle.store_json.specs.Entries.{IsStorable}
 use Rattle.summary_book.specs.declared.aims.Aim.{Aim}
 use Rattle.summary_book.specs.Aims.{aimed}
@@ -37,17 +37,17 @@ module _ (solved_fits : SolvedIsStorable) (have_sizes : ComposedKeysHaveSizes) (
     (program : Program) (formed : IsProgram program)
     (sizes : HasProgramSizes program) where
   abbrev known : List Solution
-  known = known_by (lookup loaded) program
+  known = known_by (lookup solve loaded) program
 
   abbrev key_at : Component → Key
   key_at part = key_after program.structs (answers_in known) part
 
   -- what is looked up is within the limits, where the key is and has few fields and slots
-  looked_up_fits : (key : Key) → IsStorableKey key → HasKeySizes key → IsStorableAnswer key (lookup loaded key)
+  looked_up_fits : (key : Key) → IsStorableKey key → HasKeySizes key → IsStorableAnswer key (lookup solve loaded key)
   looked_up_fits key is few = looked_up IsStoredEntry loaded stored IsStorableAnswer (λ one own. own.storable) key (solved_fits key is few)
 
   answer_fits : (place : ℕ) (part : Component) → slice_get (program_components program) place ≡ Some part → IsStorableKey (key_at part) →
-      IsStorableAnswer (key_at part) (lookup loaded (key_at part))
+      IsStorableAnswer (key_at part) (lookup solve loaded (key_at part))
   answer_fits place part at is =
       looked_up_fits (key_at part) is (have_sizes program place part (map (callee_from (answers_in known)) part.outer) sizes at)
 
@@ -59,7 +59,7 @@ module _ (solved_fits : SolvedIsStorable) (have_sizes : ComposedKeysHaveSizes) (
       IsCallee storable program.structs (callee_from (answers_in known) outer)
   callee_is place outer below out =
       let key : Key = key_at out.part in
-      let answer : Answer = lookup loaded key in
+      let answer : Answer = lookup solve loaded key in
       let is_key : IsStorableKey key = below outer.component out.part out.before out.at in
       let fits : IsStorableAnswer key answer = answer_fits outer.component out.part out.at is_key in
       let made : IsCallee storable program.structs
@@ -75,7 +75,7 @@ module _ (solved_fits : SolvedIsStorable) (have_sizes : ComposedKeysHaveSizes) (
       subst (λ p. IsCallee storable program.structs
       (record { name = outer.name; params = p; specs = specs_in answer outer.name })) out.params named in
       subst (λ o. IsCallee storable program.structs (callee_by outer o))
-      (sym (answer_is (lookup loaded) program outer.component out.part out.at)) whole
+      (sym (answer_is (lookup solve loaded) program outer.component out.part out.at)) whole
 
   key_over_below : (place : ℕ) (part : Component) → slice_get (program_components program) place ≡ Some part → AreBelow place →
       IsStorableKey (key_at part)
@@ -97,34 +97,34 @@ module _ (solved_fits : SolvedIsStorable) (have_sizes : ComposedKeysHaveSizes) (
 
   known_fits : (place : ℕ) (one : Solution) → slice_get known place ≡ Some one → IsStorable one
   known_fits place one at =
-      let of = known_of_component (lookup loaded) program place one at in
+      let of = known_of_component (lookup solve loaded) program place one at in
       let is_key : IsStorableKey (key_at of.0) = keys_below (suc place) place of.0 (omega arith) of.1 in
-      let fits : IsStorable (answered (lookup loaded) (key_at of.0)) =
+      let fits : IsStorable (answered (lookup solve loaded) (key_at of.0)) =
       record { key = is_key; answer = answer_fits place of.0 of.1 is_key } in
       subst IsStorable (sym of.2) fits
 
 pub known_is_storable : SolvedIsStorable → ComposedKeysHaveSizes → KnownIsStorable
 known_is_storable solved_fits have_sizes loaded stored program formed sizes =
-    all_of IsStorable (known_by (lookup loaded) program) (known_fits solved_fits have_sizes loaded stored program formed sizes)
+    all_of IsStorable (known_by (lookup solve loaded) program) (known_fits solved_fits have_sizes loaded stored program formed sizes)
 
-module _ (loaded : List Solution) (program : Program) (fits : All IsStorable (known_by (lookup loaded) program)) where
+module _ (loaded : List Solution) (program : Program) (fits : All IsStorable (known_by (lookup solve loaded) program)) where
   -- so is each component's key
   pub key_fits : (place : ℕ) (part : Component) → slice_get (program_components program) place ≡ Some part →
-      IsStorableKey (key_after program.structs (answers_in (known_by (lookup loaded) program)) part)
+      IsStorableKey (key_after program.structs (answers_in (known_by (lookup solve loaded) program)) part)
   key_fits place part at =
-      let one : Solution = answered (lookup loaded) (key_after program.structs (answers_in (known_by (lookup loaded) program)) part) in
-      (all_at IsStorable (known_by (lookup loaded) program) place one fits (known_is (lookup loaded) program place part at)).key
+      let one : Solution = answered (lookup solve loaded) (key_after program.structs (answers_in (known_by (lookup solve loaded) program)) part) in
+      (all_at IsStorable (known_by (lookup solve loaded) program) place one fits (known_is (lookup solve loaded) program place part at)).key
 
-  aimed_fit : (aim : Aim) → All IsStorable (aimed_known (lookup loaded) program aim)
+  aimed_fit : (aim : Aim) → All IsStorable (aimed_known (lookup solve loaded) program aim)
   aimed_fit aim =
       let places : List ℕ = filter (aimed program aim) (range_with_len 0 (length (program_components program))) in
-      all_of IsStorable (aimed_known (lookup loaded) program aim)
+      all_of IsStorable (aimed_known (lookup solve loaded) program aim)
       (λ k one at.
-      let from = from_filter_map (slice_get (known_by (lookup loaded) program)) places k one at in
-      all_at IsStorable (known_by (lookup loaded) program) from.1 one fits from.3)
+      let from = from_filter_map (slice_get (known_by (lookup solve loaded) program)) places k one at in
+      all_at IsStorable (known_by (lookup solve loaded) program) from.1 one fits from.3)
 
   -- and so are entries that are what is known of an aim's components
-  pub entries_fit : (aim : Aim) (kept : List Kept) → solutions_of kept ≡ aimed_known (lookup loaded) program aim →
+  pub entries_fit : (aim : Aim) (kept : List Kept) → solutions_of kept ≡ aimed_known (lookup solve loaded) program aim →
       All (λ (one : Kept). IsStorable (solution_of one)) kept
   entries_fit aim kept is =
       let all : All IsStorable (solutions_of kept) = subst (All IsStorable) (sym is) (aimed_fit aim) in

@@ -7,7 +7,7 @@ use Rattle.shape_data.specs.WellFormed.{IsProgram}
 use Rattle.loaded_answers.specs.Lookup.{lookup}
 use Rattle.bottom_up.specs.BottomUp.{known_by}
 use Rattle.bottom_up.specs.Laws.{IsRight}
-use Rattle.solve_job.specs.Solves.{IsStoredEntry}
+use Rattle.solve_job.specs.Solves.{IsStoredEntry, solve}
 use Rattle.store_json.specs.Entries.{IsStorable}
 
 -- the entries of a store are right for their keys
@@ -18,4 +18,4 @@ StoredAreRight = (loaded : List Solution) → All IsStoredEntry loaded → All I
 abbrev pub KnownIsStorable : Type 0
 KnownIsStorable =
     (loaded : List Solution) → All IsStoredEntry loaded → (program : Program) → IsProgram program → HasProgramSizes program →
-    All IsStorable (known_by (lookup loaded) program)
+    All IsStorable (known_by (lookup solve loaded) program)

@@ -10,8 +10,7 @@ ghost use Rattle.plain_answers.specs.Table.{IsClosed, IsTable};
 ghost use Rattle.settled_laws.specs.Laws.{aimed_known};
 ghost use Rattle.shape_data.specs.Sizes.{HasProgramSizes};
 ghost use Rattle.shape_data.specs.WellFormed.{IsProgram, IsStorableKey};
-ghost use Rattle.solve_job.specs.Solves.{IsStoredEntry};
-ghost use Rattle.solve_laws.specs.Solving.{solve as solve_of};
+ghost use Rattle.solve_job.specs.Solves.{IsStoredEntry, solve as solve_of};
 ghost use Rattle.store_json.specs.Entries.{IsStorable};
 
 use crate::aims::aimed_in;
@@ -48,7 +47,7 @@ fn answer_to<R: Wait, G: Gate>(
     gate: &G,
 ) -> Result<Arc<Answer>, AllocError>
     requires { IsStorableKey key.now }
-    ensures { IfOk result (λ answer. answer.value ≡ lookup loaded.now key.now) }
+    ensures { IfOk result (λ answer. answer.value ≡ lookup solve_of loaded.now key.now) }
 {
     match loaded.find(key) {
         Some(answer) => share(answer),
@@ -68,7 +67,7 @@ fn entry_for<R: Wait, G: Gate>(
     gate: &G,
 ) -> Result<Kept, AllocError>
     requires { IsStorableKey key }
-    ensures { IfOk result (λ kept. solution_of kept ≡ answered (lookup loaded.now) key) }
+    ensures { IfOk result (λ kept. solution_of kept ≡ answered (lookup solve_of loaded.now) key) }
 {
     let answer = answer_to(rt, alloc, loaded, &key, gate)?;
     let key = Arc::new(alloc, key)?;
@@ -90,7 +89,7 @@ fn table_of<R: Wait, G: Gate>(
     requires loaded { All IsStoredEntry loaded.now }
     requires rows { AreRows program.now components.now }
     requires closed { IsClosed program.now (marked marks.now) }
-    ensures { IfOk result (λ table. IsTable (marked marks.now) (known_by (lookup loaded.now) program.now) (length components.now)
+    ensures { IfOk result (λ table. IsTable (marked marks.now) (known_by (lookup solve_of loaded.now) program.now) (length components.now)
         table.items) }
 {
     known_is_storable();
@@ -129,7 +128,7 @@ pub fn plain<R: Wait, G: Gate>(
     requires formed { IsProgram program.now }
     requires sizes { HasProgramSizes program.now }
     requires loaded { All IsStoredEntry loaded.now }
-    ensures known { IfOk result (λ kept. solutions_of kept.items ≡ aimed_known (lookup loaded.now) program.now aim.now) }
+    ensures known { IfOk result (λ kept. solutions_of kept.items ≡ aimed_known (lookup solve_of loaded.now) program.now aim.now) }
     ensures storable { IfOk result (λ kept. All (λ one. IsStorable (solution_of one)) kept.items) }
 {
     known_is_storable();

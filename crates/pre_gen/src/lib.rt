@@ -8,5 +8,6 @@ mod coming;
 mod searching;
 mod turning;
 
+pub use candidate_laws::laws::candidates_are_well_formed;
 pub use candidate_laws::{Dropped, Found};
 pub use turning::candidates;

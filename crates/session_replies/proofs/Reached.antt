@@ -16,7 +16,7 @@ use Rattle.loaded_answers.specs.Lookup.{Agrees, lookup}
 use Rattle.bottom_up.specs.BottomUp.{answers_in, known_by}
 use Rattle.bottom_up.specs.Placed.{answers_kept}
 use Rattle.settled_laws.specs.Laws.{AllAreAimed, CollectedAreKnown, CollectedAreMany, aimed_answers, aimed_known}
-use Rattle.plain_answers.specs.Solving.{AgreedAreLookedUp}
+use Rattle.plain_answers.specs.Solving.{AgreedAreLookedUp, solve}
 use Rattle.plain_answers.specs.Solving.{Solves}
 use Rattle.worker_pool.specs.Entries.{AreEntries}
 use Rattle.session_replies.specs.Work.{count_reached}
@@ -33,13 +33,13 @@ entries_many solves many program aim kept are =
 pub entries_known : CollectedAreKnown Solves → AgreedAreLookedUp →
     (loaded : List Solution) (program : Program) (aim : Aim) (kept : List Kept) →
     AreEntries Solves program aim kept → All (λ (one : Kept). Agrees loaded (solution_of one)) kept →
-    solutions_of kept ≡ aimed_known (lookup loaded) program aim
+    solutions_of kept ≡ aimed_known (lookup solve loaded) program aim
 entries_known collected agreed loaded program aim kept are agree =
-    collected (lookup loaded) are.log are.legal aim
+    collected (lookup solve loaded) are.log are.legal aim
     (subst (λ (p : Program). IsSettled (replay are.log) (aimed p aim)) (sym are.program_is) are.settled) kept
     (are.kept_are ∙ ap (λ (p : Program). map slot_solution (slots_by (replay are.log) (aimed p aim))) (sym are.program_is))
     (λ i one lt. agreed loaded (solution_of (get_or kept i one)) (are.right i one lt).right (agree i one lt)) ∙
-    ap (λ (p : Program). aimed_known (lookup loaded) p aim) are.program_is
+    ap (λ (p : Program). aimed_known (lookup solve loaded) p aim) are.program_is
 
 answers_of_solutions : (kept : List Kept) → answers_in (solutions_of kept) ≡ answers_kept kept
 answers_of_solutions [] = refl

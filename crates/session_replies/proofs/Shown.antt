@@ -24,6 +24,7 @@ use Rattle.summary_book.specs.Aims.{aimed, component_calls, component_with, has_
 use Rattle.summary_book.proofs.Lists.{position_found, position_missing}
 use Rattle.claim_core.specs.Views.{Solution}
 use Rattle.loaded_answers.specs.Lookup.{lookup}
+use Rattle.plain_answers.specs.Solving.{solve}
 use Rattle.bottom_up.specs.BottomUp.{answers_in, known_by, program_summaries, summary_named}
 use Rattle.bottom_up.specs.Placed.{summary_among}
 use Rattle.bottom_up.proofs.ListPlaces.{from_flat, in_flat, mapped_at, mapped_same, only_found}
@@ -35,16 +36,16 @@ use Rattle.settled_laws.proofs.Whole.{given_mapped}
 use Rattle.session_replies.specs.Known.{named_summary}
 use Rattle.session_replies.specs.Texts.{is_named}
 
-module _ (loaded : List Solution) (fit : (key : Key) → IsKey analysable key → IsAnswer analysable key (lookup loaded key))
+module _ (loaded : List Solution) (fit : (key : Key) → IsKey analysable key → IsAnswer analysable key (lookup solve loaded key))
     (program : Program) (formed : IsProgram program) where
   abbrev answer_of : Key → Answer
-  answer_of = lookup loaded
+  answer_of = lookup solve loaded
 
   abbrev known : List Solution
-  known = known_by (lookup loaded) program
+  known = known_by (lookup solve loaded) program
 
   abbrev answers : List Answer
-  answers = answers_in (known_by (lookup loaded) program)
+  answers = answers_in (known_by (lookup solve loaded) program)
 
   abbrev its_procs : Answer → List ProcSummary
   its_procs answer = answer.procs

@@ -14,7 +14,7 @@ ghost use Rattle.session_replies.specs.Work.{count_reached};
 ghost use Rattle.settled_laws.specs.Laws.{aimed_known};
 ghost use Rattle.shape_data.specs.Sizes.{HasProgramSizes};
 ghost use Rattle.shape_data.specs.WellFormed.{IsProgram};
-ghost use Rattle.plain_answers.specs.Solving.{IsStoredEntry};
+ghost use Rattle.plain_answers.specs.Solving.{IsStoredEntry, solve as solve_of};
 ghost use Rattle.store_json.specs.Entries.{IsStorable};
 ghost use Rattle.summary_book.specs.declared.aims.Aim.TheVariants as aim;
 
@@ -51,7 +51,7 @@ fn answers_for<R: Wait, G: Gate, A: Ledger, B: Ledger>(
     requires formed { IsProgram program.now.value }
     requires sizes { HasProgramSizes program.now.value }
     requires loaded { All IsStoredEntry loaded.now }
-    ensures known { IfOk result (λ kept. solutions_of kept.items ≡ aimed_known (lookup loaded.now) program.now.value aim.now) }
+    ensures known { IfOk result (λ kept. solutions_of kept.items ≡ aimed_known (lookup solve_of loaded.now) program.now.value aim.now) }
     ensures storable { IfOk result (λ kept. All (λ one. IsStorable (solution_of one)) kept.items) }
     ensures worked { OnOk result (count_reached program.now.value aim.now ≤ hands.new.seen) }
     ensures rises { hands.old.seen ≤ hands.new.seen }

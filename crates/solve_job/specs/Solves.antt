@@ -5,7 +5,7 @@ use Rattle.shape_data.specs.declared.answer.Key.{Key}
 use Rattle.shape_data.specs.WellFormed.{IsStorableAnswer}
 use Rattle.claim_core.specs.Views.{Solution}
 use Rattle.certificate_laws.specs.Inductive.{Inductive}
-use Rattle.solve_laws.specs.Solving.{solve}
+pub use Rattle.solve_laws.specs.Solving.{solve}
 
 -- the answer is marked as read from a store, and is inductive for the key
 pub record IsStored (key : Key) (answer : Answer) : Type 0 where

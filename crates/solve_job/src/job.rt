@@ -61,7 +61,7 @@ impl SolveJob {
     /// The answer of the first loaded entry that has the key, else the one that solving it gives.
     fn answer(&self, alloc: Global, key: &Key) -> Result<Arc<Answer>, AllocError>
         requires { IsJobKey key.now }
-        ensures value { IfOk result (λ answer. answer.value ≡ lookup self.now key.now) }
+        ensures value { IfOk result (λ answer. answer.value ≡ lookup solve_of self.now key.now) }
         ensures solves { IfOk result (λ answer. Solves key.now answer.value) }
         ensures storable { IfOk result (λ answer. IsStorableAnswer key.now answer.value) }
     {
@@ -82,7 +82,7 @@ impl Job for SolveJob {
         requires tally { tally.old ≡ 0 }
         requires key { IsJobKey key.now.value }
         ensures key { IfOk result (λ solved. solved.key ≡ key.now.value) }
-        ensures answer { IfOk result (λ solved. solved.answer ≡ lookup self.now key.now.value) }
+        ensures answer { IfOk result (λ solved. solved.answer ≡ lookup solve_of self.now key.now.value) }
         ensures ok { OnOk result (tally.new ≡ 1) }
         ensures err { OnErr result (tally.new ≡ 0) }
     {

@@ -2,7 +2,7 @@
 use Rattle.std.specs.Prelude.{◌≡◌, ℕ, ℤ, Bool, true, false, not, ◌==◌, ◌&&◌, List, [], ◌∷◌}
 use Rattle.std.specs.List.{list_any}
 use Rattle.shape_data.specs.declared.symbolic.Atom.{Atom}
-use Rattle.shape_laws.specs.Symbolic.{occurs_in_atom}
+pub use Rattle.shape_laws.specs.Symbolic.{is_variable, occurs_in, occurs_in_atom, occurs_in_fact}
 
 -- the variable is one of the names
 abbrev pub is_one_of : List ℕ → ℕ → Bool

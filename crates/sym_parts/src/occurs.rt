@@ -1,8 +1,8 @@
 //! Whether a variable occurs.
 ghost use Rattle.std.specs.Prelude.{◌≡◌};
 ghost use Rattle.std.specs.List.{list_any};
-ghost use Rattle.sym_laws.specs.Fresh.{is_one_of as is_one_of_list};
-ghost use Rattle.shape_laws.specs.Symbolic.{
+ghost use Rattle.sym_laws.specs.Fresh.{
+  is_one_of as is_one_of_list,
   is_variable,
   occurs_in as occurs_in_heap_of,
   occurs_in_atom as occurs_in_atom_of,

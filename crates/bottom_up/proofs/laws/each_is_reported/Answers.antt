@@ -1,11 +1,12 @@
 use Rattle.loaded_answers.specs.Lookup.{lookup}
+use Rattle.solve_laws.specs.Solving.{solve}
 use Rattle.bottom_up.proofs.LookedUp.{looked_up_are_right}
 use Rattle.bottom_up.proofs.Reported.{are_reported}
 use Rattle.bottom_up.proofs.laws.each_is_reported.Goals as goal
 
 pub returns-clause-solved : goal.returns-clause-solved
 returns-clause-solved c =
-    λ loaded right. are_reported c.all_are_valid.ensures (lookup loaded)
+    λ loaded right. are_reported c.all_are_valid.ensures (lookup solve loaded)
     (looked_up_are_right
     (record {
       inductive = c.solved_is_inductive.ensures;

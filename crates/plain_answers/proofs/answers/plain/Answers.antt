@@ -7,6 +7,7 @@ use Rattle.shape_data.specs.declared.answer.Kept.{Kept}
 use Rattle.call_components.specs.Reaching.{marked}
 use Rattle.store_json.specs.Entries.{IsStorable}
 use Rattle.loaded_answers.specs.Lookup.{lookup}
+use Rattle.solve_job.specs.Solves.{solve}
 use Rattle.claim_core.specs.Views.{solution_of, solutions_of}
 use Rattle.bottom_up.specs.Placed.{AreRows}
 use Rattle.settled_laws.specs.Laws.{aimed_known}
@@ -35,9 +36,9 @@ pub returns-clause-known : goal.returns-clause-known
 returns-clause-known g c =
     IfOk-weaker c.entries_in.result
     (λ (kept : Vec Kept). kept.items ≡ filter_map (λ (entry : Option Kept). entry) c.in_ok-table.table.items)
-    (λ (kept : Vec Kept). solutions_of kept.items ≡ aimed_known (lookup c.args.loaded.now) c.args.program.now c.args.aim.now)
+    (λ (kept : Vec Kept). solutions_of kept.items ≡ aimed_known (lookup solve c.args.loaded.now) c.args.program.now c.args.aim.now)
     (λ kept is.
-    gathered_in (lookup c.args.loaded.now) c.args.program.now c.args.aim.now c.deref-2.result.now c.in_ok-components.components.items
+    gathered_in (lookup solve c.args.loaded.now) c.args.program.now c.args.aim.now c.deref-2.result.now c.in_ok-components.components.items
     c.deref-2.ensures.value
     (record {
       are = c.in_ok-components.ensures.are;
@@ -56,7 +57,7 @@ returns-clause-storable g c =
     (λ kept is.
     entries_fit loaded program
     (c.known_is_storable.ensures loaded c.requires.loaded program c.requires.formed c.requires.sizes) c.args.aim.now kept.items
-    (gathered_in (lookup loaded) program c.args.aim.now c.deref-2.result.now c.in_ok-components.components.items c.deref-2.ensures.value
+    (gathered_in (lookup solve loaded) program c.args.aim.now c.deref-2.result.now c.in_ok-components.components.items c.deref-2.ensures.value
     (record {
       are = c.in_ok-components.ensures.are;
       within = c.in_ok-components.ensures.within;

@@ -7,6 +7,7 @@ use Rattle.call_components.specs.Reaching.{marked}
 use Rattle.component_keys.specs.Keys.{Component, flows_of, program_components}
 use Rattle.composed_keys.specs.Rows.{component_value}
 use Rattle.loaded_answers.specs.Lookup.{lookup}
+use Rattle.solve_job.specs.Solves.{solve}
 use Rattle.bottom_up.specs.BottomUp.{answered, known_by}
 use Rattle.summary_book.proofs.Rowed.{row_at}
 use Rattle.plain_answers.specs.Table.{IsTable, answer_at, key_by}
@@ -39,16 +40,16 @@ entry_for-requires g c =
     subst IsStorableKey
     (sym
     (c.in_ok-key.ensures ∙ ap (λ (l : List (Option Kept)). key_by program.structs (answer_at l) part) c.deref-in-loop-place.ensures.value ∙
-    key_is (lookup loaded) program (marked c.args.marks.now) c.requires.closed place part c.loop-place.table.items at c.loop-place.invariant
+    key_is (lookup solve loaded) program (marked c.args.marks.now) c.requires.closed place part c.loop-place.table.items at c.loop-place.invariant
     (sym c.is_marked.ensures ∙ c.if-not-is_marked.false)))
     (key_fits loaded program
     (c.known_is_storable.ensures loaded c.requires.loaded program c.requires.formed c.requires.sizes) place part at)
 
 pub loop-place-preserved-then-not-is_marked : goal.loop-place-preserved-then-not-is_marked
 loop-place-preserved-then-not-is_marked g c =
-    let known = known_by (lookup c.args.loaded.now) c.args.program.now in
+    let known = known_by (lookup solve c.args.loaded.now) c.args.program.now in
     subst (IsTable (marked c.args.marks.now) known (c.loop-place.place + 1)) (sym c.in_ok-push.ensures.items)
-    (none_more (lookup c.args.loaded.now) c.args.program.now
+    (none_more (lookup solve c.args.loaded.now) c.args.program.now
     (marked c.args.marks.now) c.loop-place.place c.loop-place.table.items c.loop-place.invariant
     (sym c.is_marked.ensures ∙ c.if-not-is_marked.true))
 
@@ -57,17 +58,17 @@ loop-place-preserved g c =
     let program = c.args.program.now in
     let loaded = c.args.loaded.now in
     let place = c.loop-place.place in
-    let known = known_by (lookup loaded) program in
+    let known = known_by (lookup solve loaded) program in
     let part : Component = component_value (flows_of program) c.index-components-place.result in
     let at : slice_get (program_components program) place ≡ Some part =
     part_at program c.args.components.now c.requires.rows place c.index-components-place.result
     (row_at c.args.components.now c.args.components.now place c.index-components-place.result refl c.loop-place-test.true
     c.index-components-place.is) in
     subst (IsTable (marked c.args.marks.now) known (place + 1)) (sym c.in_ok-push-2.ensures.items)
-    (one_more (lookup loaded) program
+    (one_more (lookup solve loaded) program
     (marked c.args.marks.now) c.requires.closed place part c.loop-place.table.items c.in_ok-entry.entry at c.loop-place.invariant
     (sym c.is_marked.ensures ∙ c.if-not-is_marked.false)
     (c.in_ok-entry.ensures ∙
-    ap (answered (lookup loaded))
+    ap (answered (lookup solve loaded))
     (c.in_ok-key.ensures
     ∙ ap (λ (l : List (Option Kept)). key_by program.structs (answer_at l) part) c.deref-in-loop-place.ensures.value)))

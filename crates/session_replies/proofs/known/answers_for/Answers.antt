@@ -7,7 +7,7 @@ use Rattle.shape_data.specs.declared.answer.Kept.{Kept}
 use Rattle.loaded_answers.specs.Lookup.{Agrees, lookup}
 use Rattle.claim_core.specs.Views.{solution_of, solutions_of}
 use Rattle.settled_laws.specs.Laws.{aimed_known}
-use Rattle.plain_answers.specs.Solving.{Solves}
+use Rattle.plain_answers.specs.Solving.{Solves, solve}
 use Rattle.session_replies.specs.Work.{count_reached}
 use Rattle.session_replies.proofs.Reached.{entries_known, entries_many}
 use Rattle.session_replies.proofs.known.answers_for.Goals as goal
@@ -37,5 +37,5 @@ returns-else-agrees-clause-worked g c =
     let few = c.in_ok-kept.ensures.count in
     let worked : count_reached c.args.program.now.value c.args.aim.now ≤ c.settle.new.hands.seen = omega (arith, many, few) in
     IfOk-weaker c.plain.result
-    (λ kept. solutions_of kept.items ≡ aimed_known (lookup c.args.loaded.now) c.deref-else-agrees.result.now c.args.aim.now)
+    (λ kept. solutions_of kept.items ≡ aimed_known (lookup solve c.args.loaded.now) c.deref-else-agrees.result.now c.args.aim.now)
     (λ kept. count_reached c.args.program.now.value c.args.aim.now ≤ c.settle.new.hands.seen) (λ kept known. worked) c.plain.ensures.known

@@ -6,6 +6,7 @@ use Rattle.report_text.specs.Parts.{AreReportable}
 use Rattle.shape_data.specs.declared.answer.ProcSummary.{ProcSummary}
 use Rattle.shape_data.specs.declared.program.Program.{Program}
 use Rattle.loaded_answers.specs.Lookup.{lookup}
+use Rattle.plain_answers.specs.Solving.{solve}
 use Rattle.bottom_up.specs.BottomUp.{answers_in, known_by, program_summaries}
 use Rattle.bottom_up.specs.declared.places.Place.{Place}
 use Rattle.bottom_up.specs.Placed.{answers_kept, summary_in}
@@ -19,12 +20,12 @@ use Rattle.session_replies.proofs.known.entries.Goals as goal
 pub summary_places-requires-clause-right : goal.summary_places-requires-clause-right
 summary_places-requires-clause-right g c =
     let loaded = c.args.loaded.now in (
-      lookup loaded,
+      lookup solve loaded,
       c.each_is_reported.ensures.looked_up loaded (c.stored_are_right.ensures loaded c.requires.loaded),
       ap answers_kept c.deref-2.ensures.value
           ∙ answers_known
-          (lookup loaded) c.settled_is_known.ensures.aimed c.args.program.now.value c.in_ok-kept.kept.items c.in_ok-kept.ensures.known ∙
-          ap (λ (program : Program). answers_in (known_by (lookup loaded) program)) (sym c.deref.ensures),
+          (lookup solve loaded) c.settled_is_known.ensures.aimed c.args.program.now.value c.in_ok-kept.kept.items c.in_ok-kept.ensures.known ∙
+          ap (λ (program : Program). answers_in (known_by (lookup solve loaded) program)) (sym c.deref.ensures),
     )
 
 pub told_of-requires-clause-one_each : goal.told_of-requires-clause-one_each
@@ -48,12 +49,12 @@ returns-clause-value g c =
     ≡ program_summaries loaded c.args.program.now.value =
     ap₂ (λ (kept : List Kept) (places : List Place). filter_map (summary_in (answers_kept kept)) places)
     (c.deref-4.ensures.value ∙ sym c.deref-2.ensures.value) c.deref-5.ensures.value ∙
-    c.in_ok-places.ensures.summaries (lookup loaded)
+    c.in_ok-places.ensures.summaries (lookup solve loaded)
     (c.each_is_reported.ensures.looked_up loaded (c.stored_are_right.ensures loaded c.requires.loaded))
     (ap answers_kept c.deref-2.ensures.value
     ∙ answers_known
-    (lookup loaded) c.settled_is_known.ensures.aimed c.args.program.now.value c.in_ok-kept.kept.items c.in_ok-kept.ensures.known ∙
-    ap (λ (program : Program). answers_in (known_by (lookup loaded) program)) (sym c.deref.ensures)) ∙
+    (lookup solve loaded) c.settled_is_known.ensures.aimed c.args.program.now.value c.in_ok-kept.kept.items c.in_ok-kept.ensures.known ∙
+    ap (λ (program : Program). answers_in (known_by (lookup solve loaded) program)) (sym c.deref.ensures)) ∙
     ap (program_summaries loaded) c.deref.ensures in
     IfOk-weaker c.told_of.result
     (λ told. told.items

@@ -3,6 +3,7 @@ use Rattle.std.proofs.Common.{◌≡◌, ◌∙◌, Some, None, ap, sym}
 use Rattle.bottom_up.specs.Placed.{answers_kept, summary_among}
 use Rattle.settled_laws.specs.Laws.{aimed_answers}
 use Rattle.loaded_answers.specs.Lookup.{lookup}
+use Rattle.plain_answers.specs.Solving.{solve}
 use Rattle.summary_book.specs.declared.aims.Aim.TheVariants.{One}
 use Rattle.session_replies.proofs.Reached.{answers_aimed}
 use Rattle.session_replies.proofs.Reporting.{named_is_printable}
@@ -19,10 +20,10 @@ unreachable-requires g c =
     let none : None ≡ Some own.summary =
     sym c.in-None.is ∙ c.in_ok-summary.ensures ∙ ap (λ kept. summary_among (answers_kept kept) c.args.name.now) c.deref.ensures.value ∙
     ap (λ answers. summary_among answers c.args.name.now)
-    (answers_aimed (lookup c.args.loaded.now) c.args.program.now.value
+    (answers_aimed (lookup solve c.args.loaded.now) c.args.program.now.value
     (One c.in_ok-copy_of.field-0) c.in_ok-kept.kept.items c.in_ok-kept.ensures.known) ∙
     ap (λ name. summary_among
-    (aimed_answers (lookup c.args.loaded.now) c.args.program.now.value (One name)) c.args.name.now) c.in_ok-copy_of.ensures ∙ own.among in
+    (aimed_answers (lookup solve c.args.loaded.now) c.args.program.now.value (One name)) c.args.name.now) c.in_ok-copy_of.ensures ∙ own.among in
     absurd cc
 
 pub returns-clause-value : goal.returns-clause-value
@@ -35,10 +36,10 @@ returns-clause-value g c =
     own.known ∙
     sym (sym c.in-Some.is ∙ c.in_ok-summary.ensures ∙ ap (λ kept. summary_among (answers_kept kept) c.args.name.now) c.deref.ensures.value ∙
     ap (λ answers. summary_among answers c.args.name.now)
-    (answers_aimed (lookup c.args.loaded.now) c.args.program.now.value
+    (answers_aimed (lookup solve c.args.loaded.now) c.args.program.now.value
     (One c.in_ok-copy_of.field-0) c.in_ok-kept.kept.items c.in_ok-kept.ensures.known) ∙
     ap (λ name. summary_among
-    (aimed_answers (lookup c.args.loaded.now) c.args.program.now.value (One name)) c.args.name.now) c.in_ok-copy_of.ensures ∙ own.among)
+    (aimed_answers (lookup solve c.args.loaded.now) c.args.program.now.value (One name)) c.args.name.now) c.in_ok-copy_of.ensures ∙ own.among)
 
 pub returns-clause-printable : goal.returns-clause-printable
 returns-clause-printable g c =
@@ -53,7 +54,7 @@ returns-clause-printable g c =
     (own.known ∙
     sym (sym c.in-Some.is ∙ c.in_ok-summary.ensures ∙ ap (λ kept. summary_among (answers_kept kept) c.args.name.now) c.deref.ensures.value ∙
     ap (λ answers. summary_among answers c.args.name.now)
-    (answers_aimed (lookup c.args.loaded.now) c.args.program.now.value
+    (answers_aimed (lookup solve c.args.loaded.now) c.args.program.now.value
     (One c.in_ok-copy_of.field-0) c.in_ok-kept.kept.items c.in_ok-kept.ensures.known) ∙
     ap (λ name. summary_among
-    (aimed_answers (lookup c.args.loaded.now) c.args.program.now.value (One name)) c.args.name.now) c.in_ok-copy_of.ensures ∙ own.among))
+    (aimed_answers (lookup solve c.args.loaded.now) c.args.program.now.value (One name)) c.args.name.now) c.in_ok-copy_of.ensures ∙ own.among))
