@@ -6,7 +6,7 @@ ghost use Rattle.c_lower_exprs.specs.Slots.{IsBound, slot_found, bound_of};
 
 use c_lower_emit::visible_slots::VisibleSlots;
 use c_tree::Name;
-use c_types_names::first_of_name::{Firsts, first_of, set};
+use c_types_names::first_of_name::{Firsts, first_of, replace, set};
 use std::alloc::{AllocError, Global};
 use std::collections::BTreeMap;
 use std::marker::Model;
@@ -112,9 +112,9 @@ fn declare<'a>(
 {
     all.reserve(1)?;
     visible.push(bound.slot)?;
-    let hidden = slot_found(of_names, bound.name);
-    match set(of_names, bound.name, Some(bound.slot)) {
-        Ok(()) => {
+    match replace(of_names, bound.name, Some(bound.slot)) {
+        Ok(old) => {
+            let hidden = old.flatten();
             all.push(Declared { bound, hidden }).unwrap();
             Ok(())
         }

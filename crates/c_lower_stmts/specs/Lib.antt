@@ -2,6 +2,7 @@ pub mod Simples
 pub mod Targets
 pub mod Amounts
 pub mod Standing
+pub mod WantedTypes
 pub mod Declaring
 pub mod Laying
 pub mod Parts

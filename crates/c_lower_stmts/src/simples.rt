@@ -1,7 +1,8 @@
 //! Simple statements (C11 6.8.3).
 ghost use Rattle.std.specs.Prelude.{◌≡◌, map, OnOk};
 ghost use Rattle.c_tree.specs.Syntax.{ident_tree, expr_tree, args_tree, assign_tree, step_tree, simple_tree};
-ghost use Rattle.c_types_names.specs.Seen.{type_seen};
+ghost use Rattle.c_types_rules.specs.Expressions.{kind_of};
+ghost use Rattle.c_types_rules.specs.Programs.{known};
 ghost use Rattle.c_lower_rules.specs.Expressions.{arguments, no_arguments, lowering, lowerings};
 ghost use Rattle.c_lower_rules.specs.Statements as statements;
 ghost use Rattle.c_lower_rules.specs.Statements.{
@@ -24,22 +25,20 @@ ghost use Rattle.c_lower_stmts.specs.Targets.{IsFieldKind};
 use crate::storing::{call, free, store, zero};
 use crate::targets::{Target, lower_pointer, target_of};
 use crate::updating::{Amount, update_member, update_variable};
-use crate::wanted_values::wanted;
+use crate::wanted_values::{WantedType, wanted};
 use c_lower_emit::output::Output;
 use c_lower_emit::uses::Use;
 use c_lower_exprs::site::Site;
 use c_lower_exprs::values::{lower, values};
 use c_tree::places::place_of_expr;
 use c_tree::{AssignOp, Expr, Ident, Place, Simple, StepOp};
-use c_types_exprs::exprs::kind_of;
-use c_types_names::kinds::{CType, known};
 use shape_data::program::{ArithOp, Operand};
 use std::alloc::AllocError;
 
-/// `=` to a member, whose field has the type: the value, then the pointer, then the store.
+/// `=` to a member, which is the expression on the left: the value, then the pointer, then the store.
 fn set_member<'a>(
     site: &Site<'_, 'a>,
-    kind: CType<'a>,
+    left: &'a Expr,
     base: &'a Box<Expr>,
     first: &'a Ident,
     others: &'a Vec<Ident>,
@@ -49,14 +48,14 @@ fn set_member<'a>(
     ensures { OnOk result (HasIntNumbers (expr_tree base.now.value) → HasIntNumbers (expr_tree value.now)
         → IsFieldKind (member_target site.now (lowering site.now (expr_tree base.now.value)) (ident_tree first.now)
         (map ident_tree others.now.items))
-        (type_seen kind.entry)
+        (known (kind_of site.now.env (expr_tree left.now)))
         → EmitsPiece (assign site.now
         (member_target site.now (lowering site.now (expr_tree base.now.value)) (ident_tree first.now)
         (map ident_tree others.now.items))
         (expr_tree value.now))
         site.now.first_temp out.old out.new) }
 {
-    let value = wanted(site, kind, value, Use::Value, out)?;
+    let value = wanted(site, WantedType::TypeOf(left), value, Use::Value, out)?;
     let pointer = lower_pointer(site, base, first, others, out)?;
     store(site, pointer.base, pointer.field, value.operand, out)
 }
@@ -89,8 +88,7 @@ fn assign<'a>(
     match target_of(site, left) {
         Target::Variable(to) => set_variable(site, to, value, out),
         Target::Member(base, first, others) => {
-            let kind = known(kind_of(site.env(), left));
-            set_member(site, kind, base, first, others, value, out)
+            set_member(site, left, base, first, others, value, out)
         }
     }
 }

@@ -12,7 +12,7 @@ ghost use Rattle.c_lower_emit.specs.Emitting.{EmitsCode, EmitsTested};
 ghost use Rattle.c_lower_stmts.specs.Parts.{EmitsReleased, Chooses};
 
 use crate::simples::simple;
-use crate::wanted_values::wanted;
+use crate::wanted_values::{WantedType, wanted};
 use c_lower_emit::drafts::{AS_THEY_ARE, Label, Ways};
 use c_lower_emit::output::Output;
 use c_lower_emit::uses::Use;
@@ -62,7 +62,13 @@ pub fn returned<'a>(
     match value {
         None => push_return(site, Operand::Num(0), out),
         Some(value) => {
-            let found = wanted(site, site.result(), value, Use::Value, out)?;
+            let found = wanted(
+                site,
+                WantedType::Kind(site.result()),
+                value,
+                Use::Value,
+                out,
+            )?;
             push_return(site, found.operand, out)
         }
     }

@@ -1,6 +1,6 @@
 //! What is refused in an expression; its type is found in the same walk. The calls nest as deep as the expression does.
 ghost use Rattle.std.specs.Prelude.{◌≡◌, map, option_map};
-ghost use Rattle.c_types_rules.specs.Tables.{field_of, param_kind, param_kinds, procedure_in};
+ghost use Rattle.c_types_rules.specs.Tables.{param_kind, param_kinds, procedure_in};
 ghost use Rattle.c_types_rules.specs.Expressions.{
   member_refusals,
   members_refusals,
@@ -14,7 +14,6 @@ ghost use Rattle.c_types_rules.specs.Expressions.{
   args_refusals,
   call_refusals,
   whole_refusals,
-  lacks,
   kind_of_member,
   kind_of_members,
   kind_of,
@@ -26,7 +25,7 @@ ghost use Rattle.c_types_names.specs.Seen.{kind_seen};
 ghost use Rattle.c_types_exprs.specs.Seen.{given_seen};
 ghost use Rattle.c_types_names.specs.FirstRefusal.{with_refusals};
 
-use crate::exprs::{is_null, kind_of, kind_of_binary, kind_of_member, kind_of_prefix};
+use crate::exprs::{is_null, kind_of, kind_of_binary, kind_of_prefix};
 use crate::value_types::{Given, fits, given_as, may_stand_behind, may_stand_by};
 use c_tree::places::place_of_expr;
 use c_tree::{Expr, Ident, Link, Name, Param, Params, Place, TypeSpecifier};
@@ -39,35 +38,36 @@ use c_types_names::objects::{
 };
 use c_types_names::tables::Tables;
 
-/// Whether the structure of the tag is defined and lacks the field.
-fn lacks(tables: &Tables, tag: &Name, field: &Name) -> bool
-    ensures { result ≡ lacks tables.now tag.now (field_of tables.now tag.now field.now) }
-{
-    match field_of(tables, tag, field) {
-        None => is_defined(tables, tag),
-        Some(_) => false,
-    }
-}
-
-/// Refuses a field that is none of the structure that a pointer points to, and a field of what is no pointer.
-#[tactic(auto, using(c_types_names::proofs::FirstRefusals::more_refusals))]
-fn member_refusals<'a>(
+/// The type of a field of what a pointer points to; refuses one that the structure lacks, and a field of what is no pointer.
+#[tactic(auto, using(c_types_names::proofs::FirstRefusals::more_refusals), unfolding(c_types_names::specs::Seen::field_seen))]
+fn member_and_refusals<'a>(
     tables: &Tables<'a>,
     place: Place,
     kind: Kind<'a>,
     field: &Ident,
     first: &mut FirstRefusal,
-)
-    ensures { first.new ≡ with_refusals first.old (member_refusals tables.now place (kind_seen kind.entry) (ident_tree field.now)) }
+) -> Kind<'a>
+    ensures refusals { first.new ≡ with_refusals first.old
+        (member_refusals tables.now place (kind_seen kind.entry) (ident_tree field.now)) }
+    ensures kind { kind_seen result ≡ kind_of_member tables.now (kind_seen kind.entry) (ident_tree field.now) }
 {
     match kind {
-        None => {}
-        Some(CType::Pointer(tag)) => {
-            let lacking = lacks(tables, tag, &field.text);
-            first.unless(!lacking, field.place, UNDECLARED);
+        None => None,
+        Some(CType::Pointer(tag)) => match field_of(tables, tag, &field.text) {
+            None => {
+                first.unless(!is_defined(tables, tag), field.place, UNDECLARED);
+                None
+            }
+            Some(found) => found.kind,
+        },
+        Some(CType::Int) => {
+            first.unless(false, place, CLASH);
+            None
         }
-        Some(CType::Int) => first.unless(false, place, CLASH),
-        Some(CType::Void) => first.unless(false, place, CLASH),
+        Some(CType::Void) => {
+            first.unless(false, place, CLASH);
+            None
+        }
     }
 }
 
@@ -86,8 +86,7 @@ fn members_refusals<'a>(
 {
     let mut current = kind;
     for field in fields {
-        member_refusals(tables, place, current, field, first);
-        current = kind_of_member(tables, current, field);
+        current = member_and_refusals(tables, place, current, field, first);
     }
     current
 }
@@ -230,8 +229,7 @@ fn kind_and_refusals<'a>(env: &Env<'a>, expr: &'a Expr, first: &mut FirstRefusal
         Expr::Members(base, field, others) => {
             let kind = kind_and_refusals(env, base, first);
             let place = place_of_expr(base);
-            member_refusals(env.tables(), place, kind, field, first);
-            let kind = kind_of_member(env.tables(), kind, field);
+            let kind = member_and_refusals(env.tables(), place, kind, field, first);
             members_refusals(env.tables(), place, kind, others.as_slice(), first)
         }
         Expr::Variable(name) => {

@@ -1,6 +1,6 @@
 //! Things by the bytes of their names. Each map by name of the crate is one of these: a tree in the order of the bytes, since whoever
 //! writes the C file could choose names that meet in a table of hashes.
-ghost use Rattle.std.specs.Prelude.{◌≡◌, ℕ, List, None, OnOk, OnErr};
+ghost use Rattle.std.specs.Prelude.{◌≡◌, ℕ, List, None, IfOk, OnOk, OnErr};
 ghost use Rattle.std.specs.BTreeMap.{IsUnchanged};
 ghost use Rattle.std.specs.Str.{bytes_eq};
 ghost use Rattle.c_types_names.specs.FirstOfName.{first_of, or_first, or_last};
@@ -20,6 +20,21 @@ pub fn first_of<'a, T: Copy>(firsts: &Firsts<'a, T>, name: &Name) -> Option<T>
     firsts.get(name.as_bytes()).copied()
 }
 
+/// Puts a thing in the place of the one of the name, and gives that one, if there was one. Only where there was none can this fail.
+pub fn replace<'a, T: Drop>(
+    firsts: &mut Firsts<'a, T>,
+    name: &'a Name,
+    thing: T,
+) -> Result<Option<T>, AllocError>
+    ensures old { IfOk result (λ old. old ≡ first_of firsts.old name.now) }
+    ensures thing { OnOk result ((n : List ℕ) → first_of firsts.new n ≡ or_last (first_of firsts.old n) (bytes_eq name.now n) thing) }
+    ensures same { OnErr result (IsUnchanged firsts.old firsts.new) }
+    ensures absent { OnErr result (first_of firsts.old name.now ≡ None) }
+{
+    let old = firsts.insert(name.as_bytes(), thing)?;
+    Ok(old)
+}
+
 /// Puts a thing in the place of the one of the name, if there is one. Only where there is none can this fail.
 pub fn set<'a, T: Drop>(
     firsts: &mut Firsts<'a, T>,
@@ -30,7 +45,7 @@ pub fn set<'a, T: Drop>(
     ensures same { OnErr result (IsUnchanged firsts.old firsts.new) }
     ensures absent { OnErr result (first_of firsts.old name.now ≡ None) }
 {
-    firsts.insert(name.as_bytes(), thing)?;
+    replace(firsts, name, thing)?;
     Ok(())
 }
 

@@ -3,7 +3,7 @@ ghost use Rattle.std.specs.Prelude.{◌≡◌, ◌||◌, ℕ, List, false, OnOk}
 ghost use Rattle.std.specs.Str.{bytes_eq};
 ghost use Rattle.c_types_names.specs.NameSets.{has};
 
-use crate::first_of_name::{Firsts, add_first, first_of};
+use crate::first_of_name::{Firsts, first_of, set};
 use c_tree::Name;
 use std::alloc::{AllocError, Global};
 use std::collections::BTreeMap;
@@ -35,6 +35,6 @@ impl<'a> NameSet<'a> {
     pub fn add(&mut self, name: &'a Name) -> Result<(), AllocError>
         ensures { OnOk result ((n : List ℕ) → has self.new n ≡ (bytes_eq name.now n || has self.old n)) }
     {
-        add_first(&mut self.names, name, true)
+        set(&mut self.names, name, true)
     }
 }

@@ -4,7 +4,7 @@ ghost use Rattle.c_types_rules.specs.Scopes.{variable_in};
 ghost use Rattle.c_types_names.specs.Seen.{variable_seen, stacked};
 ghost use Rattle.c_types_names.specs.Bindings.{IsBound, bound_of, variable_of};
 
-use crate::first_of_name::{Firsts, first_of, set};
+use crate::first_of_name::{Firsts, first_of, replace, set};
 use crate::kinds::Kind;
 use c_tree::Name;
 use std::alloc::{AllocError, Global};
@@ -105,12 +105,11 @@ fn declare<'a>(
     ensures same { OnErr result (all.new.items ≡ all.old.items) }
 {
     all.reserve(1)?;
-    let hidden = binding_of(bindings, variable.name);
     let binding = Binding {
         variable,
         place: all.len(),
     };
-    set(bindings, variable.name, Some(binding))?;
+    let hidden = replace(bindings, variable.name, Some(binding))?.flatten();
     all.push(Declared { variable, hidden }).unwrap();
     Ok(())
 }

@@ -1,5 +1,6 @@
 use Rattle.std.proofs.Common.{◌≡◌, [], ◌∷◌, ◌++◌, length, reverse, sym, ap, subst, ◌∙◌, rules}
 use Rattle.std.proofs.lemmas.List.{length-reverse}
+use Rattle.std.specs.Option.{option_flatten}
 use Rattle.c_types_names.specs.FirstOfName.{first_of}
 use Rattle.c_types_names.specs.declared.variables.Declared.{Declared}
 use Rattle.c_types_names.specs.Bindings.{AreLinked, binding_in}
@@ -10,16 +11,16 @@ pub returns-clause-bound : goal.returns-clause-bound
 returns-clause-bound c =
     let all = c.args.all.now.items in
     let name = c.args.variable.name.now in
-    let one : Declared = record { variable = c.args.variable; hidden = c.binding_of-hidden.result } in
+    let one : Declared = record { variable = c.args.variable; hidden = c.flatten-hidden.result } in
     let items : c.push.new.self.items ≡ all ++ one ∷ [] = search rules in
     let turned : reverse c.push.new.self.items ≡ one ∷ reverse all = ap reverse items ∙ reverse-last all one in
-    let hidden : one.hidden ≡ binding_in (reverse all) name = c.binding_of-hidden.ensures ∙ c.requires.found name in
+    let hidden : one.hidden ≡ binding_in (reverse all) name = c.flatten-hidden.ensures ∙ ap option_flatten c.in_ok-replace.ensures.old ∙ c.requires.found name in
     let len : c.len.result ≡ length all = search rules in
     let place : c.len.result ≡ length (reverse all) = len ∙ sym (length-reverse all) in
     record {
       linked = subst AreLinked (sym turned) (hidden, c.requires.linked);
       found = λ n.
-          declared_found (first_of c.args.bindings.now) (first_of c.set.new.firsts) (reverse all) c.args.variable c.len.result
-          c.requires.found place c.in_ok-set.ensures.thing c.binding_of-hidden.result n
+          declared_found (first_of c.args.bindings.now) (first_of c.replace.new.firsts) (reverse all) c.args.variable c.len.result
+          c.requires.found place c.in_ok-replace.ensures.thing c.flatten-hidden.result n
           ∙ ap (λ xs. binding_in xs n) (sym turned);
     }

@@ -2,9 +2,9 @@ use Rattle.std.proofs.Common.{ap, ◌∙◌}
 use Rattle.std.proofs.lemmas.Map.Text.{btree_map_updates_str}
 use Rattle.std.specs.Str.{bytes_eq}
 use Rattle.c_types_names.specs.FirstOfName.{first_of, or_last}
-use Rattle.c_types_names.proofs.first_of_name.set.Goals as goal
+use Rattle.c_types_names.proofs.first_of_name.replace.Goals as goal
 
 pub returns-clause-thing : goal.returns-clause-thing
 returns-clause-thing g c = λ n.
-    btree_map_updates_str c.as_bytes.result.now c.args.firsts.now c.insert.new.self _ c.in_ok-insert.ensures.updates n
+    btree_map_updates_str c.as_bytes.result.now c.args.firsts.now c.insert.new.self _ c.in_ok-old.ensures.updates n
     ∙ ap (λ bs. or_last (first_of c.args.firsts.now n) (bytes_eq bs n) c.args.thing) c.as_bytes.ensures.value
