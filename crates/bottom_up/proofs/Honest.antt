@@ -88,7 +88,8 @@ known_from_nothing : (loaded : List Solution) → IsHonest loaded → (program :
     map unmarked (bottom_up loaded program) ≡ map unmarked (bottom_up [] program)
 unfolding known_by
 known_from_nothing loaded honest program =
-    known_same (lookup solve loaded) (lookup solve []) (looked_up_same loaded honest) program.structs (program_components program) [] [] refl
+    known_same (lookup solve loaded) (lookup solve []) (looked_up_same loaded honest)
+    program.structs (program_components program) [] [] refl
 
 pub honest_known : HonestIsFromNothing
 honest_known loaded honest program =

@@ -1,24 +1,24 @@
 -- The first temporary of each type.
-use Rattle.std.proofs.Common.{◌≡◌, ℕ, zero, suc, ◌<◌, ◌≤◌, ◌==◌, Bool, true, false, List, [], ◌∷◌, ◌++◌, All, IfSome, Option, Some, None}
-use Rattle.std.proofs.Common.{length, map, set, get_or, unwrap_or, refl, sym, ap, ◌∙◌, subst, arith, ◌⊎◌, inl, inr, ⊎_elim}
-use Rattle.std.proofs.lemmas.Bool.{true≢false}
+use Rattle.std.proofs.Common.{◌≡◌, ℕ, zero, suc, ◌+◌, ◌<◌, ◌≤◌, ◌==◌, Bool, true, false, List, [], ◌∷◌, ◌++◌, All, IfSome, Option, Some, None}
+use Rattle.std.proofs.Common.{length, map, drop, set, get_or, unwrap_or, refl, sym, ap, ◌∙◌, subst, arith, ◌⊎◌, inl, inr, ⊎_elim}
+use Rattle.std.proofs.lemmas.Bool.{true≢false, cases_lt}
 use Rattle.std.proofs.lemmas.Bool.Decides.{eqb_tells, leb_tells}
 use Rattle.std.proofs.lemmas.List.{length-map, get_or-map, length_push}
-use Rattle.std.proofs.lemmas.List.Elements.{All-push}
+use Rattle.std.proofs.lemmas.List.Elements.{All-drop, All-push}
 use Rattle.std.proofs.lemmas.Slice.Eq.{bytes_eq-Decides}
 use Rattle.std.specs.Prelude.{if◌then◌else◌}
 use Rattle.shape_data.specs.declared.program.Ty.{Ty}
 use Rattle.shape_data.specs.declared.program.Ty.TheVariants.{Int, Ptr, Void}
 use Rattle.c_types_rules.specs.Types.{same_type}
+use Rattle.c_lower_rules.specs.Temporaries.{take_temp}
 use Rattle.c_types_names.specs.FirstOfName.{or_last}
 use Rattle.c_types_names.specs.Seen.{type_seen}
-use Rattle.c_lower_emit.specs.declared.first_of_kind.FirstOfKind.{FirstOfKind}
+use Rattle.c_lower_emit.specs.declared.type_numbers.TypeNumbers.{TypeNumbers}
 use Rattle.c_lower_emit.specs.declared.temps.Temp.{Temp}
-use Rattle.c_lower_emit.specs.FirstOfKind.{number_in}
-use Rattle.c_lower_emit.specs.KeptTemps.{AreFirst, first_like, unused}
-
-either : (m n : ℕ) → (m < n) ⊎ (n ≤ m)
-either m n = ⊎_elim (λ t. inr t.1) (λ t. inl t.1) (leb_tells n m)
+use Rattle.c_lower_emit.specs.Seen.{temp_seen}
+use Rattle.c_lower_emit.specs.TypeNumbers.{number_in}
+use Rattle.c_lower_emit.specs.KeptTemps.{AreFirst, IsKept, first_like, unused}
+use Rattle.c_lower_emit.proofs.TakenTemps.{place_behind}
 
 -- TYPES
 
@@ -77,7 +77,7 @@ not_behind kind (temp ∷ temps) (suc place) d lt = λ is.
 
 -- WHOSE FIRST ONE STANDS THERE IS OF THE TYPE
 
-pub tells : (firsts : FirstOfKind) (temps : List Temp) → AreFirst firsts temps → (kind : Ty) (first : ℕ)
+pub tells : (firsts : TypeNumbers) (temps : List Temp) → AreFirst firsts temps → (kind : Ty) (first : ℕ)
     → first ≡ unwrap_or (number_in firsts kind) (length temps)
     → All (λ temp. (temp.first == first) ≡ same_type (type_seen temp.kind) kind) temps
 tells firsts temps h kind first at place d lt =
@@ -151,7 +151,7 @@ push_behind kind (first ∷ temps) temp =
     by_test true again le = absurd (omega (arith, le))
     by_test false again le = ap suc (again (omega (arith, le))) ∙ by_other (same_type (type_seen temp.kind) kind)
 
-module _ (firsts after : FirstOfKind) (temps : List Temp) (temp : Temp) (h : AreFirst firsts temps)
+module _ (firsts after : TypeNumbers) (temps : List Temp) (temp : Temp) (h : AreFirst firsts temps)
     (own : temp.first ≡ first_like (type_seen temp.kind) temps)
     (noted : (kind : Ty) → number_in after kind ≡ or_last (number_in firsts kind) (same_type (type_seen temp.kind) kind) temp.first) where
   -- the first of a type, by whether the new one is of the type
@@ -165,7 +165,7 @@ module _ (firsts after : FirstOfKind) (temps : List Temp) (temp : Temp) (h : Are
       (λ lt. own ∙ same ∙ sym (push_there kind temps temp lt))
       (λ le. own ∙ same ∙ omega (arith, le, first_within kind temps)
       ∙ sym (push_behind kind temps temp le ∙ ap (λ c. if c then length temps else suc (length temps)) is))
-      (either (first_like kind temps) (length temps))
+      (cases_lt (first_like kind temps) (length temps))
   found_by kind false (Some place) is found within =
       found ∙ sym (push_there kind temps temp (subst (λ n. n < length temps) found within))
   found_by kind false None is found within =
@@ -187,7 +187,7 @@ module _ (firsts after : FirstOfKind) (temps : List Temp) (temp : Temp) (h : Are
       (λ le. own ∙ omega (arith, le, first_within (type_seen temp.kind) temps)
       ∙ sym (push_behind (type_seen temp.kind) temps temp le
       ∙ ap (λ c. if c then length temps else suc (length temps)) (itself (type_seen temp.kind))))
-      (either (first_like (type_seen temp.kind) temps) (length temps))
+      (cases_lt (first_like (type_seen temp.kind) temps) (length temps))
 
   pub first_more : AreFirst after (temps ++ temp ∷ [])
   first_more = record {
@@ -219,7 +219,7 @@ like_same : (kind : Ty) (one other : List Temp) → map unused one ≡ map unuse
 like_same kind one other same = sym (like_unused kind one) ∙ ap (first_like kind) same ∙ like_unused kind other
 
 -- it is not asked whether a temporary is used
-pub first_same : (firsts : FirstOfKind) (one other : List Temp) → map unused other ≡ map unused one → AreFirst firsts one
+pub first_same : (firsts : TypeNumbers) (one other : List Temp) → map unused other ≡ map unused one → AreFirst firsts one
     → AreFirst firsts other
 first_same firsts one other same h =
     let long : length other ≡ length one = sym (length-map other unused) ∙ ap length same ∙ length-map one unused in
@@ -247,7 +247,7 @@ set_unused (temp ∷ temps) zero d lt = λ is. ap (λ t. unused t ∷ map unused
 set_unused (temp ∷ temps) (suc place) d lt = λ is. ap (λ ts. unused temp ∷ ts) (set_unused temps place d (omega (arith, lt)) is)
 
 -- where there is one of the type, it is noted already
-pub noted_already : (firsts : FirstOfKind) (temps : List Temp) → AreFirst firsts temps → (one : Ty) (first : ℕ)
+pub noted_already : (firsts : TypeNumbers) (temps : List Temp) → AreFirst firsts temps → (one : Ty) (first : ℕ)
     → first ≡ first_like one temps → first < length temps → (kind : Ty)
     → number_in firsts kind ≡ or_last (number_in firsts kind) (same_type one kind) first
 noted_already firsts temps h one first at lt kind =
@@ -261,3 +261,16 @@ noted_already firsts temps h one first at lt kind =
     by_test true None is found =
         let same : first_like kind temps ≡ first = ap (λ k. first_like k temps) (sym (exact one kind is)) ∙ sym at in
         absurd (omega (arith, found, same, lt))
+
+-- the place of a free one, where those from a place on are looked at, and told by the number of its type
+pub free_place : (firsts : TypeNumbers) (from : ℕ) (temps rest : List Temp) → IsKept firsts from temps → rest ≡ drop from temps
+    → (kind : Ty) (first place : ℕ) → first ≡ unwrap_or (number_in firsts kind) (length temps)
+    → ((of : Ty) → All (λ (temp : Temp). (temp.first == first) ≡ same_type (type_seen temp.kind) of) rest
+    → place ≡ (take_temp of (map temp_seen rest)).place)
+    → from + place ≡ (take_temp kind (map temp_seen temps)).place
+free_place firsts from temps rest kept is kind first place at found =
+    place_behind kind from temps rest place kept.within kept.used is
+    (found kind (subst (All Told) (sym is) (All-drop Told from temps (tells firsts temps kept.first kind first at))))
+  where
+    Told : Temp → Type 0
+    Told temp = (temp.first == first) ≡ same_type (type_seen temp.kind) kind

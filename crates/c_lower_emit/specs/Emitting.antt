@@ -17,7 +17,7 @@ use Rattle.c_lower_emit.specs.declared.drafts.Ways.{Ways}
 use Rattle.c_lower_emit.specs.declared.uses.Spot.{Spot}
 use Rattle.c_lower_emit.specs.declared.uses.Use.{Use}
 use Rattle.c_lower_emit.specs.declared.uses.Use.TheVariants.{Value, Into, Test as AsTest}
-use Rattle.c_lower_emit.specs.Drafts.{Places, exits, resolve, led_between, put_to, aimed, laid}
+use Rattle.c_lower_emit.specs.Drafts.{Places, exits, resolve, as_they_are, led_between, put_to, aimed, laid}
 
 -- what was emitted so far: nodes, temporaries, and loops
 pub record Out : Type 0 where
@@ -32,6 +32,18 @@ with_draft line cmd next other o = record o { nodes = o.nodes ++ record { line =
 -- with the exits of the drafts from one place to another replaced
 abbrev pub led_out : ℕ → ℕ → Ways → Out → Out
 led_out from past w o = record o { nodes = led_between from past w o.nodes }
+
+-- the test that begins at a place leads to what comes next where it holds
+abbrev pub LeadsWhereHolds : ℕ → Out → Out → Type 0
+LeadsWhereHolds from old new =
+    from ≤ length old.nodes → length old.nodes < 4294967296
+    → new ≡ led_out from (length old.nodes) (record as_they_are { holds = At (length old.nodes) }) old
+
+-- the same, where it doesn't hold
+abbrev pub LeadsWhereFails : ℕ → Out → Out → Type 0
+LeadsWhereFails from old new =
+    from ≤ length old.nodes → length old.nodes < 4294967296
+    → new ≡ led_out from (length old.nodes) (record as_they_are { fails = At (length old.nodes) }) old
 
 -- with one more loop, at a place
 abbrev pub with_loop : ℕ → Loop → Out → Out

@@ -3,9 +3,9 @@ use Rattle.std.specs.Prelude.{◌≡◌, ℕ, suc, ◌<◌, ◌≤◌, true, fal
 use Rattle.shape_data.specs.declared.program.Ty.{Ty}
 use Rattle.c_types_rules.specs.Types.{same_type}
 use Rattle.c_types_names.specs.Seen.{type_seen}
-use Rattle.c_lower_emit.specs.declared.first_of_kind.FirstOfKind.{FirstOfKind}
+use Rattle.c_lower_emit.specs.declared.type_numbers.TypeNumbers.{TypeNumbers}
 use Rattle.c_lower_emit.specs.declared.temps.Temp.{Temp}
-use Rattle.c_lower_emit.specs.FirstOfKind.{number_in}
+use Rattle.c_lower_emit.specs.TypeNumbers.{number_in}
 
 -- the temporary, not used
 abbrev pub unused : Temp → Temp
@@ -20,14 +20,14 @@ abbrev pub first_like : Ty → List Temp → ℕ
 first_like kind [] = 0
 first_like kind (temp ∷ temps) = if same_type (type_seen temp.kind) kind then 0 else suc (first_like kind temps)
 
--- the first temporary of a type, if there is one, is the one that the type's number says, and so says each temporary of its type
-pub record AreFirst (firsts : FirstOfKind) (temps : List Temp) : Type 0 where
+-- a type's number is the place of its first temporary, and a type without one has none; each temporary has the number of its type
+pub record AreFirst (firsts : TypeNumbers) (temps : List Temp) : Type 0 where
   pub found : (kind : Ty) → unwrap_or (number_in firsts kind) (length temps) ≡ first_like kind temps
   pub within : (kind : Ty) → IfSome (number_in firsts kind) (λ place. place < length temps)
   pub each : All (λ temp. temp.first ≡ first_like (type_seen temp.kind) temps) temps
 
--- there are so many temporaries, and those before the place are used
-pub record IsKept (firsts : FirstOfKind) (place : ℕ) (temps : List Temp) : Type 0 where
+-- the temporaries before the place, of which there are so many, are used; and the first of each type is known
+pub record IsKept (firsts : TypeNumbers) (place : ℕ) (temps : List Temp) : Type 0 where
   pub within : place ≤ length temps
   pub used : AreUsed (take place temps)
   pub first : AreFirst firsts temps

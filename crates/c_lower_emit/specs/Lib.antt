@@ -5,4 +5,4 @@ pub mod VisibleSlots
 pub mod Seen
 pub mod Emitting
 pub mod KeptTemps
-pub mod FirstOfKind
+pub mod TypeNumbers

@@ -1,7 +1,8 @@
 //! Drafts in a row. Most have no exit left that is open, and a redirection passes over these: the places of the others are kept beside
 //! the drafts. A test of a chain of `&&` keeps `Fails` open to the chain's end, while `Holds` is led on at once, and a statement before a
 //! `break` keeps `Breaks` open to the loop's end, while `Next` is led on at once; so it is remembered from where to where no draft has
-//! `Holds`, none has `Fails`, and none has `Next`.
+//! `Holds`, none has `Fails`, and none has `Next`. A chain within a chain, and a list of statements within a list, takes the place of what
+//! was remembered of the outer one, which is looked at from its front once more behind it.
 ghost use Rattle.std.specs.Prelude.{
   ◌≡◌,
   ℕ,
@@ -39,8 +40,8 @@ struct Stretch {
     past: usize,
 }
 
-/// Drafts, and the places of those that have an exit that is still open, in rising order; some that have no exit `Holds`, some that have
-/// no exit `Fails`, and some that have no exit `Next`.
+/// Drafts, and the places of those that have an exit that is still open, in rising order; and three stretches, of drafts without an exit
+/// `Holds`, of drafts without `Fails`, and of drafts without `Next`.
 #[derive(Drop)]
 pub struct DraftList {
     drafts: Vec<Draft>,
@@ -316,8 +317,11 @@ impl DraftList {
     pub fn lead_next(&mut self, from: usize, past: usize, begin: Label)
         ensures { from ≤ past → past ≤ length self.old → self.new ≡ led_between from past (next_at begin) self.old }
     {
-        // These exits lead there already: nothing changes, so no draft is looked at, however many there are.
+        // Where the exits lead there already, or none is meant, nothing changes: no draft is looked at, and what is remembered stays.
         if let Label::Next = begin {
+            return;
+        }
+        if past <= from {
             return;
         }
         let ways = Ways {
@@ -334,6 +338,7 @@ impl DraftList {
             past,
             ways,
         );
+        // What the exits lead to may be `Holds` or `Fails`.
         self.without_holds = self.without_holds.before(from);
         self.without_fails = self.without_fails.before(from);
     }

@@ -4,9 +4,9 @@
 
 pub mod draft_list;
 pub mod drafts;
-mod first_of_kind;
 pub mod loops;
 pub mod output;
 pub mod temps;
+mod type_numbers;
 pub mod uses;
 pub mod visible_slots;

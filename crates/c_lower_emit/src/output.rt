@@ -3,7 +3,7 @@ ghost use Rattle.std.specs.Prelude.{◌≡◌, ◌<◌, ◌≤◌, [], OnOk, IfO
 ghost use Rattle.c_lower_rules.specs.Temporaries.{take_temp, released};
 ghost use Rattle.c_types_names.specs.Seen.{type_seen};
 ghost use Rattle.c_lower_emit.specs.Seen.{loop_seen, temp_seen};
-ghost use Rattle.c_lower_emit.specs.Emitting.{led_out, with_draft, with_loop};
+ghost use Rattle.c_lower_emit.specs.Emitting.{LeadsWhereFails, LeadsWhereHolds, led_out, with_draft, with_loop};
 ghost use Rattle.c_lower_emit.specs.Drafts.{as_they_are, next_at};
 ghost use Rattle.c_lower_emit.specs.declared.drafts.Label.TheVariants.{At};
 
@@ -104,12 +104,11 @@ impl<'a> Output<'a> {
         self.nodes.redirect(from, past, ways);
     }
 
-    /// The test that begins at a place goes on at the next node where it holds. For a chain of tests that begin there and are led on so one
-    /// after another, each with the first node of the one behind it, the cost of all is the number of their nodes; but where an operand has
-    /// a chain of its own behind its first node, all is looked at again.
+    /// The test that begins at a place goes on at the next node where it holds. For a chain of tests that begin there, where each is led
+    /// on so to the first node of the next, the cost of all is the number of their nodes; but where an operand has a chain of its own
+    /// behind its first node, the next operator looks at all again.
     pub fn lead_holds(&mut self, from: usize)
-        ensures { from ≤ length self.old.nodes → length self.old.nodes < 4294967296
-            → self.new ≡ led_out from (length self.old.nodes) (record as_they_are { holds = At (length self.old.nodes) }) self.old }
+        ensures { LeadsWhereHolds from self.old self.new }
     {
         let here = self.here();
         self.nodes.lead_holds(from, here);
@@ -117,8 +116,7 @@ impl<'a> Output<'a> {
 
     /// The same, where it doesn't hold.
     pub fn lead_fails(&mut self, from: usize)
-        ensures { from ≤ length self.old.nodes → length self.old.nodes < 4294967296
-            → self.new ≡ led_out from (length self.old.nodes) (record as_they_are { fails = At (length self.old.nodes) }) self.old }
+        ensures { LeadsWhereFails from self.old self.new }
     {
         let here = self.here();
         self.nodes.lead_fails(from, here);

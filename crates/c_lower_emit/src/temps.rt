@@ -7,7 +7,7 @@ ghost use Rattle.c_types_names.specs.Seen.{type_seen};
 ghost use Rattle.c_lower_emit.specs.Seen.{temp_seen};
 ghost use Rattle.c_lower_emit.specs.KeptTemps.{AreFirst, IsKept, first_like, unused};
 
-use crate::first_of_kind::FirstOfKind;
+use crate::type_numbers::TypeNumbers;
 use c_types_names::kinds::CType;
 use std::alloc::{AllocError, Global};
 use std::marker::Model;
@@ -26,7 +26,7 @@ pub struct Temp<'a> {
 #[derive(Drop)]
 pub struct Temps<'a> {
     all: Vec<Temp<'a>>,
-    firsts: FirstOfKind<'a>,
+    firsts: TypeNumbers<'a>,
     used_before: usize,
 }
 
@@ -43,7 +43,7 @@ impl<'a> Model for Temps<'a> {
     ghost invariant = { λ t. IsKept t.firsts t.used_before t.all.items };
 }
 
-/// The place of the first temporary of a type that is not used, or else behind all. Of that type are those whose first one stands there.
+/// The place of the first temporary of a type that is not used, or else behind all. Of the type are those whose `first` is the given one.
 fn place_of_free(temps: &[Temp], first: usize) -> usize
     ensures within { result ≤ length temps.now }
     ensures place { (kind : Ty) → All (λ temp. (temp.first == first) ≡ same_type (type_seen temp.kind) kind) temps.now
@@ -57,17 +57,16 @@ fn place_of_free(temps: &[Temp], first: usize) -> usize
     temps.len()
 }
 
-/// Adds a temporary of the type that is used. The place of the first one is `first`, if there is one, else it is behind all.
+/// Adds a used temporary of the type. `first` is the place of the first one of the type, or behind all where there is none.
 fn add_used<'a>(
     temps: &mut Vec<Temp<'a>>,
-    firsts: &mut FirstOfKind<'a>,
+    firsts: &mut TypeNumbers<'a>,
     kind: CType<'a>,
     first: usize,
 ) -> Result<(), AllocError>
     requires firsts { AreFirst firsts.old temps.old.items }
     requires first { first ≡ first_like (type_seen kind) temps.old.items }
     ensures more { OnOk result (temps.new.items ≡ temps.old.items ++ record { kind = kind.entry; used = true; first = first } ∷ []) }
-    ensures same { OnErr result (temps.new.items ≡ temps.old.items) }
     ensures firsts { AreFirst firsts.new temps.new.items }
 {
     temps.reserve(1)?;
@@ -87,7 +86,7 @@ fn add_used<'a>(
 /// Takes the first temporary of the type that is not used, or else a new one, and gives its place. All before `from` are used.
 fn take_one<'a>(
     temps: &mut Vec<Temp<'a>>,
-    firsts: &mut FirstOfKind<'a>,
+    firsts: &mut TypeNumbers<'a>,
     from: usize,
     kind: CType<'a>,
 ) -> Result<usize, AllocError>
@@ -110,8 +109,7 @@ fn take_one<'a>(
 
 /// Releases all temporaries.
 fn release_all(temps: &mut Vec<Temp>)
-    ensures seen { map temp_seen temps.new.items ≡ released (map temp_seen temps.old.items) }
-    ensures all { temps.new.items ≡ map unused temps.old.items }
+    ensures { temps.new.items ≡ map unused temps.old.items }
 {
     for place in 0..temps.len() {
         temps[place].used = false;
@@ -125,7 +123,7 @@ impl<'a> Temps<'a> {
     {
         Temps {
             all: Vec::new(alloc),
-            firsts: FirstOfKind::new(alloc),
+            firsts: TypeNumbers::new(alloc),
             used_before: 0,
         }
     }

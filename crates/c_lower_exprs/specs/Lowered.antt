@@ -8,11 +8,9 @@ use Rattle.c_grammar.specs.Trees.{Name}
 use Rattle.c_lower_rules.specs.Contexts.{Context}
 use Rattle.c_lower_rules.specs.Expressions.{Arguments, arguments, no_arguments, arithmetic, comparison, conjunction, disjunction, called}
 use Rattle.c_types_names.specs.Seen.{type_seen}
-use Rattle.c_lower_emit.specs.declared.drafts.Label.TheVariants.{At}
 use Rattle.c_lower_emit.specs.declared.uses.Use.{Use}
 use Rattle.c_lower_emit.specs.declared.uses.Use.TheVariants.{Value}
-use Rattle.c_lower_emit.specs.Drafts.{as_they_are}
-use Rattle.c_lower_emit.specs.Emitting.{Out, led_out, HasRoom, EmitsStraight, Emits, EmitsTested, BeginsTruth}
+use Rattle.c_lower_emit.specs.Emitting.{Out, HasRoom, EmitsStraight, Emits, EmitsTested, BeginsTruth, LeadsWhereHolds, LeadsWhereFails}
 use Rattle.c_lower_exprs.specs.declared.members.Found.{Found}
 
 -- the expression was emitted in the use, and has this type
@@ -30,18 +28,6 @@ abbrev pub IsCalled : Use → Context → Name → List Operand → ℕ → Out 
 IsCalled used c callee operands first before old new found =
     (args : List Lowering) → EmitsArguments (arguments (no_arguments before.temps) args) first before old operands
     → IsLowered used (called c callee args) first before new found
-
--- the test that begins at a place leads to what comes next where it holds
-abbrev pub LeadsWhereHolds : ℕ → Out → Out → Type 0
-LeadsWhereHolds from old new =
-    from ≤ length old.nodes → length old.nodes < 4294967296
-    → new ≡ led_out from (length old.nodes) (record as_they_are { holds = At (length old.nodes) }) old
-
--- the same, where it doesn't hold
-abbrev pub LeadsWhereFails : ℕ → Out → Out → Type 0
-LeadsWhereFails from old new =
-    from ≤ length old.nodes → length old.nodes < 4294967296
-    → new ≡ led_out from (length old.nodes) (record as_they_are { fails = At (length old.nodes) }) old
 
 -- OPERATORS, behind any operands. A test begins at `from`, and its value goes to the slot `to`
 

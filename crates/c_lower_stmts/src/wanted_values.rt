@@ -46,7 +46,8 @@ pub fn wanted<'a>(
     out: &mut Output<'a>,
 ) -> Result<Found<'a>, AllocError>
     ensures { IfOk result (λ found. HasIntNumbers (expr_tree expr.now)
-        → IsLowered used (wanted site.now (wanted_kind site.now as_type.entry) (expr_tree expr.now)) site.now.first_temp out.old out.new found) }
+        → IsLowered used (wanted site.now (wanted_kind site.now as_type.entry) (expr_tree expr.now))
+        site.now.first_temp out.old out.new found) }
 {
     match expr {
         Expr::Chain(_, _) => lower(site, expr, used, out),

@@ -1,6 +1,7 @@
 //! What is refused in an expression; its type is found in the same walk. The calls nest as deep as the expression does.
 ghost use Rattle.std.specs.Prelude.{◌≡◌, map, option_map};
 ghost use Rattle.c_types_rules.specs.Tables.{param_kind, param_kinds, procedure_in};
+ghost use Rattle.c_types_rules.specs.Scopes.{variable};
 ghost use Rattle.c_types_rules.specs.Expressions.{
   member_refusals,
   members_refusals,
@@ -14,6 +15,8 @@ ghost use Rattle.c_types_rules.specs.Expressions.{
   args_refusals,
   call_refusals,
   whole_refusals,
+  kind_of_variable,
+  kind_of_call,
   kind_of_member,
   kind_of_members,
   kind_of,
@@ -28,19 +31,20 @@ ghost use Rattle.c_types_names.specs.FirstRefusal.{with_refusals};
 use crate::exprs::{is_null, kind_of, kind_of_binary, kind_of_prefix};
 use crate::value_types::{Given, fits, given_as, may_stand_behind, may_stand_by};
 use c_tree::places::place_of_expr;
-use c_tree::{Expr, Ident, Link, Name, Param, Params, Place, TypeSpecifier};
+use c_tree::{Expr, Ident, Link, Param, Params, Place, TypeSpecifier};
 use c_types_names::env::Env;
 use c_types_names::first_refusal::FirstRefusal;
 use c_types_names::hiding::specifier_refusals_in;
 use c_types_names::kinds::{CType, Kind};
 use c_types_names::objects::{
-    ARGUMENTS, CLASH, LEFT_OUT, UNDECLARED, field_of, is_defined, names_structure, param_kind,
+    ARGUMENTS, CLASH, LEFT_OUT, UNDECLARED, field_of, is_defined, kind_of_result, names_structure,
+    param_kind,
 };
 use c_types_names::tables::Tables;
 
 /// The type of a field of what a pointer points to; refuses one that the structure lacks, and a field of what is no pointer.
 #[tactic(auto, using(c_types_names::proofs::FirstRefusals::more_refusals), unfolding(c_types_names::specs::Seen::field_seen))]
-fn member_and_refusals<'a>(
+fn member_refusals<'a>(
     tables: &Tables<'a>,
     place: Place,
     kind: Kind<'a>,
@@ -60,11 +64,7 @@ fn member_and_refusals<'a>(
             }
             Some(found) => found.kind,
         },
-        Some(CType::Int) => {
-            first.unless(false, place, CLASH);
-            None
-        }
-        Some(CType::Void) => {
+        Some(CType::Int | CType::Void) => {
             first.unless(false, place, CLASH);
             None
         }
@@ -86,7 +86,7 @@ fn members_refusals<'a>(
 {
     let mut current = kind;
     for field in fields {
-        current = member_and_refusals(tables, place, current, field, first);
+        current = member_refusals(tables, place, current, field, first);
     }
     current
 }
@@ -171,32 +171,48 @@ fn all_fit<'a>(env: &Env<'a>, params: &'a Params, args: &'a [Expr]) -> bool
     }
 }
 
-/// Refuses a call of a name that is no procedure's, and one whose arguments are not those that the procedure takes.
+/// Refuses a call of a name that is no procedure's, and one whose arguments are not those that the procedure takes; gives the type of the
+/// call.
 #[tactic(auto, using(c_types_names::proofs::FirstRefusals::more_refusals), unfolding(c_types_names::specs::Seen::procedure_seen))]
-fn callee_refusals<'a>(env: &Env<'a>, callee: &Ident, args: &'a [Expr], first: &mut FirstRefusal)
-    ensures { first.new ≡ with_refusals first.old
+fn callee_refusals<'a>(
+    env: &Env<'a>,
+    callee: &Ident,
+    args: &'a [Expr],
+    first: &mut FirstRefusal,
+) -> Kind<'a>
+    ensures refusals { first.new ≡ with_refusals first.old
         (callee_refusals env.now (procedure_in env.now.tables.procedures callee.now.text) (ident_tree callee.now) (args_tree args.now)) }
+    ensures kind { kind_seen result
+        ≡ kind_of_call env.now.tables (procedure_in env.now.tables.procedures callee.now.text) }
 {
     match env.tables().procedure(&callee.text) {
-        None => first.unless(false, callee.place, UNDECLARED),
+        None => {
+            first.unless(false, callee.place, UNDECLARED);
+            None
+        }
         Some(found) => {
             if same_number(env.tables(), &found.head.params, args) {
                 first.unless(all_fit(env, &found.head.params, args), callee.place, CLASH);
             } else {
                 first.unless(false, callee.place, ARGUMENTS);
             }
+            kind_of_result(env.tables(), found.head)
         }
     }
 }
 
-/// Refuses a variable that is not declared.
+/// Refuses a variable that is not declared; gives its type.
 #[tactic(auto, using(c_types_names::proofs::FirstRefusals::more_refusals))]
-fn variable_refusals(env: &Env, name: &Ident, first: &mut FirstRefusal)
-    ensures { first.new ≡ with_refusals first.old (expr_refusals env.now (ExprTree.Variable (ident_tree name.now))) }
+fn variable_refusals<'a>(env: &Env<'a>, name: &Ident, first: &mut FirstRefusal) -> Kind<'a>
+    ensures refusals { first.new ≡ with_refusals first.old (expr_refusals env.now (ExprTree.Variable (ident_tree name.now))) }
+    ensures kind { kind_seen result ≡ kind_of_variable (variable env.now name.now.text) }
 {
     match env.variable(&name.text) {
-        None => first.unless(false, name.place, UNDECLARED),
-        Some(_) => {}
+        None => {
+            first.unless(false, name.place, UNDECLARED);
+            None
+        }
+        Some(found) => found.kind,
     }
 }
 
@@ -229,21 +245,17 @@ fn kind_and_refusals<'a>(env: &Env<'a>, expr: &'a Expr, first: &mut FirstRefusal
         Expr::Members(base, field, others) => {
             let kind = kind_and_refusals(env, base, first);
             let place = place_of_expr(base);
-            let kind = member_and_refusals(env.tables(), place, kind, field, first);
+            let kind = member_refusals(env.tables(), place, kind, field, first);
             members_refusals(env.tables(), place, kind, others.as_slice(), first)
         }
-        Expr::Variable(name) => {
-            variable_refusals(env, name, first);
-            kind_of(env, expr)
-        }
+        Expr::Variable(name) => variable_refusals(env, name, first),
         Expr::Number(_, _) => Some(CType::Int),
         Expr::Null(_) => Some(CType::Int),
         Expr::Paren(_, inner) => kind_and_refusals(env, inner, first),
         Expr::Call(callee, args) => {
             first.unless(false, callee.place, LEFT_OUT);
             args_refusals(env, args, first);
-            callee_refusals(env, callee, args.as_slice(), first);
-            kind_of(env, expr)
+            callee_refusals(env, callee, args.as_slice(), first)
         }
         Expr::Malloc(place, types) => {
             first.unless(false, *place, LEFT_OUT);

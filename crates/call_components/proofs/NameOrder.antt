@@ -1,5 +1,5 @@
 -- The first number of a name stands first among those of its name, where numbers stand in order of their names.
-use Rattle.std.proofs.Common.{Ordering, ◌≡◌, ℕ, zero, suc, ◌+◌, ◌<◌, ◌≤◌, nat_lt, nat_eq, Bool, true, false, cond, List, [], ◌∷◌, length}
+use Rattle.std.proofs.Common.{Ordering, ◌≡◌, ℕ, ◌+◌, ◌<◌, ◌≤◌, nat_lt, nat_eq, Bool, true, false, cond, List, [], length}
 use Rattle.std.proofs.Common.{get_or, Some, None, ◌⊎◌, inl, inr, refl, sym, ap, ◌∙◌, subst, arith, All, AllPairs}
 use Rattle.std.specs.Prelude.{slice_index_or, position}
 use Rattle.std.specs.Ordering.{nat_cmp, is_lt, is_gt, ordering_index, ordering_reverse, ordering_then, MatchOrdering}

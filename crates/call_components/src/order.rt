@@ -51,7 +51,7 @@ fn count_ahead(names: &[Name], order: &[u32], name: &Name) -> usize
     order.partition_point(|number| name_of(names, *number).cmp(&name.as_bytes()).is_lt())
 }
 
-/// The first number of a name, by the numbers in order of their names. It takes time in proportion to a logarithm of their number.
+/// The first number of a name, by the numbers in order of their names. Among n names it takes O(log n) comparisons of names.
 pub fn first_named(names: &[Name], order: &[u32], name: &Name) -> Option<u32>
     requires { order.now ≡ by_name names.now (length names.now) }
     ensures { result ≡ position (λ other. pointwise nat_eq other name.now) names.now }

@@ -19,9 +19,9 @@ first_entry loaded key = find (λ (one : Solution). key_test.0 one.key key) load
 abbrev pub first_answer : List Solution → Key → Option Answer
 first_answer loaded key = option_map (λ (one : Solution). one.answer) (first_entry loaded key)
 
--- the answer to a key: that of the first entry that has it, else what solving it gives
+-- the answer to a key: that of the first entry that has it, else what the function gives, which is that of solving it
 abbrev pub lookup : (Key → Answer) → List Solution → Key → Answer
-lookup solve loaded key = unwrap_or (first_answer loaded key) (solve key)
+lookup answer_of loaded key = unwrap_or (first_answer loaded key) (answer_of key)
 
 -- a map finds for each key the answer of the first entry that has it
 abbrev pub AreFound : {A S : Type 0} → (A → Answer) → List Solution → IndexMap Key A S → Type 0

@@ -112,7 +112,8 @@ module _ (loaded : List Solution) (program : Program) (fits : All IsStorable (kn
   pub key_fits : (place : ℕ) (part : Component) → slice_get (program_components program) place ≡ Some part →
       IsStorableKey (key_after program.structs (answers_in (known_by (lookup solve loaded) program)) part)
   key_fits place part at =
-      let one : Solution = answered (lookup solve loaded) (key_after program.structs (answers_in (known_by (lookup solve loaded) program)) part) in
+      let one : Solution =
+      answered (lookup solve loaded) (key_after program.structs (answers_in (known_by (lookup solve loaded) program)) part) in
       (all_at IsStorable (known_by (lookup solve loaded) program) place one fits (known_is (lookup solve loaded) program place part at)).key
 
   aimed_fit : (aim : Aim) → All IsStorable (aimed_known (lookup solve loaded) program aim)

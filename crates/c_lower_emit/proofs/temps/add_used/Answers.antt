@@ -5,7 +5,7 @@ use Rattle.c_types_rules.specs.Types.{same_type}
 use Rattle.c_types_names.specs.FirstOfName.{or_last}
 use Rattle.c_types_names.specs.Seen.{type_seen}
 use Rattle.c_lower_emit.specs.declared.temps.Temp.{Temp}
-use Rattle.c_lower_emit.specs.FirstOfKind.{number_in}
+use Rattle.c_lower_emit.specs.TypeNumbers.{number_in}
 use Rattle.c_lower_emit.specs.KeptTemps.{AreFirst}
 use Rattle.c_lower_emit.proofs.FirstTemps.{first_more, noted_already}
 use Rattle.c_lower_emit.proofs.temps.add_used.Goals as goal

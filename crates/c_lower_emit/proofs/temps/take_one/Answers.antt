@@ -1,15 +1,13 @@
-use Rattle.std.proofs.Common.{◌≡◌, suc, ◌+◌, ◌<◌, ◌≤◌, ◌==◌, true, [], ◌∷◌, ◌++◌, All, length, map, take, drop, set}
+use Rattle.std.proofs.Common.{◌≡◌, suc, ◌+◌, ◌<◌, ◌≤◌, true, [], ◌∷◌, ◌++◌, length, map, take, drop, set}
 use Rattle.std.proofs.Common.{unwrap_or, refl, sym, ap, ◌∙◌, subst, arith, rules}
 use Rattle.std.proofs.lemmas.List.{take_rest, length-set, length_push}
-use Rattle.std.proofs.lemmas.List.Elements.{All-drop}
 use Rattle.c_types_names.specs.Seen.{type_seen}
-use Rattle.c_types_rules.specs.Types.{same_type}
 use Rattle.c_lower_emit.specs.declared.temps.Temp.{Temp}
-use Rattle.c_lower_emit.specs.FirstOfKind.{number_in}
+use Rattle.c_lower_emit.specs.TypeNumbers.{number_in}
 use Rattle.c_lower_emit.specs.Seen.{temp_seen}
 use Rattle.c_lower_emit.specs.KeptTemps.{AreUsed}
-use Rattle.c_lower_emit.proofs.FirstTemps.{first_same, set_unused, tells}
-use Rattle.c_lower_emit.proofs.TakenTemps.{in_use, again_at, new_at, place_behind, used_set, used_set_more, used_pushed_more}
+use Rattle.c_lower_emit.proofs.FirstTemps.{first_same, free_place, set_unused}
+use Rattle.c_lower_emit.proofs.TakenTemps.{in_use, again_at, new_at, used_set, used_set_more, used_pushed_more}
 use Rattle.c_lower_emit.proofs.temps.take_one.Goals as goal
 
 pub add_used-requires-clause-first : goal.add_used-requires-clause-first
@@ -20,15 +18,12 @@ add_used-requires-clause-first c =
 
 pub returns-then-place-len-clause-place : goal.returns-then-place-len-clause-place
 returns-then-place-len-clause-place c =
-    let kind = type_seen c.args.kind in
     let items = c.args.temps.now.items in
-    let first : c.unwrap_or-first.result ≡ unwrap_or (number_in c.args.firsts.now kind) (length items) = search rules in
-    let rest = take_rest c.deref.result.now c.args.from ∙ ap (drop c.args.from) c.deref.ensures.value in
-    place_behind kind c.args.from items _ c.place_of_free.result c.requires.within c.requires.used rest
-    (c.place_of_free.ensures.place kind
-    (subst (All (λ (temp : Temp). (temp.first == c.unwrap_or-first.result) ≡ same_type (type_seen temp.kind) kind)) (sym rest)
-    (All-drop (λ (temp : Temp). (temp.first == c.unwrap_or-first.result) ≡ same_type (type_seen temp.kind) kind) c.args.from items
-    (tells c.args.firsts.now items c.requires.first kind c.unwrap_or-first.result first))))
+    let first : c.unwrap_or-first.result
+    ≡ unwrap_or (number_in c.args.firsts.now (type_seen c.args.kind)) (length items) = search rules in
+    free_place c.args.firsts.now c.args.from items _ c.requires
+    (take_rest c.deref.result.now c.args.from ∙ ap (drop c.args.from) c.deref.ensures.value)
+    (type_seen c.args.kind) c.unwrap_or-first.result c.place_of_free.result first c.place_of_free.ensures.place
 
 pub returns-then-place-len-clause-temps : goal.returns-then-place-len-clause-temps
 returns-then-place-len-clause-temps c =
@@ -69,15 +64,12 @@ returns-then-place-len-clause-used c = λ same.
 
 pub returns-in_ok-add_used-clause-place : goal.returns-in_ok-add_used-clause-place
 returns-in_ok-add_used-clause-place c =
-    let kind = type_seen c.args.kind in
     let items = c.args.temps.now.items in
-    let first : c.unwrap_or-first.result ≡ unwrap_or (number_in c.args.firsts.now kind) (length items) = search rules in
-    let rest = take_rest c.deref.result.now c.args.from ∙ ap (drop c.args.from) c.deref.ensures.value in
-    place_behind kind c.args.from items _ c.place_of_free.result c.requires.within c.requires.used rest
-    (c.place_of_free.ensures.place kind
-    (subst (All (λ (temp : Temp). (temp.first == c.unwrap_or-first.result) ≡ same_type (type_seen temp.kind) kind)) (sym rest)
-    (All-drop (λ (temp : Temp). (temp.first == c.unwrap_or-first.result) ≡ same_type (type_seen temp.kind) kind) c.args.from items
-    (tells c.args.firsts.now items c.requires.first kind c.unwrap_or-first.result first))))
+    let first : c.unwrap_or-first.result
+    ≡ unwrap_or (number_in c.args.firsts.now (type_seen c.args.kind)) (length items) = search rules in
+    free_place c.args.firsts.now c.args.from items _ c.requires
+    (take_rest c.deref.result.now c.args.from ∙ ap (drop c.args.from) c.deref.ensures.value)
+    (type_seen c.args.kind) c.unwrap_or-first.result c.place_of_free.result first c.place_of_free.ensures.place
 
 pub returns-in_ok-add_used-clause-temps : goal.returns-in_ok-add_used-clause-temps
 returns-in_ok-add_used-clause-temps c =

@@ -14,7 +14,8 @@ returns-in-Ok-clause-bound c =
     let one : Declared = record { bound = c.args.bound; hidden = c.flatten-hidden.result } in
     let items : c.push-in-Ok.new.self.items ≡ all ++ one ∷ [] = search rules in
     let turned : reverse c.push-in-Ok.new.self.items ≡ one ∷ reverse all = ap reverse items ∙ reverse-last all one in
-    let hidden : one.hidden ≡ slot_among (reverse all) name = c.flatten-hidden.ensures ∙ ap option_flatten c.in-Ok.ensures.old ∙ c.requires.found name in
+    let hidden : one.hidden ≡ slot_among (reverse all) name =
+    c.flatten-hidden.ensures ∙ ap option_flatten c.in-Ok.ensures.old ∙ c.requires.found name in
     record {
       linked = subst AreLinked (sym turned) (hidden, c.requires.linked);
       found = λ n.

@@ -3,7 +3,7 @@ use Rattle.std.proofs.lemmas.Result.{on_ok_weaker}
 use Rattle.c_tree.specs.Syntax.{expr_tree}
 use Rattle.c_types_rules.specs.Expressions.{kind_of}
 use Rattle.c_types_rules.specs.Programs.{known}
-use Rattle.c_lower_rules.specs.Statements.{assign, target}
+use Rattle.c_lower_rules.specs.Statements.{assign}
 use Rattle.c_lower_stmts.specs.Simples.{EmitsPiece}
 use Rattle.c_lower_stmts.specs.Targets.{IsTarget, IsFieldKind}
 use Rattle.c_lower_stmts.proofs.KindsOfTargets.{known_target_kind}

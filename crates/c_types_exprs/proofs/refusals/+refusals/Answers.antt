@@ -26,7 +26,7 @@ pub kind_and_refusals-returns-in-Members-clause-refusals : goal.kind_and_refusal
 kind_and_refusals-returns-in-Members-clause-refusals t c =
     same _ _ _ _
     (then _ _ _ _ _ c.kind_and_refusals-kind-in-Members.ensures.refusals
-    (then _ _ _ _ _ c.member_and_refusals-kind.ensures.refusals c.members_refusals.ensures.refusals)) (search (rules, the_lemmas))
+    (then _ _ _ _ _ c.member_refusals-kind.ensures.refusals c.members_refusals.ensures.refusals)) (search (rules, the_lemmas))
 
 pub kind_and_refusals-returns-in-Number-clause-refusals : goal.kind_and_refusals-returns-in-Number-clause-refusals
 kind_and_refusals-returns-in-Number-clause-refusals t c = same _ _ _ _ (nothing _) (search (rules, the_lemmas))
@@ -36,7 +36,7 @@ kind_and_refusals-returns-in-Null-clause-refusals t c = same _ _ _ _ (nothing _)
 
 pub kind_and_refusals-returns-in-Call-clause-refusals : goal.kind_and_refusals-returns-in-Call-clause-refusals
 kind_and_refusals-returns-in-Call-clause-refusals t c =
-    same _ _ _ _ (then _ _ _ _ _ c.unless-in-Call.ensures (then _ _ _ _ _ c.args_refusals.ensures c.callee_refusals.ensures))
+    same _ _ _ _ (then _ _ _ _ _ c.unless-in-Call.ensures (then _ _ _ _ _ c.args_refusals.ensures c.callee_refusals.ensures.refusals))
     (search (rules, the_lemmas))
 
 pub kind_and_refusals-returns-in-Malloc-clause-refusals : goal.kind_and_refusals-returns-in-Malloc-clause-refusals

@@ -13,14 +13,14 @@ loop-field-preserved c =
     let tables = c.args.tables.now in
     let kind = kind_seen c.loop-field.current in
     let others = map ident_tree (drop (c.loop-field.field-index + 1) c.args.fields.now) in (
-      rw c.member_and_refusals-current.ensures.kind (turn _ _ _ _ _ _ c.member_and_refusals-current.ensures.refusals
+      rw c.member_refusals-current.ensures.kind (turn _ _ _ _ _ _ c.member_refusals-current.ensures.refusals
           (at_drop_more
           (λ (xs : List Ident). members_refusals tables c.args.place kind
           (map ident_tree xs)) c.args.fields.now c.loop-field.field-index _ within
           ∙ ap (λ (x : Ident). member_refusals tables c.args.place kind (ident_tree x)
           ++ members_refusals tables c.args.place (kind_of_member tables kind (ident_tree x)) others) (sym c.field-item.is))
           c.loop-field.invariant.0),
-      ap (λ k. kind_of_members tables k others) c.member_and_refusals-current.ensures.kind
+      ap (λ k. kind_of_members tables k others) c.member_refusals-current.ensures.kind
           ∙ ap (λ (x : Ident). kind_of_members tables (kind_of_member tables kind (ident_tree x)) others) c.field-item.is
           ∙ sym (at_drop_more
           (λ (xs : List Ident). kind_of_members tables kind (map ident_tree xs)) c.args.fields.now c.loop-field.field-index _ within)

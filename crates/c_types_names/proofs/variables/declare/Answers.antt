@@ -14,7 +14,8 @@ returns-clause-bound c =
     let one : Declared = record { variable = c.args.variable; hidden = c.flatten-hidden.result } in
     let items : c.push.new.self.items ≡ all ++ one ∷ [] = search rules in
     let turned : reverse c.push.new.self.items ≡ one ∷ reverse all = ap reverse items ∙ reverse-last all one in
-    let hidden : one.hidden ≡ binding_in (reverse all) name = c.flatten-hidden.ensures ∙ ap option_flatten c.in_ok-replace.ensures.old ∙ c.requires.found name in
+    let hidden : one.hidden ≡ binding_in (reverse all) name =
+    c.flatten-hidden.ensures ∙ ap option_flatten c.in_ok-replace.ensures.old ∙ c.requires.found name in
     let len : c.len.result ≡ length all = search rules in
     let place : c.len.result ≡ length (reverse all) = len ∙ sym (length-reverse all) in
     record {

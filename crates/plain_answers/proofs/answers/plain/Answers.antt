@@ -57,7 +57,8 @@ returns-clause-storable g c =
     (λ kept is.
     entries_fit loaded program
     (c.known_is_storable.ensures loaded c.requires.loaded program c.requires.formed c.requires.sizes) c.args.aim.now kept.items
-    (gathered_in (lookup solve loaded) program c.args.aim.now c.deref-2.result.now c.in_ok-components.components.items c.deref-2.ensures.value
+    (gathered_in (lookup solve loaded) program c.args.aim.now c.deref-2.result.now c.in_ok-components.components.items
+    c.deref-2.ensures.value
     (record {
       are = c.in_ok-components.ensures.are;
       within = c.in_ok-components.ensures.within;

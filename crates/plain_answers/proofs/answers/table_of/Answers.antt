@@ -40,7 +40,8 @@ entry_for-requires g c =
     subst IsStorableKey
     (sym
     (c.in_ok-key.ensures ∙ ap (λ (l : List (Option Kept)). key_by program.structs (answer_at l) part) c.deref-in-loop-place.ensures.value ∙
-    key_is (lookup solve loaded) program (marked c.args.marks.now) c.requires.closed place part c.loop-place.table.items at c.loop-place.invariant
+    key_is (lookup solve loaded) program (marked c.args.marks.now) c.requires.closed place part c.loop-place.table.items at
+    c.loop-place.invariant
     (sym c.is_marked.ensures ∙ c.if-not-is_marked.false)))
     (key_fits loaded program
     (c.known_is_storable.ensures loaded c.requires.loaded program c.requires.formed c.requires.sizes) place part at)

@@ -24,7 +24,8 @@ summary_places-requires-clause-right g c =
       c.each_is_reported.ensures.looked_up loaded (c.stored_are_right.ensures loaded c.requires.loaded),
       ap answers_kept c.deref-2.ensures.value
           ∙ answers_known
-          (lookup solve loaded) c.settled_is_known.ensures.aimed c.args.program.now.value c.in_ok-kept.kept.items c.in_ok-kept.ensures.known ∙
+          (lookup solve loaded) c.settled_is_known.ensures.aimed c.args.program.now.value c.in_ok-kept.kept.items
+          c.in_ok-kept.ensures.known ∙
           ap (λ (program : Program). answers_in (known_by (lookup solve loaded) program)) (sym c.deref.ensures),
     )
 

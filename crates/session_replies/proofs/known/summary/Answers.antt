@@ -23,7 +23,8 @@ unreachable-requires g c =
     (answers_aimed (lookup solve c.args.loaded.now) c.args.program.now.value
     (One c.in_ok-copy_of.field-0) c.in_ok-kept.kept.items c.in_ok-kept.ensures.known) ∙
     ap (λ name. summary_among
-    (aimed_answers (lookup solve c.args.loaded.now) c.args.program.now.value (One name)) c.args.name.now) c.in_ok-copy_of.ensures ∙ own.among in
+    (aimed_answers (lookup solve c.args.loaded.now) c.args.program.now.value (One name)) c.args.name.now)
+    c.in_ok-copy_of.ensures ∙ own.among in
     absurd cc
 
 pub returns-clause-value : goal.returns-clause-value
@@ -39,7 +40,8 @@ returns-clause-value g c =
     (answers_aimed (lookup solve c.args.loaded.now) c.args.program.now.value
     (One c.in_ok-copy_of.field-0) c.in_ok-kept.kept.items c.in_ok-kept.ensures.known) ∙
     ap (λ name. summary_among
-    (aimed_answers (lookup solve c.args.loaded.now) c.args.program.now.value (One name)) c.args.name.now) c.in_ok-copy_of.ensures ∙ own.among)
+    (aimed_answers (lookup solve c.args.loaded.now) c.args.program.now.value (One name)) c.args.name.now)
+    c.in_ok-copy_of.ensures ∙ own.among)
 
 pub returns-clause-printable : goal.returns-clause-printable
 returns-clause-printable g c =
@@ -57,4 +59,5 @@ returns-clause-printable g c =
     (answers_aimed (lookup solve c.args.loaded.now) c.args.program.now.value
     (One c.in_ok-copy_of.field-0) c.in_ok-kept.kept.items c.in_ok-kept.ensures.known) ∙
     ap (λ name. summary_among
-    (aimed_answers (lookup solve c.args.loaded.now) c.args.program.now.value (One name)) c.args.name.now) c.in_ok-copy_of.ensures ∙ own.among))
+    (aimed_answers (lookup solve c.args.loaded.now) c.args.program.now.value (One name)) c.args.name.now)
+    c.in_ok-copy_of.ensures ∙ own.among))

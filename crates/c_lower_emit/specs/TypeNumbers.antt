@@ -1,12 +1,12 @@
--- A number for each type.
+-- A number for each of some types.
 use Rattle.std.specs.Prelude.{ℕ, Option}
 use Rattle.shape_data.specs.declared.program.Ty.{Ty}
 use Rattle.shape_data.specs.declared.program.Ty.TheVariants.{Int, Ptr, Void}
 use Rattle.c_types_names.specs.FirstOfName.{first_of}
-use Rattle.c_lower_emit.specs.declared.first_of_kind.FirstOfKind.{FirstOfKind}
+use Rattle.c_lower_emit.specs.declared.type_numbers.TypeNumbers.{TypeNumbers}
 
 -- the number of a type, where those of pointers are found by the structure's name
-abbrev pub number_in : FirstOfKind → Ty → Option ℕ
+abbrev pub number_in : TypeNumbers → Ty → Option ℕ
 number_in numbers Int = numbers.int
 number_in numbers (Ptr tag) = first_of numbers.of_tags tag
 number_in numbers Void = numbers.void

@@ -1,9 +1,9 @@
-//! A number for each type, found by the type: names of structures are compared here, and not again for each thing of the type.
+//! A number for each of some types, found by the type: names of structures are compared here, and not again for each thing of a type.
 ghost use Rattle.std.specs.Prelude.{◌≡◌, None, OnOk, OnErr};
 ghost use Rattle.c_types_rules.specs.Types.{same_type};
 ghost use Rattle.c_types_names.specs.FirstOfName.{or_last};
 ghost use Rattle.c_types_names.specs.Seen.{type_seen};
-ghost use Rattle.c_lower_emit.specs.FirstOfKind.{number_in};
+ghost use Rattle.c_lower_emit.specs.TypeNumbers.{number_in};
 ghost use Rattle.shape_data.specs.declared.program.Ty.{Ty};
 
 use c_types_names::first_of_name::{Firsts, first_of, set};
@@ -12,16 +12,16 @@ use std::alloc::{AllocError, Global};
 use std::collections::BTreeMap;
 
 /// A number for each of some types. Among n structures each call takes O(log n) comparisons of their names.
-pub struct FirstOfKind<'a> {
+pub struct TypeNumbers<'a> {
     int: Option<usize>,
     void: Option<usize>,
     of_tags: Firsts<'a, usize>,
 }
 
 // Written out, so that callers' proofs take the end of the numbers as one call.
-impl<'a> Drop for FirstOfKind<'a> {
+impl<'a> Drop for TypeNumbers<'a> {
     fn drop(self) {
-        let FirstOfKind {
+        let TypeNumbers {
             int: _int,
             void: _void,
             of_tags: _of_tags,
@@ -29,12 +29,12 @@ impl<'a> Drop for FirstOfKind<'a> {
     }
 }
 
-impl<'a> FirstOfKind<'a> {
+impl<'a> TypeNumbers<'a> {
     /// No type has a number.
-    pub fn new(alloc: Global) -> FirstOfKind<'a>
+    pub fn new(alloc: Global) -> TypeNumbers<'a>
         ensures { (kind : Ty) → number_in result kind ≡ None }
     {
-        FirstOfKind {
+        TypeNumbers {
             int: None,
             void: None,
             of_tags: BTreeMap::new(alloc),
