@@ -1,7 +1,7 @@
 -- Exits that are replaced.
 use Rattle.std.proofs.Common.{◌≡◌, ℕ, ◌+◌, ◌-◌, ◌≤◌, List, [], ◌∷◌, ◌++◌, length, map, take, drop, refl, sym, ap, ◌∙◌}
 use Rattle.std.proofs.Common.{append_assoc, arith}
-use Rattle.std.proofs.lemmas.List.{append-nil, length-append, take-append-drop, drop-drop}
+use Rattle.std.proofs.lemmas.List.{length-append, take-append-drop, drop-drop}
 use Rattle.c_lower_rules.specs.Code.{node}
 use Rattle.c_lower_emit.specs.declared.drafts.Draft.{Draft}
 use Rattle.c_lower_emit.specs.declared.drafts.Label.{Label}
@@ -89,16 +89,6 @@ between_kept from past le ds =
     ∙ append_assoc (take from ds) (take (past - from) (drop from ds)) (drop (past - from) (drop from ds))
     ∙ ap (λ es. take from ds ++ es) (take-append-drop (past - from) (drop from ds))
     ∙ take-append-drop from ds
-
--- nothing changes where none is between the places
-pub none_led : (w : Ways) (from past : ℕ) → from ≤ past → past ≤ from → (ds : List Draft) → ds ≡ led_between from past w ds
-none_led w from past le ge ds =
-    let none : past - from ≡ 0 = omega (arith, ge) in
-    let same : past ≡ from = omega (arith, le, ge) in
-    sym (ap (λ n. (take from ds ++ map (redirected w) (take n (drop from ds))) ++ drop past ds) none
-    ∙ ap (λ es. es ++ drop past ds) (append-nil (take from ds))
-    ∙ ap (λ n. take from ds ++ drop n ds) same
-    ∙ take-append-drop from ds)
 
 -- so nothing changes where pieces are to go on at their own exit
 pub next_led_to_next : (begin : Label) → begin ≡ Next → (from past : ℕ) → from ≤ past → (ds : List Draft)

@@ -67,6 +67,7 @@ fn add_used<'a>(
     requires firsts { AreFirst firsts.old temps.old.items }
     requires first { first ≡ first_like (type_seen kind) temps.old.items }
     ensures more { OnOk result (temps.new.items ≡ temps.old.items ++ record { kind = kind.entry; used = true; first = first } ∷ []) }
+    ensures same { OnErr result (temps.new.items ≡ temps.old.items) }
     ensures firsts { AreFirst firsts.new temps.new.items }
 {
     temps.reserve(1)?;

@@ -1,15 +1,12 @@
 use Rattle.std.proofs.Common.{◌≡◌, ◌≤◌, length, ap, ◌∙◌, arith, rules}
 use Rattle.c_lower_emit.specs.Drafts.{next_at, led_between}
 use Rattle.c_lower_emit.specs.Stretches.{is_holds, is_fails, is_next}
-use Rattle.c_lower_emit.proofs.Leading.{next_led_to_next, none_led}
+use Rattle.c_lower_emit.proofs.Leading.{next_led_to_next}
 use Rattle.c_lower_emit.proofs.Stretches.{next_away, before_lack}
 use Rattle.c_lower_emit.proofs.draft_list.DraftList.lead_next.Goals as goal
 
 pub returns-in-Next : goal.returns-in-Next
 returns-in-Next c = λ le within. next_led_to_next c.args.begin c.in-Next.is c.args.from c.args.past le c.args.self.now
-
-pub returns-then-past : goal.returns-then-past
-returns-then-past c = λ le within. none_led (next_at c.args.begin) c.args.from c.args.past le (search rules) c.args.self.now
 
 pub invariant_of-self : goal.invariant_of-self
 invariant_of-self c =
