@@ -1,7 +1,10 @@
 //! Expressions that are in hand, and members of what they point to (C11 6.5.2.3).
-ghost use Rattle.std.specs.Prelude.{◌≡◌, ◌∷◌, map, IfOk};
+ghost use Rattle.std.specs.Prelude.{◌≡◌, ◌∷◌, Some, map, option_map, IfOk};
+ghost use Rattle.c_grammar.specs.Trees.{Name as NameTree};
+ghost use Rattle.c_types_rules.specs.Tables.{Tables, field_of};
+ghost use Rattle.c_types_rules.specs.Expressions.{kind_of_member};
 ghost use Rattle.c_tree.specs.Syntax.{ident_tree};
-ghost use Rattle.c_types_names.specs.Seen.{type_seen};
+ghost use Rattle.c_types_names.specs.Seen.{type_seen, kind_seen, field_seen};
 ghost use Rattle.c_lower_rules.specs.Contexts.{tag_of};
 ghost use Rattle.c_lower_rules.specs.Values.{Lowering};
 ghost use Rattle.c_lower_rules.specs.Expressions.{slot_read, field_behind, member, members};
@@ -14,8 +17,8 @@ use crate::site::Site;
 use c_lower_emit::output::Output;
 use c_lower_emit::uses::Use;
 use c_tree::{Ident, Name};
-use c_types_exprs::exprs::kind_of_member;
-use c_types_names::kinds::{CType, known};
+use c_types_names::kinds::{CType, Kind, known};
+use c_types_names::objects::{FieldKind, placed_field};
 use shape_data::copy_of;
 use shape_data::program::{Cmd, Operand};
 use std::alloc::{AllocError, Global};
@@ -56,6 +59,20 @@ pub fn tag_of(alloc: Global, kind: CType) -> Result<Name, AllocError>
     }
 }
 
+/// The type of the field that was found behind a pointer of the type, if it is one.
+fn kind_behind<'a>(pointer: CType<'a>, found: Option<FieldKind<'a>>) -> Kind<'a>
+    ensures { (tables : Tables) → (field : NameTree) → option_map field_seen found.entry ≡ field_of tables (tag_of (type_seen pointer.entry)) field.text
+        → kind_seen result ≡ kind_of_member tables (Some (type_seen pointer.entry)) field }
+{
+    match pointer {
+        CType::Pointer(_) => match found {
+            None => None,
+            Some(found) => found.kind,
+        },
+        CType::Int | CType::Void => None,
+    }
+}
+
 /// The field of what a pointer of the type points to.
 pub fn field_behind<'a>(
     site: &Site<'_, 'a>,
@@ -65,9 +82,9 @@ pub fn field_behind<'a>(
     ensures { IfOk result (λ found. field_found found ≡ field_behind site.now (type_seen pointer.entry) (ident_tree field.now)) }
 {
     let tag = tag_of(site.alloc(), pointer)?;
-    let place = site.tables().field_place(&tag, &field.text);
-    let place = u32::try_from(place).unwrap_or(u32::MAX);
-    let kind = known(kind_of_member(site.tables(), Some(pointer), field));
+    let found = placed_field(site.tables(), &tag, &field.text);
+    let place = u32::try_from(found.place).unwrap_or(u32::MAX);
+    let kind = known(kind_behind(pointer, found.field));
     Ok(Field { tag, place, kind })
 }
 

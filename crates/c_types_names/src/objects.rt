@@ -11,6 +11,7 @@ ghost use Rattle.c_types_rules.specs.Tables.{
   may_be_result,
   field_kind,
   field_of,
+  field_place,
   param_kind,
   kind_of_result,
   is_defined,
@@ -20,9 +21,11 @@ ghost use Rattle.c_tree.specs.Syntax.{specifier_tree, declarator_tree, param_tre
 ghost use Rattle.c_types_names.specs.Seen.{kind_seen, field_seen};
 ghost use Rattle.c_types_names.specs.FirstRefusal.{with_refusals};
 ghost use Rattle.c_types_names.specs.Specifiers.{is_int, is_void};
+ghost use Rattle.c_types_names.specs.StructFields.{field_named, kind_of_declared};
 
 use crate::first_refusal::FirstRefusal;
 use crate::kinds::{CType, Kind};
+use crate::struct_fields::StructFields;
 use crate::tables::Tables;
 use c_tree::{Declarator, Head, Ident, Name, Param, TypeSpecifier};
 
@@ -226,5 +229,43 @@ pub fn field_of<'a>(tables: &Tables<'a>, tag: &Name, name: &Name) -> Option<Fiel
     match tables.field(tag, name) {
         None => None,
         Some(field) => Some(field_kind(tables, field.specifier, field.declarator)),
+    }
+}
+
+/// The field of the name, if there is one among these.
+fn field_among<'a>(
+    tables: &Tables<'a>,
+    fields: &StructFields<'a>,
+    name: &Name,
+) -> Option<FieldKind<'a>>
+    ensures { option_map field_seen result ≡ option_map (kind_of_declared tables.now) (field_named fields.now name.now) }
+{
+    match fields.first(name) {
+        None => None,
+        Some(field) => Some(field_kind(tables, field.specifier, field.declarator)),
+    }
+}
+
+/// A field of a structure, if it has one of the name, and its place there, counted from 0.
+#[derive(Clone, Copy)]
+pub struct PlacedField<'a> {
+    pub place: usize,
+    pub field: Option<FieldKind<'a>>,
+}
+
+/// The field of the name, and its place, or how many fields the structure has. The structure is looked up once for both.
+pub fn placed_field<'a>(tables: &Tables<'a>, tag: &Name, name: &Name) -> PlacedField<'a>
+    ensures place { result.place ≡ field_place tables.now tag.now name.now }
+    ensures field { option_map field_seen result.field ≡ field_of tables.now tag.now name.now }
+{
+    match tables.fields(tag) {
+        None => PlacedField {
+            place: 0,
+            field: None,
+        },
+        Some(fields) => PlacedField {
+            place: fields.place(name),
+            field: field_among(tables, fields, name),
+        },
     }
 }
