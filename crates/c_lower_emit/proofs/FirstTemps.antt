@@ -1,8 +1,9 @@
 -- The first temporary of each type.
-use Rattle.std.proofs.Common.{◌≡◌, ℕ, zero, suc, ◌+◌, ◌<◌, ◌≤◌, ◌==◌, Bool, true, false, List, [], ◌∷◌, ◌++◌, All, IfSome, Option, Some, None}
-use Rattle.std.proofs.Common.{length, map, drop, set, get_or, unwrap_or, refl, sym, ap, ◌∙◌, subst, arith, ◌⊎◌, inl, inr, ⊎_elim}
+use Rattle.std.proofs.Common.{◌≡◌, ℕ, zero, suc, ◌+◌, ◌<◌, ◌≤◌, ◌==◌, Bool, true, false, List, [], ◌∷◌, ◌++◌, All}
+use Rattle.std.proofs.Common.{IfSome, Option, Some, None}
+use Rattle.std.proofs.Common.{length, map, drop, set, get_or, unwrap_or, refl, sym, ap, ◌∙◌, subst, arith, ⊎_elim}
 use Rattle.std.proofs.lemmas.Bool.{true≢false, cases_lt}
-use Rattle.std.proofs.lemmas.Bool.Decides.{eqb_tells, leb_tells}
+use Rattle.std.proofs.lemmas.Bool.Decides.{eqb_tells}
 use Rattle.std.proofs.lemmas.List.{length-map, get_or-map, length_push}
 use Rattle.std.proofs.lemmas.List.Elements.{All-drop, All-push}
 use Rattle.std.proofs.lemmas.Slice.Eq.{bytes_eq-Decides}
@@ -11,7 +12,7 @@ use Rattle.shape_data.specs.declared.program.Ty.{Ty}
 use Rattle.shape_data.specs.declared.program.Ty.TheVariants.{Int, Ptr, Void}
 use Rattle.c_types_rules.specs.Types.{same_type}
 use Rattle.c_lower_rules.specs.Temporaries.{take_temp}
-use Rattle.c_types_names.specs.FirstOfName.{or_last}
+use Rattle.c_types_names.specs.NameMap.{or_last}
 use Rattle.c_types_names.specs.Seen.{type_seen}
 use Rattle.c_lower_emit.specs.declared.type_numbers.TypeNumbers.{TypeNumbers}
 use Rattle.c_lower_emit.specs.declared.temps.Temp.{Temp}
@@ -77,10 +78,10 @@ not_behind kind (temp ∷ temps) (suc place) d lt = λ is.
 
 -- WHOSE FIRST ONE STANDS THERE IS OF THE TYPE
 
-pub tells : (firsts : TypeNumbers) (temps : List Temp) → AreFirst firsts temps → (kind : Ty) (first : ℕ)
-    → first ≡ unwrap_or (number_in firsts kind) (length temps)
+pub tells : (numbers : TypeNumbers) (temps : List Temp) → AreFirst numbers temps → (kind : Ty) (first : ℕ)
+    → first ≡ unwrap_or (number_in numbers kind) (length temps)
     → All (λ temp. (temp.first == first) ≡ same_type (type_seen temp.kind) kind) temps
-tells firsts temps h kind first at place d lt =
+tells numbers temps h kind first at place d lt =
     by_test (same_type of kind) refl
   where
     temp : Temp
@@ -151,9 +152,9 @@ push_behind kind (first ∷ temps) temp =
     by_test true again le = absurd (omega (arith, le))
     by_test false again le = ap suc (again (omega (arith, le))) ∙ by_other (same_type (type_seen temp.kind) kind)
 
-module _ (firsts after : TypeNumbers) (temps : List Temp) (temp : Temp) (h : AreFirst firsts temps)
+module _ (numbers after : TypeNumbers) (temps : List Temp) (temp : Temp) (h : AreFirst numbers temps)
     (own : temp.first ≡ first_like (type_seen temp.kind) temps)
-    (noted : (kind : Ty) → number_in after kind ≡ or_last (number_in firsts kind) (same_type (type_seen temp.kind) kind) temp.first) where
+    (noted : (kind : Ty) → number_in after kind ≡ or_last (number_in numbers kind) (same_type (type_seen temp.kind) kind) temp.first) where
   -- the first of a type, by whether the new one is of the type
   found_by : (kind : Ty) (b : Bool) (o : Option ℕ) → same_type (type_seen temp.kind) kind ≡ b
       → unwrap_or o (length temps) ≡ first_like kind temps → IfSome o (λ place. place < length temps)
@@ -193,10 +194,10 @@ module _ (firsts after : TypeNumbers) (temps : List Temp) (temp : Temp) (h : Are
   first_more = record {
     found = λ kind.
         ap (λ o. unwrap_or o (length (temps ++ temp ∷ []))) (noted kind)
-        ∙ found_by kind (same_type (type_seen temp.kind) kind) (number_in firsts kind) refl (h.found kind) (h.within kind);
+        ∙ found_by kind (same_type (type_seen temp.kind) kind) (number_in numbers kind) refl (h.found kind) (h.within kind);
     within = λ kind.
         subst (λ o. IfSome o (λ place. place < length (temps ++ temp ∷ []))) (sym (noted kind))
-        (within_by (same_type (type_seen temp.kind) kind) (number_in firsts kind) (h.within kind));
+        (within_by (same_type (type_seen temp.kind) kind) (number_in numbers kind) (h.within kind));
     each =
         All-push (λ one. one.first ≡ first_like (type_seen one.kind) (temps ++ temp ∷ [])) temps temp
         (λ place d lt. h.each place d lt
@@ -219,13 +220,13 @@ like_same : (kind : Ty) (one other : List Temp) → map unused one ≡ map unuse
 like_same kind one other same = sym (like_unused kind one) ∙ ap (first_like kind) same ∙ like_unused kind other
 
 -- it is not asked whether a temporary is used
-pub first_same : (firsts : TypeNumbers) (one other : List Temp) → map unused other ≡ map unused one → AreFirst firsts one
-    → AreFirst firsts other
-first_same firsts one other same h =
+pub first_same : (numbers : TypeNumbers) (one other : List Temp) → map unused other ≡ map unused one → AreFirst numbers one
+    → AreFirst numbers other
+first_same numbers one other same h =
     let long : length other ≡ length one = sym (length-map other unused) ∙ ap length same ∙ length-map one unused in
     record {
-      found = λ kind. ap (unwrap_or (number_in firsts kind)) long ∙ h.found kind ∙ sym (like_same kind other one same);
-      within = λ kind. subst (λ n. IfSome (number_in firsts kind) (λ place. place < n)) (sym long) (h.within kind);
+      found = λ kind. ap (unwrap_or (number_in numbers kind)) long ∙ h.found kind ∙ sym (like_same kind other one same);
+      within = λ kind. subst (λ n. IfSome (number_in numbers kind) (λ place. place < n)) (sym long) (h.within kind);
       each = λ place d lt.
           let there : unused (get_or other place d) ≡ unused (get_or one place d) =
           sym (get_or-map unused other place d (unused d) lt) ∙ ap (λ ts. get_or ts place (unused d)) same
@@ -247,11 +248,11 @@ set_unused (temp ∷ temps) zero d lt = λ is. ap (λ t. unused t ∷ map unused
 set_unused (temp ∷ temps) (suc place) d lt = λ is. ap (λ ts. unused temp ∷ ts) (set_unused temps place d (omega (arith, lt)) is)
 
 -- where there is one of the type, it is noted already
-pub noted_already : (firsts : TypeNumbers) (temps : List Temp) → AreFirst firsts temps → (one : Ty) (first : ℕ)
+pub noted_already : (numbers : TypeNumbers) (temps : List Temp) → AreFirst numbers temps → (one : Ty) (first : ℕ)
     → first ≡ first_like one temps → first < length temps → (kind : Ty)
-    → number_in firsts kind ≡ or_last (number_in firsts kind) (same_type one kind) first
-noted_already firsts temps h one first at lt kind =
-    by_test (same_type one kind) (number_in firsts kind) refl (h.found kind)
+    → number_in numbers kind ≡ or_last (number_in numbers kind) (same_type one kind) first
+noted_already numbers temps h one first at lt kind =
+    by_test (same_type one kind) (number_in numbers kind) refl (h.found kind)
   where
     by_test : (b : Bool) (o : Option ℕ) → same_type one kind ≡ b → unwrap_or o (length temps) ≡ first_like kind temps
         → o ≡ or_last o b first
@@ -263,14 +264,14 @@ noted_already firsts temps h one first at lt kind =
         absurd (omega (arith, found, same, lt))
 
 -- the place of a free one, where those from a place on are looked at, and told by the number of its type
-pub free_place : (firsts : TypeNumbers) (from : ℕ) (temps rest : List Temp) → IsKept firsts from temps → rest ≡ drop from temps
-    → (kind : Ty) (first place : ℕ) → first ≡ unwrap_or (number_in firsts kind) (length temps)
+pub free_place : (numbers : TypeNumbers) (from : ℕ) (temps rest : List Temp) → IsKept numbers from temps → rest ≡ drop from temps
+    → (kind : Ty) (first place : ℕ) → first ≡ unwrap_or (number_in numbers kind) (length temps)
     → ((of : Ty) → All (λ (temp : Temp). (temp.first == first) ≡ same_type (type_seen temp.kind) of) rest
     → place ≡ (take_temp of (map temp_seen rest)).place)
     → from + place ≡ (take_temp kind (map temp_seen temps)).place
-free_place firsts from temps rest kept is kind first place at found =
+free_place numbers from temps rest kept is kind first place at found =
     place_behind kind from temps rest place kept.within kept.used is
-    (found kind (subst (All Told) (sym is) (All-drop Told from temps (tells firsts temps kept.first kind first at))))
+    (found kind (subst (All Told) (sym is) (All-drop Told from temps (tells numbers temps kept.first kind first at))))
   where
     Told : Temp → Type 0
     Told temp = (temp.first == first) ≡ same_type (type_seen temp.kind) kind

@@ -21,13 +21,13 @@ first_like kind [] = 0
 first_like kind (temp ∷ temps) = if same_type (type_seen temp.kind) kind then 0 else suc (first_like kind temps)
 
 -- a type's number is the place of its first temporary, and a type without one has none; each temporary has the number of its type
-pub record AreFirst (firsts : TypeNumbers) (temps : List Temp) : Type 0 where
-  pub found : (kind : Ty) → unwrap_or (number_in firsts kind) (length temps) ≡ first_like kind temps
-  pub within : (kind : Ty) → IfSome (number_in firsts kind) (λ place. place < length temps)
+pub record AreFirst (numbers : TypeNumbers) (temps : List Temp) : Type 0 where
+  pub found : (kind : Ty) → unwrap_or (number_in numbers kind) (length temps) ≡ first_like kind temps
+  pub within : (kind : Ty) → IfSome (number_in numbers kind) (λ place. place < length temps)
   pub each : All (λ temp. temp.first ≡ first_like (type_seen temp.kind) temps) temps
 
 -- the temporaries before the place, of which there are so many, are used; and the first of each type is known
-pub record IsKept (firsts : TypeNumbers) (place : ℕ) (temps : List Temp) : Type 0 where
+pub record IsKept (numbers : TypeNumbers) (place : ℕ) (temps : List Temp) : Type 0 where
   pub within : place ≤ length temps
   pub used : AreUsed (take place temps)
-  pub first : AreFirst firsts temps
+  pub first : AreFirst numbers temps

@@ -1,7 +1,8 @@
 //! Nodes whose ways on may still be exits of the piece that they belong to.
-ghost use Rattle.std.specs.Prelude.{◌≡◌, IfOk, map};
+ghost use Rattle.std.specs.Prelude.{◌≡◌, ◌<◌, IfOk, map};
 ghost use Rattle.c_lower_emit.specs.Drafts.{redirect, next_at, redirected, put_to, aimed, laid, at_start, resolve};
 ghost use Rattle.c_lower_emit.specs.OpenPlaces.{is_exit, is_open};
+ghost use Rattle.c_lower_emit.specs.declared.drafts.Label.TheVariants.{At};
 
 use shape_data::program::{Cmd, Node};
 use std::alloc::{AllocError, Global};
@@ -52,6 +53,13 @@ pub struct Draft {
 }
 
 impl Label {
+    /// The place as a label.
+    pub fn at(place: usize) -> Label
+        ensures { place < 4294967296 → result ≡ At place }
+    {
+        Label::At(u32::try_from(place).unwrap_or(u32::MAX))
+    }
+
     /// With each exit replaced.
     pub fn redirect(self, ways: Ways) -> Label
         ensures { result ≡ redirect ways self }

@@ -26,7 +26,7 @@ pub struct Temp<'a> {
 #[derive(Drop)]
 pub struct Temps<'a> {
     all: Vec<Temp<'a>>,
-    firsts: TypeNumbers<'a>,
+    numbers: TypeNumbers<'a>,
     used_before: usize,
 }
 
@@ -40,7 +40,7 @@ impl<'a> Model for Temps<'a> {
 
     ghost view = { λ t. map temp_seen t.all.items };
 
-    ghost invariant = { λ t. IsKept t.firsts t.used_before t.all.items };
+    ghost invariant = { λ t. IsKept t.numbers t.used_before t.all.items };
 }
 
 /// The place of the first temporary of a type that is not used, or else behind all. Of the type are those whose `first` is the given one.
@@ -60,19 +60,19 @@ fn place_of_free(temps: &[Temp], first: usize) -> usize
 /// Adds a used temporary of the type. `first` is the place of the first one of the type, or behind all where there is none.
 fn add_used<'a>(
     temps: &mut Vec<Temp<'a>>,
-    firsts: &mut TypeNumbers<'a>,
+    numbers: &mut TypeNumbers<'a>,
     kind: CType<'a>,
     first: usize,
 ) -> Result<(), AllocError>
-    requires firsts { AreFirst firsts.old temps.old.items }
+    requires numbers { AreFirst numbers.old temps.old.items }
     requires first { first ≡ first_like (type_seen kind) temps.old.items }
     ensures more { OnOk result (temps.new.items ≡ temps.old.items ++ record { kind = kind.entry; used = true; first = first } ∷ []) }
     ensures same { OnErr result (temps.new.items ≡ temps.old.items) }
-    ensures firsts { AreFirst firsts.new temps.new.items }
+    ensures numbers { AreFirst numbers.new temps.new.items }
 {
     temps.reserve(1)?;
     if first == temps.len() {
-        firsts.set(kind, first)?;
+        numbers.set(kind, first)?;
     }
     temps
         .push(Temp {
@@ -87,23 +87,23 @@ fn add_used<'a>(
 /// Takes the first temporary of the type that is not used, or else a new one, and gives its place. All before `from` are used.
 fn take_one<'a>(
     temps: &mut Vec<Temp<'a>>,
-    firsts: &mut TypeNumbers<'a>,
+    numbers: &mut TypeNumbers<'a>,
     from: usize,
     kind: CType<'a>,
 ) -> Result<usize, AllocError>
-    requires { IsKept firsts.old from temps.old.items }
+    requires { IsKept numbers.old from temps.old.items }
     ensures temps { OnOk result (map temp_seen temps.new.items ≡ (take_temp (type_seen kind.entry) (map temp_seen temps.old.items)).temps) }
     ensures place { IfOk result (λ place. place ≡ (take_temp (type_seen kind.entry) (map temp_seen temps.old.items)).place) }
     ensures within { IfOk result (λ place. place ≤ length temps.old.items) }
-    ensures kept { IsKept firsts.new from temps.new.items }
-    ensures used { IfOk result (λ place. place ≡ from → IsKept firsts.new (from + 1) temps.new.items) }
+    ensures kept { IsKept numbers.new from temps.new.items }
+    ensures used { IfOk result (λ place. place ≡ from → IsKept numbers.new (from + 1) temps.new.items) }
 {
-    let first = firsts.get(kind).unwrap_or(temps.len());
+    let first = numbers.get(kind).unwrap_or(temps.len());
     let place = from + place_of_free(&temps[from..], first);
     if place < temps.len() {
         temps[place].used = true;
     } else {
-        add_used(temps, firsts, kind, first)?;
+        add_used(temps, numbers, kind, first)?;
     }
     Ok(place)
 }
@@ -124,7 +124,7 @@ impl<'a> Temps<'a> {
     {
         Temps {
             all: Vec::new(alloc),
-            firsts: TypeNumbers::new(alloc),
+            numbers: TypeNumbers::new(alloc),
             used_before: 0,
         }
     }
@@ -142,7 +142,7 @@ impl<'a> Temps<'a> {
         ensures place { IfOk result (λ place. place ≡ (take_temp (type_seen kind.entry) self.old).place) }
         ensures within { IfOk result (λ place. place ≤ length self.old) }
     {
-        let place = take_one(&mut self.all, &mut self.firsts, self.used_before, kind)?;
+        let place = take_one(&mut self.all, &mut self.numbers, self.used_before, kind)?;
         if place == self.used_before {
             self.used_before += 1;
         }

@@ -1,13 +1,13 @@
 //! A number for each of some types, found by the type: names of structures are compared here, and not again for each thing of a type.
 ghost use Rattle.std.specs.Prelude.{◌≡◌, None, OnOk, OnErr};
 ghost use Rattle.c_types_rules.specs.Types.{same_type};
-ghost use Rattle.c_types_names.specs.FirstOfName.{or_last};
+ghost use Rattle.c_types_names.specs.NameMap.{or_last};
 ghost use Rattle.c_types_names.specs.Seen.{type_seen};
 ghost use Rattle.c_lower_emit.specs.TypeNumbers.{number_in};
 ghost use Rattle.shape_data.specs.declared.program.Ty.{Ty};
 
-use c_types_names::first_of_name::{Firsts, first_of, set};
 use c_types_names::kinds::CType;
+use c_types_names::name_map::{NameMap, named, set};
 use std::alloc::{AllocError, Global};
 use std::collections::BTreeMap;
 
@@ -15,7 +15,7 @@ use std::collections::BTreeMap;
 pub struct TypeNumbers<'a> {
     int: Option<usize>,
     void: Option<usize>,
-    of_tags: Firsts<'a, usize>,
+    of_tags: NameMap<'a, usize>,
 }
 
 // Written out, so that callers' proofs take the end of the numbers as one call.
@@ -47,7 +47,7 @@ impl<'a> TypeNumbers<'a> {
     {
         match kind {
             CType::Int => self.int,
-            CType::Pointer(tag) => first_of(&self.of_tags, tag),
+            CType::Pointer(tag) => named(&self.of_tags, tag),
             CType::Void => self.void,
         }
     }

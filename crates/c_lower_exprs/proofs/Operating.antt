@@ -11,7 +11,8 @@ use Rattle.c_lower_rules.specs.Expressions.{compare_both, comparison, conjunctio
 use Rattle.c_types_names.specs.Seen.{type_seen}
 use Rattle.c_lower_emit.specs.declared.uses.Use.{Use}
 use Rattle.c_lower_emit.specs.declared.uses.Use.TheVariants.{Value}
-use Rattle.c_lower_emit.specs.Emitting.{Out, led_out, HasRoom, EmitsStraight, EmitsTest, Emits, EmitsTested, BeginsTruth, LeadsWhereHolds, LeadsWhereFails}
+use Rattle.c_lower_emit.specs.Emitting.{Out, led_out, HasRoom, EmitsStraight, EmitsTest, Emits, EmitsTested}
+use Rattle.c_lower_emit.specs.Emitting.{BeginsTruth, LeadsWhereHolds, LeadsWhereFails}
 use Rattle.c_lower_emit.specs.declared.drafts.Label.TheVariants.{At, Holds, Fails}
 use Rattle.c_lower_emit.specs.Drafts.{as_they_are}
 use Rattle.c_lower_emit.proofs.Joining.{behind_nodes, room_first, room_then, grows_led, test_then, test_led, both_then, either_then}

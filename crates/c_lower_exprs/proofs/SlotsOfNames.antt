@@ -7,7 +7,7 @@ use Rattle.std.specs.Str.{bytes_eq}
 use Rattle.std.specs.Option.{option_flatten}
 use Rattle.c_lower_rules.specs.Contexts.{slot_in, slot_of_bound}
 use Rattle.c_lower_rules.specs.Contexts as contexts
-use Rattle.c_types_names.specs.FirstOfName.{or_last}
+use Rattle.c_types_names.specs.NameMap.{or_last}
 use Rattle.c_lower_exprs.specs.declared.slots.Bound.{Bound}
 use Rattle.c_lower_exprs.specs.declared.slots.Declared.{Declared}
 use Rattle.c_lower_exprs.specs.Seen.{bound_seen, stacked}

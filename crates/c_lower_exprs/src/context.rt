@@ -11,14 +11,16 @@ ghost use Rattle.c_tree.specs.Syntax.{head_tree};
 ghost use Rattle.c_lower_exprs.specs.Seen.{stacked};
 ghost use Rattle.c_lower_exprs.specs.Contexts.{FieldsFit, behind_variable, IsWithin};
 
-use crate::params::{add_params, param_count};
+use crate::params::{bind_params, param_count};
 use crate::slots::{Bound, Slots};
 use c_lower_emit::visible_slots::VisibleSlots;
 use c_tree::places::place_of_specifier;
 use c_tree::{Head, Name, Place};
+use c_types_exprs::exprs::kind_of_variable;
 use c_types_names::env::Env;
 use c_types_names::kinds::{CType, Kind, known};
 use c_types_names::objects::kind_of_result;
+use c_types_names::params::add_params;
 use c_types_names::tables::Tables;
 use std::alloc::{AllocError, Global};
 use std::marker::Model;
@@ -89,7 +91,8 @@ impl<'a> Context<'a> {
     {
         self.env.clear();
         self.bound.truncate(0);
-        add_params(&mut self.env, &mut self.bound, &head.params)?;
+        add_params(&mut self.env, &head.params)?;
+        bind_params(&mut self.bound, &head.params)?;
         self.first_local = param_count(&head.params);
         self.first_temp = self.first_local.saturating_add(locals);
         self.result = known(kind_of_result(self.env.tables(), head));
@@ -110,14 +113,11 @@ impl<'a> Context<'a> {
         self.env.tables()
     }
 
-    /// The type of the variable of the name.
+    /// The type of the variable of the name; int where there is none, which a typed program has no use of.
     pub fn kind_of(&self, name: &Name) -> CType<'a>
         ensures { type_seen result ≡ known (kind_of_variable (variable self.now.env name.now)) }
     {
-        match self.env.variable(name) {
-            None => CType::Int,
-            Some(found) => known(found.kind),
-        }
+        known(kind_of_variable(&self.env, name))
     }
 
     /// The slot of the variable of the name.

@@ -61,7 +61,8 @@ pub fn tag_of(alloc: Global, kind: CType) -> Result<Name, AllocError>
 
 /// The type of the field that was found behind a pointer of the type, if it is one.
 fn kind_behind<'a>(pointer: CType<'a>, found: Option<FieldKind<'a>>) -> Kind<'a>
-    ensures { (tables : Tables) → (field : NameTree) → option_map field_seen found.entry ≡ field_of tables (tag_of (type_seen pointer.entry)) field.text
+    ensures { (tables : Tables) → (field : NameTree)
+        → option_map field_seen found.entry ≡ field_of tables (tag_of (type_seen pointer.entry)) field.text
         → kind_seen result ≡ kind_of_member tables (Some (type_seen pointer.entry)) field }
 {
     match pointer {

@@ -6,7 +6,7 @@ ghost use Rattle.c_lower_exprs.specs.Slots.{IsBound, slot_found, bound_of};
 
 use c_lower_emit::visible_slots::VisibleSlots;
 use c_tree::Name;
-use c_types_names::first_of_name::{Firsts, first_of, replace, set};
+use c_types_names::name_map::{NameMap, named, replace, set};
 use std::alloc::{AllocError, Global};
 use std::collections::BTreeMap;
 use std::marker::Model;
@@ -26,7 +26,7 @@ struct Declared<'a> {
 }
 
 /// The slot of each name: one that has ever been declared has an entry, which is None where none of its variables is left.
-type SlotsOfNames<'a> = Firsts<'a, Option<u32>>;
+type SlotsOfNames<'a> = NameMap<'a, Option<u32>>;
 
 /// Variables and their slots, the innermost one last. To find, to add and to forget one takes O(log n) comparisons of names, where n names
 /// have been declared. The slots are also kept as a list of their own, so that a copy of it looks at no variable.
@@ -63,7 +63,7 @@ impl<'a> Drop for Slots<'a> {
 fn slot_found<'a>(of_names: &SlotsOfNames<'a>, name: &Name) -> Option<u32>
     ensures { result ≡ slot_found of_names.now name.now }
 {
-    first_of(of_names, name)?
+    named(of_names, name)?
 }
 
 /// Forgets the last variable.

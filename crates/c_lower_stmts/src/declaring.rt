@@ -68,29 +68,29 @@ fn initial<'a>(
 
 /// A local, whose name means it in its own initializer already. Gives how many locals were declared then.
 fn local<'a>(
-    c: &mut Context<'a>,
+    context: &mut Context<'a>,
     line: u32,
     locals: u32,
     specifier: &'a TypeSpecifier,
     one: &'a Initialized,
     out: &mut Output<'a>,
 ) -> Result<u32, AllocError>
-    ensures within { OnOk result (IsWithin c.old c.new) }
+    ensures within { OnOk result (IsWithin context.old context.new) }
     ensures declared { IfOk result (λ then. InitializedHasIntNumbers (initialized_tree one.now)
         → Declares (statements.local (specifier_tree specifier.now) (initialized_tree one.now)
-        (state (on_line c.old line) locals out.old))
-        c.old line locals c.new then out.old out.new) }
+        (state (on_line context.old line) locals out.old))
+        context.old line locals context.new then out.old out.new) }
 {
-    let kind = object_kind(c.tables(), specifier, one.declarator.stars);
-    let to = c.first_local().saturating_add(locals);
-    c.add_local(&one.declarator.name.text, kind, to)?;
-    initial(&Site::on(c, line), to, known(kind), &one.value, out)?;
+    let kind = object_kind(context.tables(), specifier, one.declarator.stars);
+    let to = context.first_local().saturating_add(locals);
+    context.add_local(&one.declarator.name.text, kind, to)?;
+    initial(&Site::on(context, line), to, known(kind), &one.value, out)?;
     Ok(locals.saturating_add(1))
 }
 
 /// A local behind others, whose code begins at a place.
 fn local_behind<'a>(
-    c: &mut Context<'a>,
+    context: &mut Context<'a>,
     line: u32,
     locals: u32,
     start: usize,
@@ -98,34 +98,35 @@ fn local_behind<'a>(
     one: &'a Initialized,
     out: &mut Output<'a>,
 ) -> Result<u32, AllocError>
-    ensures within { OnOk result (IsWithin c.old c.new) }
+    ensures within { OnOk result (IsWithin context.old context.new) }
     ensures declared { IfOk result (λ then. InitializedHasIntNumbers (initialized_tree one.now)
-        → DeclaresMore (specifier_tree specifier.now) (initialized_tree one.now) start line c.old locals c.new then out.old out.new) }
+        → DeclaresMore (specifier_tree specifier.now) (initialized_tree one.now) start line
+        context.old locals context.new then out.old out.new) }
 {
     let past = out.len();
     let begin = Label::At(out.here());
-    let locals = local(c, line, locals, specifier, one, out)?;
+    let locals = local(context, line, locals, specifier, one, out)?;
     out.lead_next(start, past, begin);
     Ok(locals)
 }
 
 /// A declaration, as code whose nodes have the line, where so many locals were declared before it. Gives how many there are then.
 pub fn declaration<'a>(
-    c: &mut Context<'a>,
+    context: &mut Context<'a>,
     line: u32,
     locals: u32,
     one: &'a Local,
     out: &mut Output<'a>,
 ) -> Result<u32, AllocError>
-    ensures within { OnOk result (IsWithin c.old c.new) }
+    ensures within { OnOk result (IsWithin context.old context.new) }
     ensures declared { IfOk result (λ then. LocalHasIntNumbers (local_tree one.now)
-        → Declares (statements.declaration (local_tree one.now) (state (on_line c.old line) locals out.old))
-        c.old line locals c.new then out.old out.new) }
+        → Declares (statements.declaration (local_tree one.now) (state (on_line context.old line) locals out.old))
+        context.old line locals context.new then out.old out.new) }
 {
     let start = out.len();
-    let mut count = local(c, line, locals, &one.specifier, &one.first, out)?;
+    let mut count = local(context, line, locals, &one.specifier, &one.first, out)?;
     for other in &one.others {
-        count = local_behind(c, line, count, start, &one.specifier, other, out)?;
+        count = local_behind(context, line, count, start, &one.specifier, other, out)?;
     }
     Ok(count)
 }

@@ -1,7 +1,6 @@
-//! Loops: what stands before their first node, and what their pieces become when they stand; and a place as a label, for all statements.
+//! Loops: what stands before their first node, and what their pieces become when they stand.
 ghost use Rattle.std.specs.Prelude.{◌≡◌, ◌<◌, ◌≤◌, length, OnOk, IfOk};
 ghost use Rattle.c_lower_rules.specs.Contexts.{visible};
-ghost use Rattle.c_lower_emit.specs.declared.drafts.Label.TheVariants.{At};
 ghost use Rattle.c_lower_emit.specs.Emitting.{with_loop};
 ghost use Rattle.c_lower_stmts.specs.Loops.{all_to, round, ClosesLoop, ClosesLoopBehind};
 
@@ -20,24 +19,17 @@ pub struct Opened {
 }
 
 /// Where a loop begins.
-pub fn open(c: &Context, out: &Output) -> Result<Opened, AllocError>
+pub fn open(context: &Context, out: &Output) -> Result<Opened, AllocError>
     ensures head { IfOk result (λ opened. opened.head ≡ length out.now.nodes) }
     ensures index { IfOk result (λ opened. opened.index ≡ length out.now.loops) }
-    ensures visible { IfOk result (λ opened. opened.visible ≡ visible c.now) }
+    ensures visible { IfOk result (λ opened. opened.visible ≡ visible context.now) }
 {
-    let visible = c.visible()?;
+    let visible = context.visible()?;
     Ok(Opened {
         head: out.len(),
         index: out.loops_len(),
         visible,
     })
-}
-
-/// The place as a label.
-pub fn at(place: usize) -> Label
-    ensures { place < 4294967296 → result ≡ At place }
-{
-    Label::At(u32::try_from(place).unwrap_or(u32::MAX))
 }
 
 /// All exits lead to one place.
@@ -81,7 +73,7 @@ pub fn close(
         visible,
     } = opened;
     let past = out.len();
-    let to_head = all_to(at(head));
+    let to_head = all_to(Label::at(head));
     out.redirect(step, past, to_head);
     let ways = round(step_begin.redirect(to_head));
     out.redirect(body, step, ways);
@@ -118,7 +110,7 @@ pub fn close_behind(
         visible,
     } = opened;
     let past = out.len();
-    let ways = round(at(test));
+    let ways = round(Label::at(test));
     let begin = body_begin.redirect(ways);
     let test_ways = Ways {
         holds: begin,

@@ -12,7 +12,7 @@ ghost use Rattle.c_lower_stmts.specs.Standing.{state};
 use crate::declaring::place_of_local;
 use crate::heads::{declared, init, once, return_at, step, tested, tested_for};
 use crate::laid::Laid;
-use crate::loops::{at, close, close_behind, open};
+use crate::loops::{close, close_behind, open};
 use crate::simples::place_of_simple;
 use crate::stmt_parts::choose;
 use c_lower_emit::drafts::Label;
@@ -24,22 +24,22 @@ use std::alloc::AllocError;
 /// A statement.
 #[cycle(stmts)]
 fn stmt<'a>(
-    c: &mut Context<'a>,
+    context: &mut Context<'a>,
     locals: u32,
     one: &'a Stmt,
     out: &mut Output<'a>,
 ) -> Result<Laid, AllocError>
-    ensures within { OnOk result (IsWithin c.old c.new) }
-    ensures laid { IfOk result (λ laid. EmitsStmt (stmt_tree one.now) c.old locals c.new laid out.old out.new) }
+    ensures within { OnOk result (IsWithin context.old context.new) }
+    ensures laid { IfOk result (λ laid. EmitsStmt (stmt_tree one.now) context.old locals context.new laid out.old out.new) }
 {
     match one {
-        Stmt::Block(inner) => block(c, locals, inner, out),
+        Stmt::Block(inner) => block(context, locals, inner, out),
         Stmt::Empty(_) => Ok(Laid {
             begin: Label::Next,
             locals,
         }),
-        Stmt::Local(one) => declared(c, locals, place_of_local(one), one, out),
-        Stmt::Simple(one) => once(c, locals, place_of_simple(one), one, out),
+        Stmt::Local(one) => declared(context, locals, place_of_local(one), one, out),
+        Stmt::Simple(one) => once(context, locals, place_of_simple(one), one, out),
         Stmt::If {
             test,
             body,
@@ -47,36 +47,36 @@ fn stmt<'a>(
             ..
         } => {
             let from = out.len();
-            tested(c, test, out)?;
+            tested(context, test, out)?;
             let past = out.len();
-            let first = nested(c, locals, body, out)?;
+            let first = nested(context, locals, body, out)?;
             match other {
                 None => {
                     choose(from, past, first.begin, Label::Next, out);
                     Ok(Laid {
-                        begin: at(from),
+                        begin: Label::at(from),
                         locals: first.locals,
                     })
                 }
                 Some(other) => {
-                    let second = nested(c, first.locals, other, out)?;
+                    let second = nested(context, first.locals, other, out)?;
                     choose(from, past, first.begin, second.begin, out);
                     Ok(Laid {
-                        begin: at(from),
+                        begin: Label::at(from),
                         locals: second.locals,
                     })
                 }
             }
         }
-        Stmt::While { test, body, .. } => while_loop(c, locals, body, test, out),
-        Stmt::DoWhile { body, test, .. } => do_loop(c, locals, body, test, out),
+        Stmt::While { test, body, .. } => while_loop(context, locals, body, test, out),
+        Stmt::DoWhile { body, test, .. } => do_loop(context, locals, body, test, out),
         Stmt::For {
             place,
             init,
             test,
             step,
             body,
-        } => for_loop(c, locals, body, *place, init, test, step, out),
+        } => for_loop(context, locals, body, *place, init, test, step, out),
         Stmt::Break(_) => Ok(Laid {
             begin: Label::Breaks,
             locals,
@@ -85,32 +85,33 @@ fn stmt<'a>(
             begin: Label::Continues,
             locals,
         }),
-        Stmt::Return(place, value) => return_at(c, locals, *place, value, out),
+        Stmt::Return(place, value) => return_at(context, locals, *place, value, out),
     }
 }
 
 /// A `while` (C11 6.8.5.1). `body` is before `test` among the parameters, since the calls end by its depth.
 #[cycle(stmts)]
 fn while_loop<'a>(
-    c: &mut Context<'a>,
+    context: &mut Context<'a>,
     locals: u32,
     body: &'a Box<Stmt>,
     test: &'a Expr,
     out: &mut Output<'a>,
 ) -> Result<Laid, AllocError>
-    ensures context { OnOk result (c.new ≡ c.old) }
+    ensures context { OnOk result (context.new ≡ context.old) }
     ensures laid { IfOk result (λ laid. (place : Place)
-        → EmitsStmt (tree.Stmt.While place (expr_tree test.now) (stmt_tree body.now.value)) c.old locals c.new laid out.old out.new) }
+        → EmitsStmt (tree.Stmt.While place (expr_tree test.now) (stmt_tree body.now.value))
+        context.old locals context.new laid out.old out.new) }
 {
-    let opened = open(c, out)?;
+    let opened = open(context, out)?;
     let head = opened.head;
-    tested(c, test, out)?;
+    tested(context, test, out)?;
     let from = out.len();
-    let laid = nested(c, locals, body, out)?;
+    let laid = nested(context, locals, body, out)?;
     let past = out.len();
     close(opened, from, past, laid.begin, Label::Next, out)?;
     Ok(Laid {
-        begin: at(head),
+        begin: Label::at(head),
         locals: laid.locals,
     })
 }
@@ -118,20 +119,21 @@ fn while_loop<'a>(
 /// A `do`, with the test behind its body (C11 6.8.5.2).
 #[cycle(stmts)]
 fn do_loop<'a>(
-    c: &mut Context<'a>,
+    context: &mut Context<'a>,
     locals: u32,
     body: &'a Box<Stmt>,
     test: &'a Expr,
     out: &mut Output<'a>,
 ) -> Result<Laid, AllocError>
-    ensures context { OnOk result (c.new ≡ c.old) }
+    ensures context { OnOk result (context.new ≡ context.old) }
     ensures laid { IfOk result (λ laid. (place : Place)
-        → EmitsStmt (tree.Stmt.DoWhile place (stmt_tree body.now.value) (expr_tree test.now)) c.old locals c.new laid out.old out.new) }
+        → EmitsStmt (tree.Stmt.DoWhile place (stmt_tree body.now.value) (expr_tree test.now))
+        context.old locals context.new laid out.old out.new) }
 {
-    let opened = open(c, out)?;
-    let laid = nested(c, locals, body, out)?;
+    let opened = open(context, out)?;
+    let laid = nested(context, locals, body, out)?;
     let from = out.len();
-    tested(c, test, out)?;
+    tested(context, test, out)?;
     let begin = close_behind(opened, from, laid.begin, out)?;
     Ok(Laid {
         begin,
@@ -142,7 +144,7 @@ fn do_loop<'a>(
 /// A `for` (C11 6.8.5.3), in a scope of its own.
 #[cycle(stmts)]
 fn for_loop<'a>(
-    c: &mut Context<'a>,
+    context: &mut Context<'a>,
     locals: u32,
     body: &'a Box<Stmt>,
     place: Place,
@@ -151,25 +153,25 @@ fn for_loop<'a>(
     last: &'a Option<Box<Simple>>,
     out: &mut Output<'a>,
 ) -> Result<Laid, AllocError>
-    ensures context { OnOk result (c.new ≡ c.old) }
+    ensures context { OnOk result (context.new ≡ context.old) }
     ensures laid { IfOk result (λ laid. EmitsStmt
         (tree.Stmt.For place (init_tree first.now) (option_map expr_tree test.now) (option_map for_step_tree last.now)
-        (stmt_tree body.now.value)) c.old locals c.new laid out.old out.new) }
+        (stmt_tree body.now.value)) context.old locals context.new laid out.old out.new) }
 {
-    let scope = c.enter();
+    let scope = context.enter();
     let start = out.len();
-    let begun = init(c, locals, place, first, out)?;
-    let opened = open(c, out)?;
+    let begun = init(context, locals, place, first, out)?;
+    let opened = open(context, out)?;
     let head = opened.head;
-    tested_for(c, place, test, out)?;
+    tested_for(context, place, test, out)?;
     let from = out.len();
-    let laid = nested(c, begun.locals, body, out)?;
+    let laid = nested(context, begun.locals, body, out)?;
     let past = out.len();
-    let stepped = step(c, laid.locals, last, out)?;
+    let stepped = step(context, laid.locals, last, out)?;
     close(opened, from, past, laid.begin, stepped.begin, out)?;
-    let label = at(head);
+    let label = Label::at(head);
     out.lead_next(start, head, label);
-    c.leave(scope);
+    context.leave(scope);
     Ok(Laid {
         begin: begun.begin.followed_by(label),
         locals: stepped.locals,
@@ -179,53 +181,53 @@ fn for_loop<'a>(
 /// A statement in a scope of its own.
 #[cycle(stmts)]
 fn nested<'a>(
-    c: &mut Context<'a>,
+    context: &mut Context<'a>,
     locals: u32,
     body: &'a Box<Stmt>,
     out: &mut Output<'a>,
 ) -> Result<Laid, AllocError>
-    ensures context { OnOk result (c.new ≡ c.old) }
+    ensures context { OnOk result (context.new ≡ context.old) }
     ensures laid { IfOk result (λ laid. StmtHasIntNumbers (stmt_tree body.now.value) → (line : ℕ)
-        → EmitsWithin (stmt (stmt_tree body.now.value) (inside (state (on_line c.old line) locals out.old)))
-        c.old locals laid out.old out.new) }
+        → EmitsWithin (stmt (stmt_tree body.now.value) (inside (state (on_line context.old line) locals out.old)))
+        context.old locals laid out.old out.new) }
 {
-    let scope = c.enter();
-    let laid = stmt(c, locals, body, out)?;
-    c.leave(scope);
+    let scope = context.enter();
+    let laid = stmt(context, locals, body, out)?;
+    context.leave(scope);
     Ok(laid)
 }
 
 /// The statements of a block, in a scope of its own.
 #[cycle(stmts)]
 fn block<'a>(
-    c: &mut Context<'a>,
+    context: &mut Context<'a>,
     locals: u32,
     body: &'a Block,
     out: &mut Output<'a>,
 ) -> Result<Laid, AllocError>
-    ensures context { OnOk result (c.new ≡ c.old) }
+    ensures context { OnOk result (context.new ≡ context.old) }
     ensures laid { IfOk result (λ laid. StmtsHaveIntNumbers (stmts_tree body.now.stmts.items) → (line : ℕ)
-        → EmitsWithin (stmts (stmts_tree body.now.stmts.items) (inside (state (on_line c.old line) locals out.old)))
-        c.old locals laid out.old out.new) }
+        → EmitsWithin (stmts (stmts_tree body.now.stmts.items) (inside (state (on_line context.old line) locals out.old)))
+        context.old locals laid out.old out.new) }
 {
-    let scope = c.enter();
-    let laid = stmts(c, locals, &body.stmts, out)?;
-    c.leave(scope);
+    let scope = context.enter();
+    let laid = stmts(context, locals, &body.stmts, out)?;
+    context.leave(scope);
     Ok(laid)
 }
 
 /// Statements, one behind another.
 #[cycle(stmts)]
 pub fn stmts<'a>(
-    c: &mut Context<'a>,
+    context: &mut Context<'a>,
     locals: u32,
     ones: &'a Vec<Stmt>,
     out: &mut Output<'a>,
 ) -> Result<Laid, AllocError>
-    ensures within { OnOk result (IsWithin c.old c.new) }
+    ensures within { OnOk result (IsWithin context.old context.new) }
     ensures laid { IfOk result (λ laid. StmtsHaveIntNumbers (stmts_tree ones.now.items) → (line : ℕ)
-        → EmitsLowered (stmts (stmts_tree ones.now.items) (state (on_line c.old line) locals out.old))
-        c.old locals c.new laid out.old out.new) }
+        → EmitsLowered (stmts (stmts_tree ones.now.items) (state (on_line context.old line) locals out.old))
+        context.old locals context.new laid out.old out.new) }
 {
     let start = out.len();
     let mut laid = Laid {
@@ -234,7 +236,7 @@ pub fn stmts<'a>(
     };
     for one in ones {
         let past = out.len();
-        let next = stmt(c, laid.locals, one, out)?;
+        let next = stmt(context, laid.locals, one, out)?;
         out.lead_next(start, past, next.begin);
         laid = Laid {
             begin: laid.begin.followed_by(next.begin),

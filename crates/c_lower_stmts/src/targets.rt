@@ -34,7 +34,7 @@ pub struct Pointer<'a> {
     pub field: &'a Ident,
 }
 
-/// What the expression is as a target.
+/// What the expression is as a target. One that is neither a variable nor a member, which typing refuses, counts as the variable in slot 0.
 pub fn target_of<'a>(site: &Site<'_, 'a>, left: &'a Expr) -> Target<'a>
     ensures { IsTarget site.now (expr_tree left.now) result }
 {

@@ -22,13 +22,13 @@ ghost use Rattle.c_types.specs.Names.{Lists};
 use crate::names::Names;
 use c_tree::places::place_of_specifier;
 use c_tree::{Head, Ident, Param, Params, TypeSpecifier};
+use c_types_names::codes::{CLASH, LEFT_OUT, SECOND};
 use c_types_names::declared::Procedure;
 use c_types_names::first_refusal::FirstRefusal;
 use c_types_names::kinds::may_agree;
 use c_types_names::name_set::NameSet;
 use c_types_names::objects::{
-    CLASH, LEFT_OUT, SECOND, is_alias, kind_of_result, may_be_object, may_be_result, param_kind,
-    specifier_refusals,
+    is_alias, kind_of_result, may_be_object, may_be_result, param_kind, specifier_refusals,
 };
 use c_types_names::tables::Tables;
 use std::alloc::{AllocError, Global};

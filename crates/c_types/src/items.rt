@@ -14,11 +14,11 @@ use crate::heads::procedure_refusals;
 use crate::structures::{alias_refusals, structure_refusals};
 use c_tree::places::place_of_specifier;
 use c_tree::{Block, FieldDecl, Head, Ident, Item, Param, Params};
+use c_types_names::codes::{LEFT_OUT, SECOND, UNDECLARED};
 use c_types_names::env::Env;
 use c_types_names::first_refusal::FirstRefusal;
-use c_types_names::objects::{
-    LEFT_OUT, SECOND, UNDECLARED, is_defined, kind_of_result, param_kind,
-};
+use c_types_names::objects::{is_defined, kind_of_result};
+use c_types_names::params::add_params;
 use c_types_names::tables::{Tables, tag_or};
 use c_types_stmts::finding::Finding;
 use c_types_stmts::stmts::stmts;
@@ -58,40 +58,6 @@ fn unnamed_refusals(params: &Params, first: &mut FirstRefusal)
         Params::Listed(param, others) => {
             unnamed_refusal(param, first);
             more_unnamed_refusals(others.as_slice(), first);
-        }
-    }
-}
-
-/// The variable of the parameter, if it has a name.
-fn add_param<'a>(env: &mut Env<'a>, param: &'a Param) -> Result<(), AllocError>
-    ensures { OnOk result (env.new ≡ behind_params env.old (param_tree param.now ∷ [])) }
-{
-    match &param.name {
-        None => Ok(()),
-        Some(name) => env.add(&name.text, param_kind(env.tables(), param)),
-    }
-}
-
-/// The variables of parameters.
-fn add_more_params<'a>(env: &mut Env<'a>, params: &'a [Param]) -> Result<(), AllocError>
-    ensures { OnOk result (env.new ≡ behind_params env.old (map param_tree params.now)) }
-{
-    for param in params {
-        add_param(env, param)?;
-    }
-    Ok(())
-}
-
-/// The variables of a procedure's parameters.
-fn add_params<'a>(env: &mut Env<'a>, params: &'a Params) -> Result<(), AllocError>
-    ensures { OnOk result (env.new ≡ behind_params env.old (rule.listed (params_tree params.now))) }
-{
-    match params {
-        Params::Empty => Ok(()),
-        Params::Void(_) => Ok(()),
-        Params::Listed(param, others) => {
-            add_param(env, param)?;
-            add_more_params(env, others.as_slice())
         }
     }
 }

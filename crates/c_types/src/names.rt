@@ -7,9 +7,9 @@ ghost use Rattle.c_types_names.specs.FirstRefusal.{with_refusals};
 ghost use Rattle.c_types.specs.Names.{named_seen};
 
 use c_tree::{FieldDecl, Ident, Param, Params};
+use c_types_names::codes::SECOND;
 use c_types_names::first_refusal::FirstRefusal;
 use c_types_names::name_set::NameSet;
-use c_types_names::objects::SECOND;
 use std::alloc::{AllocError, Global};
 use std::marker::Model;
 

@@ -25,7 +25,7 @@ use c_types_names::objects::{field_of, kind_of_result, pointer_of};
 use c_types_names::tables::Tables;
 
 /// The type of the variable of the name.
-fn kind_of_variable<'a>(env: &Env<'a>, name: &Name) -> Kind<'a>
+pub fn kind_of_variable<'a>(env: &Env<'a>, name: &Name) -> Kind<'a>
     ensures { kind_seen result ≡ kind_of_variable (variable env.now name.now) }
 {
     match env.variable(name) {
@@ -47,7 +47,7 @@ pub fn kind_of_call<'a>(tables: &Tables<'a>, name: &Name) -> Kind<'a>
 
 /// The type of a field of what a pointer points to.
 #[tactic(auto, unfolding(c_types_names::specs::Seen::field_seen))]
-pub fn kind_of_member<'a>(tables: &Tables<'a>, kind: Kind<'a>, field: &Ident) -> Kind<'a>
+pub(crate) fn kind_of_member<'a>(tables: &Tables<'a>, kind: Kind<'a>, field: &Ident) -> Kind<'a>
     ensures { kind_seen result ≡ kind_of_member tables.now (kind_seen kind.entry) (ident_tree field.now) }
 {
     match kind {
@@ -60,7 +60,7 @@ pub fn kind_of_member<'a>(tables: &Tables<'a>, kind: Kind<'a>, field: &Ident) ->
 }
 
 /// The type behind one `->` after another.
-pub fn kind_of_members<'a>(tables: &Tables<'a>, kind: Kind<'a>, fields: &[Ident]) -> Kind<'a>
+fn kind_of_members<'a>(tables: &Tables<'a>, kind: Kind<'a>, fields: &[Ident]) -> Kind<'a>
     ensures { kind_seen result ≡ kind_of_members tables.now (kind_seen kind.entry) (map ident_tree fields.now) }
 {
     let mut current = kind;
@@ -91,7 +91,7 @@ fn int_of_two<'a>(left: Kind<'a>, right: Kind<'a>) -> Kind<'a>
 }
 
 /// What an operator gives.
-pub fn kind_of_binary<'a>(op: BinaryOp, left: Kind<'a>, right: Kind<'a>) -> Kind<'a>
+pub(crate) fn kind_of_binary<'a>(op: BinaryOp, left: Kind<'a>, right: Kind<'a>) -> Kind<'a>
     ensures { kind_seen result ≡ kind_of_binary (binary_tree op) (kind_seen left.entry) (kind_seen right.entry) }
 {
     match op {

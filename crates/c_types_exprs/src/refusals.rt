@@ -32,14 +32,12 @@ use crate::exprs::{is_null, kind_of, kind_of_binary, kind_of_prefix};
 use crate::value_types::{Given, fits, given_as, may_stand_behind, may_stand_by};
 use c_tree::places::place_of_expr;
 use c_tree::{Expr, Ident, Link, Param, Params, Place, TypeSpecifier};
+use c_types_names::codes::{ARGUMENTS, CLASH, LEFT_OUT, UNDECLARED};
 use c_types_names::env::Env;
 use c_types_names::first_refusal::FirstRefusal;
 use c_types_names::hiding::specifier_refusals_in;
 use c_types_names::kinds::{CType, Kind};
-use c_types_names::objects::{
-    ARGUMENTS, CLASH, LEFT_OUT, UNDECLARED, field_of, is_defined, kind_of_result, names_structure,
-    param_kind,
-};
+use c_types_names::objects::{field_of, is_defined, kind_of_result, names_structure, param_kind};
 use c_types_names::tables::Tables;
 
 /// The type of a field of what a pointer points to; refuses one that the structure lacks, and a field of what is no pointer.
@@ -107,7 +105,7 @@ fn cast_refusals(env: &Env, place: Place, as_type: &Option<TypeSpecifier>, first
 
 /// Refuses a `malloc` of what is no structure.
 #[tactic(auto, using(c_types_names::proofs::FirstRefusals::more_refusals))]
-pub fn malloc_refusals(
+fn malloc_refusals(
     env: &Env,
     place: Place,
     as_type: &Option<TypeSpecifier>,
@@ -219,13 +217,13 @@ fn variable_refusals<'a>(env: &Env<'a>, name: &Ident, first: &mut FirstRefusal) 
 /// The type of an expression, and what is refused in it where no call and no `malloc` may stand.
 #[cycle(refusals)]
 #[tactic(auto, using(c_types_names::proofs::FirstRefusals::more_refusals))]
-fn kind_and_refusals<'a>(env: &Env<'a>, expr: &'a Expr, first: &mut FirstRefusal) -> Kind<'a>
+pub fn expr_refusals<'a>(env: &Env<'a>, expr: &'a Expr, first: &mut FirstRefusal) -> Kind<'a>
     ensures refusals { first.new ≡ with_refusals first.old (expr_refusals env.now (expr_tree expr.now)) }
     ensures kind { kind_seen result ≡ kind_of env.now (expr_tree expr.now) }
 {
     match expr {
         Expr::Chain(operand, others) => {
-            let kind = kind_and_refusals(env, operand, first);
+            let kind = expr_refusals(env, operand, first);
             let left = Operand {
                 kind,
                 given: given_as(env, operand, kind),
@@ -234,7 +232,7 @@ fn kind_and_refusals<'a>(env: &Env<'a>, expr: &'a Expr, first: &mut FirstRefusal
             links_refusals(env, place_of_expr(operand), left, others, first)
         }
         Expr::Prefix(place, op, inner) => {
-            let kind = kind_and_refusals(env, inner, first);
+            let kind = expr_refusals(env, inner, first);
             first.unless(
                 may_stand_behind(*op, given_as(env, inner, kind)),
                 *place,
@@ -243,7 +241,7 @@ fn kind_and_refusals<'a>(env: &Env<'a>, expr: &'a Expr, first: &mut FirstRefusal
             kind_of_prefix(*op, kind)
         }
         Expr::Members(base, field, others) => {
-            let kind = kind_and_refusals(env, base, first);
+            let kind = expr_refusals(env, base, first);
             let place = place_of_expr(base);
             let kind = member_refusals(env.tables(), place, kind, field, first);
             members_refusals(env.tables(), place, kind, others.as_slice(), first)
@@ -251,7 +249,7 @@ fn kind_and_refusals<'a>(env: &Env<'a>, expr: &'a Expr, first: &mut FirstRefusal
         Expr::Variable(name) => variable_refusals(env, name, first),
         Expr::Number(_, _) => Some(CType::Int),
         Expr::Null(_) => Some(CType::Int),
-        Expr::Paren(_, inner) => kind_and_refusals(env, inner, first),
+        Expr::Paren(_, inner) => expr_refusals(env, inner, first),
         Expr::Call(callee, args) => {
             first.unless(false, callee.place, LEFT_OUT);
             args_refusals(env, args, first);
@@ -292,7 +290,7 @@ fn links_refusals<'a>(
     let mut given = left.given;
     let mut null = left.null;
     for link in links {
-        let right = kind_and_refusals(env, &link.operand, first);
+        let right = expr_refusals(env, &link.operand, first);
         let fit = may_stand_by(
             link.op,
             given,
@@ -315,34 +313,30 @@ fn args_refusals<'a>(env: &Env<'a>, args: &'a Vec<Expr>, first: &mut FirstRefusa
     ensures { first.new ≡ with_refusals first.old (args_refusals env.now (args_tree args.now.items)) }
 {
     for arg in args {
-        kind_and_refusals(env, arg, first);
+        expr_refusals(env, arg, first);
     }
 }
 
-/// What is refused in an expression where no call and no `malloc` may stand.
-pub fn expr_refusals<'a>(env: &Env<'a>, expr: &'a Expr, first: &mut FirstRefusal)
-    ensures { first.new ≡ with_refusals first.old (expr_refusals env.now (expr_tree expr.now)) }
-{
-    kind_and_refusals(env, expr, first);
-}
-
-/// What is refused in a call where one may stand.
+/// The type of a call, and what is refused in it where one may stand.
 #[tactic(auto, using(c_types_names::proofs::FirstRefusals::more_refusals))]
 pub fn call_refusals<'a>(
     env: &Env<'a>,
     callee: &Ident,
     args: &'a Vec<Expr>,
     first: &mut FirstRefusal,
-)
-    ensures { first.new ≡ with_refusals first.old (call_refusals env.now (ident_tree callee.now) (args_tree args.now.items)) }
+) -> Kind<'a>
+    ensures refusals { first.new ≡ with_refusals first.old (call_refusals env.now (ident_tree callee.now) (args_tree args.now.items)) }
+    ensures kind { kind_seen result
+        ≡ kind_of_call env.now.tables (procedure_in env.now.tables.procedures callee.now.text) }
 {
     args_refusals(env, args, first);
-    callee_refusals(env, callee, args.as_slice(), first);
+    callee_refusals(env, callee, args.as_slice(), first)
 }
 
-/// What is refused in an expression that may be a call or `malloc` as a whole.
-pub fn whole_refusals<'a>(env: &Env<'a>, expr: &'a Expr, first: &mut FirstRefusal)
-    ensures { first.new ≡ with_refusals first.old (whole_refusals env.now (expr_tree expr.now)) }
+/// The type of an expression that may be a call or `malloc` as a whole, and what is refused in it.
+pub fn whole_refusals<'a>(env: &Env<'a>, expr: &'a Expr, first: &mut FirstRefusal) -> Kind<'a>
+    ensures refusals { first.new ≡ with_refusals first.old (whole_refusals env.now (expr_tree expr.now)) }
+    ensures kind { kind_seen result ≡ kind_of env.now (expr_tree expr.now) }
 {
     match expr {
         Expr::Chain(_, _) => expr_refusals(env, expr, first),
@@ -355,6 +349,7 @@ pub fn whole_refusals<'a>(env: &Env<'a>, expr: &'a Expr, first: &mut FirstRefusa
         Expr::Call(callee, args) => call_refusals(env, callee, args, first),
         Expr::Malloc(place, types) => {
             malloc_refusals(env, *place, &types.cast, &types.target, first);
+            kind_of(env, expr)
         }
     }
 }

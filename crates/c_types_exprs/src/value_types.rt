@@ -43,7 +43,7 @@ fn given_by_malloc<'a>(env: &Env<'a>, as_type: &'a Option<TypeSpecifier>) -> Giv
 }
 
 /// What the expression, which has the type, gives.
-pub(crate) fn given_as<'a>(env: &Env<'a>, expr: &'a Expr, kind: Kind<'a>) -> Given<'a>
+pub fn given_as<'a>(env: &Env<'a>, expr: &'a Expr, kind: Kind<'a>) -> Given<'a>
     requires is_its_kind { kind_seen kind ≡ kind_of env.now (expr_tree expr.now) }
     ensures { given_seen result ≡ given_by env.now (expr_tree expr.now) }
 {
@@ -58,13 +58,6 @@ pub(crate) fn given_as<'a>(env: &Env<'a>, expr: &'a Expr, kind: Kind<'a>) -> Giv
         Expr::Call(_, _) => Given::OfKind(kind),
         Expr::Malloc(_, types) => given_by_malloc(env, &types.cast),
     }
-}
-
-/// What the expression gives.
-pub fn given_by<'a>(env: &Env<'a>, expr: &'a Expr) -> Given<'a>
-    ensures { given_seen result ≡ given_by env.now (expr_tree expr.now) }
-{
-    given_as(env, expr, kind_of(env, expr))
 }
 
 /// Whether the type is a pointer, or not known.
@@ -90,11 +83,19 @@ fn may_take(wanted: Kind, given: Given, null: bool) -> bool
     }
 }
 
-/// Whether the expression may be assigned to an object of the type.
-pub fn fits<'a>(env: &Env<'a>, wanted: Kind<'a>, value: &'a Expr) -> bool
+/// Whether the expression, which has the type, may be assigned to an object of the wanted type.
+pub fn fits_as<'a>(env: &Env<'a>, wanted: Kind<'a>, value: &'a Expr, kind: Kind<'a>) -> bool
+    requires is_its_kind { kind_seen kind ≡ kind_of env.now (expr_tree value.now) }
     ensures { result ≡ fits env.now (kind_seen wanted.entry) (expr_tree value.now) }
 {
-    may_take(wanted, given_by(env, value), is_null(value))
+    may_take(wanted, given_as(env, value, kind), is_null(value))
+}
+
+/// Whether the expression may be assigned to an object of the wanted type.
+pub(crate) fn fits<'a>(env: &Env<'a>, wanted: Kind<'a>, value: &'a Expr) -> bool
+    ensures { result ≡ fits env.now (kind_seen wanted.entry) (expr_tree value.now) }
+{
+    fits_as(env, wanted, value, kind_of(env, value))
 }
 
 /// Whether what is given may be an int.
@@ -141,7 +142,7 @@ fn give_equals(left: Given, left_null: bool, right: Given, right_null: bool) -> 
 }
 
 /// Whether the two operands may stand by the operator.
-pub fn may_stand_by(
+pub(crate) fn may_stand_by(
     op: BinaryOp,
     left: Given,
     left_null: bool,
@@ -160,7 +161,7 @@ pub fn may_stand_by(
 }
 
 /// Whether the operand may stand behind the operator.
-pub fn may_stand_behind(op: PrefixOp, given: Given) -> bool
+pub(crate) fn may_stand_behind(op: PrefixOp, given: Given) -> bool
     ensures { result ≡ may_stand_behind (prefix_tree op) (given_seen given.entry) }
 {
     match op {

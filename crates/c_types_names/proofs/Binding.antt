@@ -13,7 +13,7 @@ use Rattle.c_types_rules.specs.Scopes as scopes
 use Rattle.c_types_names.specs.declared.variables.Variable.{Variable}
 use Rattle.c_types_names.specs.declared.variables.Binding.{Binding}
 use Rattle.c_types_names.specs.declared.variables.Declared.{Declared}
-use Rattle.c_types_names.specs.FirstOfName.{or_last}
+use Rattle.c_types_names.specs.NameMap.{or_last}
 use Rattle.c_types_names.specs.Seen.{variable_seen, stacked}
 use Rattle.c_types_names.specs.Bindings.{variable_of, binding_in}
 

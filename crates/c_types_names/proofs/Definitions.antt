@@ -5,7 +5,7 @@ use Rattle.c_types_rules.specs.Tables.{Procedure, procedure_in}
 use Rattle.c_types_rules.specs.Items.{same_bool, definitions}
 use Rattle.c_types_names.specs.declared.declared.Procedure as declared
 use Rattle.c_types_names.specs.Seen.{procedure_seen}
-use Rattle.c_types_names.specs.FirstOfName.{or_first}
+use Rattle.c_types_names.specs.NameMap.{or_first}
 use Rattle.c_types_names.proofs.Noting.{one_more}
 
 by_tests : (defined : Bool) (first : Procedure) (others : List Procedure) (n : List ℕ)

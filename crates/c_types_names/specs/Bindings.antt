@@ -2,7 +2,7 @@
 use Rattle.std.specs.Prelude.{◌≡◌, ℕ, List, [], ◌∷◌, length, reverse, Option, None, Some, if◌then◌else◌}
 use Rattle.std.specs.Str.{bytes_eq}
 use Rattle.std.specs.Option.{option_flatten}
-use Rattle.c_types_names.specs.FirstOfName.{Firsts, first_of}
+use Rattle.c_types_names.specs.NameMap.{NameMap, named}
 use Rattle.c_types_names.specs.declared.variables.Variable.{Variable}
 use Rattle.c_types_names.specs.declared.variables.Binding.{Binding}
 use Rattle.c_types_names.specs.declared.variables.Declared.{Declared}
@@ -22,10 +22,10 @@ AreLinked [] = Unit
 AreLinked (last ∷ before) = (last.hidden ≡ binding_in before last.variable.name.now) × AreLinked before
 
 -- what the map says of the name
-abbrev pub bound_of : Firsts (Option Binding) → List ℕ → Option Binding
-bound_of bindings n = option_flatten (first_of bindings n)
+abbrev pub bound_of : NameMap (Option Binding) → List ℕ → Option Binding
+bound_of bindings n = option_flatten (named bindings n)
 
 -- the map binds each name to the innermost variable of that name
-pub record IsBound (all : List Declared) (bindings : Firsts (Option Binding)) : Type 0 where
+pub record IsBound (all : List Declared) (bindings : NameMap (Option Binding)) : Type 0 where
   pub linked : AreLinked (reverse all)
   pub found : (n : List ℕ) → bound_of bindings n ≡ binding_in (reverse all) n

@@ -1,5 +1,5 @@
 pub mod Seen
-pub mod FirstOfName
+pub mod NameMap
 pub mod Bindings
 pub mod StructFields
 pub mod NameTables

@@ -30,15 +30,6 @@ declared_fields (line ∷ lines) = declared_in_line line ++ declared_fields line
 abbrev pub fields_of : Structure → List DeclaredTree
 fields_of one = declared_fields one.lines
 
--- the first field of the name
-abbrev pub field_named : List DeclaredTree → List ℕ → Option DeclaredTree
-field_named [] n = None
-field_named (first ∷ others) n = if bytes_eq first.declarator.name.text n then Some first else field_named others n
-
-abbrev pub field_in_table : Option (List DeclaredTree) → List ℕ → Option DeclaredTree
-field_in_table None n = None
-field_in_table (Some fields) n = field_named fields n
-
 -- the place of the first field of the name, if there is one
 abbrev pub first_place : List DeclaredTree → List ℕ → Option ℕ
 first_place [] n = None
@@ -48,10 +39,6 @@ first_place (first ∷ others) n = if bytes_eq first.declarator.name.text n then
 abbrev pub place_named : List DeclaredTree → List ℕ → ℕ
 place_named [] n = 0
 place_named (first ∷ others) n = if bytes_eq first.declarator.name.text n then 0 else suc (place_named others n)
-
-abbrev pub place_in_table : Option (List DeclaredTree) → List ℕ → ℕ
-place_in_table None n = 0
-place_in_table (Some fields) n = place_named fields n
 
 -- the field with its type
 abbrev pub kind_of_declared : Tables → DeclaredTree → FieldKind

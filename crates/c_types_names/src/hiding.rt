@@ -5,10 +5,11 @@ ghost use Rattle.c_tree.specs.Syntax.{specifier_tree};
 ghost use Rattle.c_types_names.specs.Seen.{kind_seen};
 ghost use Rattle.c_types_names.specs.FirstRefusal.{with_refusals};
 
+use crate::codes::LEFT_OUT;
 use crate::env::Env;
 use crate::first_refusal::FirstRefusal;
 use crate::kinds::Kind;
-use crate::objects::{LEFT_OUT, is_alias, pointer_of, specifier_refusals};
+use crate::objects::{is_alias, pointer_of, specifier_refusals};
 use c_tree::places::place_of_specifier;
 use c_tree::{Name, TypeSpecifier};
 

@@ -3,7 +3,7 @@ ghost use Rattle.std.specs.Prelude.{◌≡◌, ◌||◌, ℕ, List, false, OnOk}
 ghost use Rattle.std.specs.Str.{bytes_eq};
 ghost use Rattle.c_types_names.specs.NameSets.{has};
 
-use crate::first_of_name::{Firsts, first_of, set};
+use crate::name_map::{NameMap, named, set};
 use c_tree::Name;
 use std::alloc::{AllocError, Global};
 use std::collections::BTreeMap;
@@ -11,7 +11,7 @@ use std::collections::BTreeMap;
 /// A set of names.
 #[derive(Drop)]
 pub struct NameSet<'a> {
-    names: Firsts<'a, bool>,
+    names: NameMap<'a, bool>,
 }
 
 impl<'a> NameSet<'a> {
@@ -28,7 +28,7 @@ impl<'a> NameSet<'a> {
     pub fn contains(&self, name: &Name) -> bool
         ensures { result ≡ has self.now name.now }
     {
-        first_of(&self.names, name).is_some()
+        named(&self.names, name).is_some()
     }
 
     /// With one more name.

@@ -3,13 +3,13 @@ ghost use Rattle.std.specs.Prelude.{◌≡◌, Bool, [], ◌∷◌, ◌++◌, ma
 ghost use Rattle.std.specs.Option.{option_copied};
 ghost use Rattle.c_types_rules.specs.Tables.{structure_in, alias_in, procedure_in};
 ghost use Rattle.c_types_rules.specs.Items.{definitions, same_bool};
-ghost use Rattle.c_types_names.specs.FirstOfName.{or_first};
+ghost use Rattle.c_types_names.specs.NameMap.{or_first};
 ghost use Rattle.c_types_names.specs.NameTables.{first_procedure, procedure_that};
 ghost use Rattle.c_types_names.specs.Seen.{structure_seen, alias_seen, procedure_seen};
 ghost use Rattle.c_types_names.specs.StructFields.{fields_of};
 
 use crate::declared::{Alias, Procedure, Structure};
-use crate::first_of_name::{Firsts, add_first, first_of, set};
+use crate::name_map::{NameMap, add_first, named, set};
 use crate::struct_fields::StructFields;
 use c_tree::Name;
 use std::alloc::{AllocError, Global};
@@ -27,13 +27,13 @@ struct FirstStructure<'a> {
 #[derive(Drop)]
 pub struct Structures<'a> {
     all: Vec<Structure<'a>>,
-    first: Firsts<'a, FirstStructure<'a>>,
+    first: NameMap<'a, FirstStructure<'a>>,
 }
 
 impl<'a> Model for Structures<'a> {
     ghost use Rattle.std.specs.Prelude.{◌≡◌, ℕ, List, map, option_map};
     ghost use Rattle.c_types_rules.specs.Tables.{Structure, structure_in};
-    ghost use Rattle.c_types_names.specs.FirstOfName.{first_of};
+    ghost use Rattle.c_types_names.specs.NameMap.{named};
     ghost use Rattle.c_types_names.specs.NameTables.{the_structure, its_fields};
     ghost use Rattle.c_types_names.specs.Seen.{structure_seen};
     ghost use Rattle.c_types_names.specs.StructFields.{fields_of};
@@ -43,8 +43,8 @@ impl<'a> Model for Structures<'a> {
     ghost view = { λ s. map structure_seen s.all.items };
 
     ghost invariant = { λ s. ((n : List ℕ)
-        → option_map structure_seen (option_map the_structure (first_of s.first n)) ≡ structure_in (map structure_seen s.all.items) n)
-        × ((n : List ℕ) → option_map its_fields (first_of s.first n)
+        → option_map structure_seen (option_map the_structure (named s.first n)) ≡ structure_in (map structure_seen s.all.items) n)
+        × ((n : List ℕ) → option_map its_fields (named s.first n)
         ≡ option_map fields_of (structure_in (map structure_seen s.all.items) n)) };
 }
 
@@ -108,20 +108,20 @@ impl<'a> Structures<'a> {
 #[derive(Drop)]
 pub struct Aliases<'a> {
     all: Vec<Alias<'a>>,
-    first: Firsts<'a, Alias<'a>>,
+    first: NameMap<'a, Alias<'a>>,
 }
 
 impl<'a> Model for Aliases<'a> {
     ghost use Rattle.std.specs.Prelude.{◌≡◌, ℕ, List, map, option_map};
     ghost use Rattle.c_types_rules.specs.Tables.{Alias, alias_in};
-    ghost use Rattle.c_types_names.specs.FirstOfName.{first_of};
+    ghost use Rattle.c_types_names.specs.NameMap.{named};
     ghost use Rattle.c_types_names.specs.Seen.{alias_seen};
 
     ghost Value = { List Alias };
 
     ghost view = { λ s. map alias_seen s.all.items };
 
-    ghost invariant = { λ s. (n : List ℕ) → option_map alias_seen (first_of s.first n) ≡ alias_in (map alias_seen s.all.items) n };
+    ghost invariant = { λ s. (n : List ℕ) → option_map alias_seen (named s.first n) ≡ alias_in (map alias_seen s.all.items) n };
 }
 
 impl<'a> Aliases<'a> {
@@ -139,7 +139,7 @@ impl<'a> Aliases<'a> {
     pub fn first(&self, name: &Name) -> Option<Alias<'a>>
         ensures { option_map alias_seen result ≡ alias_in self.now name.now }
     {
-        first_of(&self.first, name)
+        named(&self.first, name)
     }
 
     /// With one more name.
@@ -161,7 +161,7 @@ struct FirstProcedures<'a> {
     declared: Option<Procedure<'a>>,
 }
 
-/// The first definition, or the first declaration that is none.
+/// The first definition if `defines`, else the first declaration that is no definition.
 fn procedure_that<'a>(defines: bool, found: Option<FirstProcedures<'a>>) -> Option<Procedure<'a>>
     ensures { result ≡ procedure_that defines found.entry }
 {
@@ -209,14 +209,14 @@ fn with_procedure<'a>(found: Option<FirstProcedures<'a>>, one: Procedure<'a>) ->
 #[derive(Drop)]
 pub struct Procedures<'a> {
     all: Vec<Procedure<'a>>,
-    first: Firsts<'a, FirstProcedures<'a>>,
+    first: NameMap<'a, FirstProcedures<'a>>,
 }
 
 impl<'a> Model for Procedures<'a> {
     ghost use Rattle.std.specs.Prelude.{◌≡◌, ℕ, Bool, List, map, option_map};
     ghost use Rattle.c_types_rules.specs.Tables.{Procedure, procedure_in};
     ghost use Rattle.c_types_rules.specs.Items.{definitions};
-    ghost use Rattle.c_types_names.specs.FirstOfName.{first_of};
+    ghost use Rattle.c_types_names.specs.NameMap.{named};
     ghost use Rattle.c_types_names.specs.NameTables.{first_procedure, procedure_that};
     ghost use Rattle.c_types_names.specs.Seen.{procedure_seen};
 
@@ -225,8 +225,8 @@ impl<'a> Model for Procedures<'a> {
     ghost view = { λ s. map procedure_seen s.all.items };
 
     ghost invariant = { λ s. ((n : List ℕ)
-        → option_map procedure_seen (option_map first_procedure (first_of s.first n)) ≡ procedure_in (map procedure_seen s.all.items) n)
-        × ((defines : Bool) (n : List ℕ) → option_map procedure_seen (procedure_that defines (first_of s.first n))
+        → option_map procedure_seen (option_map first_procedure (named s.first n)) ≡ procedure_in (map procedure_seen s.all.items) n)
+        × ((defines : Bool) (n : List ℕ) → option_map procedure_seen (procedure_that defines (named s.first n))
         ≡ procedure_in (definitions defines (map procedure_seen s.all.items)) n) };
 }
 
@@ -245,17 +245,17 @@ impl<'a> Procedures<'a> {
     pub fn first(&self, name: &Name) -> Option<Procedure<'a>>
         ensures { option_map procedure_seen result ≡ procedure_in self.now name.now }
     {
-        match first_of(&self.first, name) {
+        match named(&self.first, name) {
             None => None,
             Some(found) => Some(found.first),
         }
     }
 
-    /// The first definition of the procedure, or its first declaration that is none.
+    /// The first definition of the procedure if `defines`, else its first declaration that is no definition.
     pub fn definition(&self, name: &Name, defines: bool) -> Option<Procedure<'a>>
         ensures { option_map procedure_seen result ≡ procedure_in (definitions defines self.now) name.now }
     {
-        procedure_that(defines, first_of(&self.first, name))
+        procedure_that(defines, named(&self.first, name))
     }
 
     /// With one more procedure.
@@ -264,7 +264,7 @@ impl<'a> Procedures<'a> {
     {
         self.all.reserve(1)?;
         let name = &one.head.declarator.name.text;
-        let found = with_procedure(first_of(&self.first, name), one);
+        let found = with_procedure(named(&self.first, name), one);
         set(&mut self.first, name, found)?;
         self.all.push(one).unwrap();
         Ok(())

@@ -1,5 +1,5 @@
 //! The types of objects: variables, parameters, fields and results.
-ghost use Rattle.std.specs.Prelude.{◌≡◌, option_map};
+ghost use Rattle.std.specs.Prelude.{◌≡◌, option_map, slice_get};
 ghost use Rattle.c_types_rules.specs.Tables.{
   pointer_to,
   pointer_of,
@@ -21,31 +21,14 @@ ghost use Rattle.c_tree.specs.Syntax.{specifier_tree, declarator_tree, param_tre
 ghost use Rattle.c_types_names.specs.Seen.{kind_seen, field_seen};
 ghost use Rattle.c_types_names.specs.FirstRefusal.{with_refusals};
 ghost use Rattle.c_types_names.specs.Specifiers.{is_int, is_void};
-ghost use Rattle.c_types_names.specs.StructFields.{field_named, kind_of_declared};
+ghost use Rattle.c_types_names.specs.StructFields.{kind_of_declared};
 
+use crate::codes::UNDECLARED;
 use crate::first_refusal::FirstRefusal;
 use crate::kinds::{CType, Kind};
 use crate::struct_fields::StructFields;
 use crate::tables::Tables;
 use c_tree::{Declarator, Head, Ident, Name, Param, TypeSpecifier};
-
-/// A name that is not declared.
-pub const UNDECLARED: u16 = 121;
-
-/// Types that clash.
-pub const CLASH: u16 = 122;
-
-/// A second definition.
-pub const SECOND: u16 = 123;
-
-/// A wrong number of arguments.
-pub const ARGUMENTS: u16 = 124;
-
-/// A structure that is repeated and differs.
-pub const DIFFERS: u16 = 125;
-
-/// A construct that the subset leaves out.
-pub const LEFT_OUT: u16 = 126;
 
 /// Whether the tag is that of a structure that is defined.
 pub fn is_defined(tables: &Tables, tag: &Name) -> bool
@@ -166,7 +149,7 @@ pub fn may_be_object(specifier: &TypeSpecifier, stars: usize) -> bool
 
 /// The type that a specifier and stars give to a result.
 #[tactic(auto, using(crate::proofs::Stars::stars))]
-pub fn result_kind<'a>(tables: &Tables<'a>, specifier: &'a TypeSpecifier, stars: usize) -> Kind<'a>
+fn result_kind<'a>(tables: &Tables<'a>, specifier: &'a TypeSpecifier, stars: usize) -> Kind<'a>
     ensures { kind_seen result ≡ result_kind tables.now (specifier_tree specifier.now) stars }
 {
     if stars == 0 && is_void(specifier) {
@@ -222,25 +205,15 @@ pub fn field_kind<'a>(
     }
 }
 
-/// The field of the structure, if it has one of this name.
-pub fn field_of<'a>(tables: &Tables<'a>, tag: &Name, name: &Name) -> Option<FieldKind<'a>>
-    ensures { option_map field_seen result ≡ field_of tables.now tag.now name.now }
-{
-    match tables.field(tag, name) {
-        None => None,
-        Some(field) => Some(field_kind(tables, field.specifier, field.declarator)),
-    }
-}
-
-/// The field of the name, if there is one among these.
-fn field_among<'a>(
+/// The field at the place, with its type, if there are so many.
+fn field_at<'a>(
     tables: &Tables<'a>,
     fields: &StructFields<'a>,
-    name: &Name,
+    place: usize,
 ) -> Option<FieldKind<'a>>
-    ensures { option_map field_seen result ≡ option_map (kind_of_declared tables.now) (field_named fields.now name.now) }
+    ensures { option_map field_seen result ≡ option_map (kind_of_declared tables.now) (slice_get fields.now place) }
 {
-    match fields.first(name) {
+    match fields.at(place) {
         None => None,
         Some(field) => Some(field_kind(tables, field.specifier, field.declarator)),
     }
@@ -253,7 +226,7 @@ pub struct PlacedField<'a> {
     pub field: Option<FieldKind<'a>>,
 }
 
-/// The field of the name, and its place, or how many fields the structure has. The structure is looked up once for both.
+/// The field of the name, and its place, or how many fields the structure has; 0 where there is none of the tag.
 pub fn placed_field<'a>(tables: &Tables<'a>, tag: &Name, name: &Name) -> PlacedField<'a>
     ensures place { result.place ≡ field_place tables.now tag.now name.now }
     ensures field { option_map field_seen result.field ≡ field_of tables.now tag.now name.now }
@@ -263,9 +236,17 @@ pub fn placed_field<'a>(tables: &Tables<'a>, tag: &Name, name: &Name) -> PlacedF
             place: 0,
             field: None,
         },
-        Some(fields) => PlacedField {
-            place: fields.place(name),
-            field: field_among(tables, fields, name),
-        },
+        Some(fields) => {
+            let place = fields.place(name);
+            let field = field_at(tables, fields, place);
+            PlacedField { place, field }
+        }
     }
+}
+
+/// The field of the structure, if it has one of this name.
+pub fn field_of<'a>(tables: &Tables<'a>, tag: &Name, name: &Name) -> Option<FieldKind<'a>>
+    ensures { option_map field_seen result ≡ field_of tables.now tag.now name.now }
+{
+    placed_field(tables, tag, name).field
 }

@@ -1,16 +1,15 @@
 //! The fields of structures, in the order of the text, and by their names.
-ghost use Rattle.std.specs.Prelude.{◌≡◌, [], ◌∷◌, ◌++◌, map, option_map, OnOk};
+ghost use Rattle.std.specs.Prelude.{◌≡◌, [], ◌∷◌, ◌++◌, map, option_map, slice_get, OnOk};
 ghost use Rattle.c_tree.specs.Syntax.{specifier_tree, declarator_tree, fields_tree};
 ghost use Rattle.c_types_names.specs.StructFields.{
   declared_seen,
   declared_by_one,
   declared_in_line,
   declared_fields,
-  field_named,
   place_named,
 };
 
-use crate::first_of_name::{Firsts, add_first, first_of};
+use crate::name_map::{NameMap, add_first, named};
 use c_tree::{Declarator, FieldDecl, Name, TypeSpecifier};
 use std::alloc::{AllocError, Global};
 use std::collections::BTreeMap;
@@ -26,19 +25,19 @@ pub struct DeclaredField<'a> {
 /// The fields of a structure, and the place of the first one of each name.
 pub struct StructFields<'a> {
     all: Vec<DeclaredField<'a>>,
-    places: Firsts<'a, usize>,
+    places: NameMap<'a, usize>,
 }
 
 impl<'a> Model for StructFields<'a> {
     ghost use Rattle.std.specs.Prelude.{◌≡◌, ℕ, List, map};
-    ghost use Rattle.c_types_names.specs.FirstOfName.{first_of};
+    ghost use Rattle.c_types_names.specs.NameMap.{named};
     ghost use Rattle.c_types_names.specs.StructFields.{DeclaredTree, declared_seen, first_place};
 
     ghost Value = { List DeclaredTree };
 
     ghost view = { λ f. map declared_seen f.all.items };
 
-    ghost invariant = { λ f. (n : List ℕ) → first_of f.places n ≡ first_place (map declared_seen f.all.items) n };
+    ghost invariant = { λ f. (n : List ℕ) → named f.places n ≡ first_place (map declared_seen f.all.items) n };
 }
 
 // Written out, so that callers' proofs take the end of the fields as one call.
@@ -69,21 +68,18 @@ impl<'a> StructFields<'a> {
         self.all.as_slice()
     }
 
-    /// The first field of the name.
-    pub fn first(&self, name: &Name) -> Option<DeclaredField<'a>>
-        ensures { option_map declared_seen result ≡ field_named self.now name.now }
+    /// The field at the place, if there are so many.
+    pub fn at(&self, place: usize) -> Option<DeclaredField<'a>>
+        ensures { option_map declared_seen result ≡ slice_get self.now place }
     {
-        match first_of(&self.places, name) {
-            None => None,
-            Some(place) => self.all.as_slice().get(place).copied(),
-        }
+        self.all.as_slice().get(place).copied()
     }
 
     /// The place of the first field of the name, or how many fields there are. Among n fields it takes O(log n) comparisons of names.
     pub fn place(&self, name: &Name) -> usize
         ensures { result ≡ place_named self.now name.now }
     {
-        match first_of(&self.places, name) {
+        match named(&self.places, name) {
             None => self.all.len(),
             Some(place) => place,
         }

@@ -3,7 +3,6 @@ ghost use Rattle.std.specs.Prelude.{◌≡◌, [], ◌∷◌, option_map, OnOk, 
 ghost use Rattle.std.specs.Option.{option_copied};
 ghost use Rattle.c_types_rules.specs.Tables.{
   no_tables,
-  field_place,
   structure_in,
   alias_in,
   procedure_in,
@@ -15,11 +14,11 @@ ghost use Rattle.c_types_rules.specs.Tables.{
 ghost use Rattle.c_types_rules.specs.Items.{definitions};
 ghost use Rattle.c_tree.specs.Syntax.{item_tree, ident_tree, fields_tree};
 ghost use Rattle.c_types_names.specs.Seen.{structure_seen, alias_seen, procedure_seen};
-ghost use Rattle.c_types_names.specs.StructFields.{declared_seen, fields_of, field_in_table};
+ghost use Rattle.c_types_names.specs.StructFields.{fields_of};
 
 use crate::declared::{Alias, Procedure, Structure};
 use crate::name_tables::{Aliases, Procedures, Structures};
-use crate::struct_fields::{DeclaredField, StructFields};
+use crate::struct_fields::StructFields;
 use c_tree::{FieldDecl, Ident, Item, Name};
 use std::alloc::{AllocError, Global};
 use std::marker::Model;
@@ -93,24 +92,6 @@ impl<'a> Tables<'a> {
         self.structures.fields(tag)
     }
 
-    /// The first field of the name in the first structure of the tag.
-    pub fn field(&self, tag: &Name, name: &Name) -> Option<DeclaredField<'a>>
-        ensures { option_map declared_seen result
-            ≡ field_in_table (option_map fields_of (structure_in self.now.structures tag.now)) name.now }
-    {
-        self.structures.fields(tag)?.first(name)
-    }
-
-    /// The place of the first field of the name in the first structure of the tag, or how many fields that has; 0 where there is none.
-    pub fn field_place(&self, tag: &Name, name: &Name) -> usize
-        ensures { result ≡ field_place self.now tag.now name.now }
-    {
-        match self.structures.fields(tag) {
-            None => 0,
-            Some(fields) => fields.place(name),
-        }
-    }
-
     /// The first of the names of types that is this name.
     pub fn alias(&self, name: &Name) -> Option<Alias<'a>>
         ensures { option_map alias_seen result ≡ alias_in self.now.aliases name.now }
@@ -125,7 +106,7 @@ impl<'a> Tables<'a> {
         self.procedures.first(name)
     }
 
-    /// The first definition of the procedure, or its first declaration that is none.
+    /// The first definition of the procedure if `defines`, else its first declaration that is no definition.
     pub fn definition(&self, name: &Name, defines: bool) -> Option<Procedure<'a>>
         ensures { option_map procedure_seen result ≡ procedure_in (definitions defines self.now.procedures) name.now }
     {

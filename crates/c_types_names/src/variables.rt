@@ -4,8 +4,8 @@ ghost use Rattle.c_types_rules.specs.Scopes.{variable_in};
 ghost use Rattle.c_types_names.specs.Seen.{variable_seen, stacked};
 ghost use Rattle.c_types_names.specs.Bindings.{IsBound, bound_of, variable_of};
 
-use crate::first_of_name::{Firsts, first_of, replace, set};
 use crate::kinds::Kind;
+use crate::name_map::{NameMap, named, replace, set};
 use c_tree::Name;
 use std::alloc::{AllocError, Global};
 use std::collections::BTreeMap;
@@ -33,7 +33,7 @@ struct Declared<'a> {
 }
 
 /// What names are bound to: each that has ever been declared has an entry, which is None where none of its variables is left.
-type Bindings<'a> = Firsts<'a, Option<Binding<'a>>>;
+type Bindings<'a> = NameMap<'a, Option<Binding<'a>>>;
 
 /// Variables, the innermost one last. To find, to add and to forget one takes O(log n) comparisons of names, where n names have been
 /// declared.
@@ -68,7 +68,7 @@ impl<'a> Drop for Variables<'a> {
 fn binding_of<'a>(bindings: &Bindings<'a>, name: &Name) -> Option<Binding<'a>>
     ensures { result ≡ bound_of bindings.now name.now }
 {
-    first_of(bindings, name)?
+    named(bindings, name)?
 }
 
 /// Forgets the last variable.

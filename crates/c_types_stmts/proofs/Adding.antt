@@ -1,9 +1,8 @@
 -- What is found in one part and then in another.
-use Rattle.std.proofs.Common.{◌≡◌, ℕ, ◌+◌, ◌<◌, Option, List, ◌∷◌, length, drop, get_or, Result, Ok, Err, OnOk, sym, ap, ◌∙◌}
+use Rattle.std.proofs.Common.{◌≡◌, ℕ, ◌+◌, ◌<◌, List, ◌∷◌, length, drop, get_or, Result, Ok, Err, OnOk, sym, ap, ◌∙◌}
 use Rattle.std.proofs.Common.{subst}
 use Rattle.std.proofs.lemmas.List.{at_drop_more}
 use Rattle.c_tokens.specs.declared.places.Refusal.{Refusal}
-use Rattle.c_types_rules.specs.Types.{Kind}
 use Rattle.c_types_rules.specs.Statements.{Found, nothing_found, refuses, ◌⊹◌}
 use Rattle.c_types_names.specs.declared.first_refusal.FirstRefusal.{FirstRefusal}
 use Rattle.c_types_names.specs.FirstRefusal.{with_refusals}
@@ -34,13 +33,6 @@ pub ends : {T E : Type 0} (r : Result T E) (other : Found) (c : Finding) {one : 
     → OnOk r (Adds other b c) → OnOk r (Adds (one ⊹ other) a c)
 ends (Ok x) other c first next = then first next
 ends (Err e) other c first next = tt
-
--- refusals and types that are found by two functions
-pub both : {T E : Type 0} (r : Result T E) (found : Found) (f : Finding) (first : FirstRefusal) (kinds : Option (List Kind))
-    → first ≡ with_refusals f.first found.refusals → OnOk r (kinds ≡ with_kinds f.kinds found.kinds)
-    → OnOk r (Adds found f (record { first = first; kinds = kinds }))
-both (Ok x) found f first kinds is more = record { first = is; kinds = more }
-both (Err e) found f first kinds is more = tt
 
 -- the same findings
 pub same : {one : Found} {a b : Finding} → Adds one a b → (other : Found) → one ≡ other → Adds other a b

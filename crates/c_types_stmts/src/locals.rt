@@ -9,29 +9,30 @@ use crate::finding::Finding;
 use crate::simples::{simple, whole};
 use c_tree::places::place_of_specifier;
 use c_tree::{Expr, ForInit, Initialized, Local, Place, TypeSpecifier};
-use c_types_exprs::value_types::fits;
+use c_types_exprs::value_types::fits_as;
+use c_types_names::codes::{CLASH, LEFT_OUT, SECOND};
 use c_types_names::env::Env;
 use c_types_names::hiding::{is_hidden, specifier_refusals_in};
 use c_types_names::kinds::Kind;
-use c_types_names::objects::{CLASH, LEFT_OUT, SECOND, may_be_object, object_kind};
+use c_types_names::objects::{may_be_object, object_kind};
 use std::alloc::AllocError;
 
-/// The value that a local begins with, where its variable stands already.
+/// The value that a local of this type begins with, where its variable stands already.
 fn initializer<'a>(
     env: &Env<'a>,
     place: Place,
-    kind: Kind<'a>,
+    wanted: Kind<'a>,
     value: &'a Option<Expr>,
     found: &mut Finding<'a>,
 ) -> Result<(), AllocError>
-    ensures { OnOk result (Adds (rule.initializer env.now place (kind_seen kind.entry) (option_map expr_tree value.now))
+    ensures { OnOk result (Adds (rule.initializer env.now place (kind_seen wanted.entry) (option_map expr_tree value.now))
         found.old found.new) }
 {
     match value {
         None => Ok(()),
         Some(value) => {
-            whole(env, value, found)?;
-            found.unless(fits(env, kind, value), place, CLASH);
+            let kind = whole(env, value, found)?;
+            found.unless(fits_as(env, wanted, value, kind), place, CLASH);
             Ok(())
         }
     }

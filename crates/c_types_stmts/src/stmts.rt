@@ -1,7 +1,7 @@
 //! Statements (C11 6.8). The calls nest as deep as the blocks, branches and loops do.
 ghost use Rattle.std.specs.Prelude.{◌≡◌, ◌&&◌, not, OnOk, option_map};
 ghost use Rattle.c_types_rules.specs.Statements as rule;
-ghost use Rattle.c_types_rules.specs.Expressions.{fits};
+ghost use Rattle.c_types_rules.specs.Expressions.{kind_of, fits};
 ghost use Rattle.c_types_rules.specs.Scopes.{entered};
 ghost use Rattle.c_tree.specs.Syntax.{expr_tree, for_step_tree, stmt_tree, stmts_tree, block_tree};
 ghost use Rattle.c_types_names.specs.Seen.{kind_seen};
@@ -13,22 +13,19 @@ use crate::locals::{declaration, init};
 use crate::simples::{plain, simple, whole};
 use c_tree::places::place_of_expr;
 use c_tree::{Block, Expr, Place, Simple, Stmt};
-use c_types_exprs::value_types::{fits, given_by, gives_scalar};
+use c_types_exprs::value_types::{fits_as, given_as, gives_scalar};
+use c_types_names::codes::{CLASH, LEFT_OUT};
 use c_types_names::env::Env;
 use c_types_names::kinds::{CType, Kind};
-use c_types_names::objects::{CLASH, LEFT_OUT};
 use std::alloc::AllocError;
 
 /// A condition.
 fn test<'a>(env: &Env<'a>, expr: &'a Expr, found: &mut Finding<'a>) -> Result<(), AllocError>
     ensures { OnOk result (Adds (rule.test env.now (expr_tree expr.now)) found.old found.new) }
 {
-    plain(env, expr, found)?;
-    found.unless(
-        gives_scalar(given_by(env, expr)),
-        place_of_expr(expr),
-        CLASH,
-    );
+    let kind = plain(env, expr, found)?;
+    let given = given_as(env, expr, kind);
+    found.unless(gives_scalar(given), place_of_expr(expr), CLASH);
     Ok(())
 }
 
@@ -84,11 +81,12 @@ fn may_be_void(kind: Kind) -> bool
     }
 }
 
-/// Whether a procedure with the result may return the value.
-fn may_return<'a>(env: &Env<'a>, answer: Kind<'a>, value: &'a Expr) -> bool
+/// Whether a procedure with the result may return the value, which has the type.
+fn may_return<'a>(env: &Env<'a>, answer: Kind<'a>, value: &'a Expr, kind: Kind<'a>) -> bool
+    requires is_its_kind { kind_seen kind ≡ kind_of env.now (expr_tree value.now) }
     ensures { result ≡ (not (rule.is_void (kind_seen answer.entry)) && fits env.now (kind_seen answer.entry) (expr_tree value.now)) }
 {
-    !is_void(answer) && fits(env, answer, value)
+    !is_void(answer) && fits_as(env, answer, value, kind)
 }
 
 /// A `return`.
@@ -108,8 +106,9 @@ fn returned<'a>(
             Ok(())
         }
         Some(value) => {
-            whole(env, value, found)?;
-            found.unless(may_return(env, answer, value), place, CLASH);
+            let kind = whole(env, value, found)?;
+            let may = may_return(env, answer, value, kind);
+            found.unless(may, place, CLASH);
             Ok(())
         }
     }

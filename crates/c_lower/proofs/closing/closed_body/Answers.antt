@@ -20,7 +20,7 @@ pub returns-clause-code : goal.returns-clause-code
 returns-clause-code c = λ line room slots.
     let block = block_tree c.args.body.now in
     let before = c.args.context.now in
-    let after = c.stmts.new.c in
+    let after = c.stmts.new.context in
     let o = c.args.out.now in
     let m = c.stmts.new.out in
     let n = c.close.new.out in

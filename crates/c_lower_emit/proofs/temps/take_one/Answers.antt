@@ -13,15 +13,15 @@ use Rattle.c_lower_emit.proofs.temps.take_one.Goals as goal
 pub add_used-requires-clause-first : goal.add_used-requires-clause-first
 add_used-requires-clause-first c =
     let first : c.unwrap_or-first.result
-    ≡ unwrap_or (number_in c.args.firsts.now (type_seen c.args.kind)) (length c.args.temps.now.items) = search rules in
+    ≡ unwrap_or (number_in c.args.numbers.now (type_seen c.args.kind)) (length c.args.temps.now.items) = search rules in
     first ∙ c.requires.first.found (type_seen c.args.kind)
 
 pub returns-then-place-len-clause-place : goal.returns-then-place-len-clause-place
 returns-then-place-len-clause-place c =
     let items = c.args.temps.now.items in
     let first : c.unwrap_or-first.result
-    ≡ unwrap_or (number_in c.args.firsts.now (type_seen c.args.kind)) (length items) = search rules in
-    free_place c.args.firsts.now c.args.from items _ c.requires
+    ≡ unwrap_or (number_in c.args.numbers.now (type_seen c.args.kind)) (length items) = search rules in
+    free_place c.args.numbers.now c.args.from items _ c.requires
     (take_rest c.deref.result.now c.args.from ∙ ap (drop c.args.from) c.deref.ensures.value)
     (type_seen c.args.kind) c.unwrap_or-first.result c.place_of_free.result first c.place_of_free.ensures.place
 
@@ -40,7 +40,7 @@ returns-then-place-len-clause-kept c =
       within = omega (arith, c.requires.within, length-set items place temp);
       used = used_set c.args.from place items temp refl c.requires.used;
       first =
-          first_same c.args.firsts.now items (set items place temp)
+          first_same c.args.numbers.now items (set items place temp)
           (set_unused items place c.index_mut.result.now lt c.index_mut.ensures.value) c.requires.first;
     }
 
@@ -58,7 +58,7 @@ returns-then-place-len-clause-used c = λ same.
           (subst (λ n. AreUsed (take (suc c.args.from) (set items n temp))) (sym same)
           (used_set_more c.args.from items temp refl (omega (arith, lt, same)) c.requires.used));
       first =
-          first_same c.args.firsts.now items (set items place temp)
+          first_same c.args.numbers.now items (set items place temp)
           (set_unused items place c.index_mut.result.now lt c.index_mut.ensures.value) c.requires.first;
     }
 
@@ -66,8 +66,8 @@ pub returns-in_ok-add_used-clause-place : goal.returns-in_ok-add_used-clause-pla
 returns-in_ok-add_used-clause-place c =
     let items = c.args.temps.now.items in
     let first : c.unwrap_or-first.result
-    ≡ unwrap_or (number_in c.args.firsts.now (type_seen c.args.kind)) (length items) = search rules in
-    free_place c.args.firsts.now c.args.from items _ c.requires
+    ≡ unwrap_or (number_in c.args.numbers.now (type_seen c.args.kind)) (length items) = search rules in
+    free_place c.args.numbers.now c.args.from items _ c.requires
     (take_rest c.deref.result.now c.args.from ∙ ap (drop c.args.from) c.deref.ensures.value)
     (type_seen c.args.kind) c.unwrap_or-first.result c.place_of_free.result first c.place_of_free.ensures.place
 
@@ -91,5 +91,5 @@ returns-in_ok-add_used-clause-used c = λ same.
           subst (λ ts. AreUsed (take (c.args.from + 1) ts)) (sym c.in_ok-add_used.ensures.more)
           (subst (λ n. AreUsed (take n (items ++ temp ∷ []))) one
           (used_pushed_more c.args.from items temp refl (omega (arith, le, same, c.requires.within)) c.requires.used));
-      first = c.in_ok-add_used.ensures.firsts;
+      first = c.in_ok-add_used.ensures.numbers;
     }

@@ -1,6 +1,6 @@
 use Rattle.std.proofs.Common.{◌≡◌, [], ◌∷◌, ◌++◌, reverse, sym, ap, subst, ◌∙◌, rules}
 use Rattle.std.specs.Option.{option_flatten}
-use Rattle.c_types_names.specs.FirstOfName.{first_of}
+use Rattle.c_types_names.specs.NameMap.{named}
 use Rattle.c_types_names.proofs.Binding.{reverse-last}
 use Rattle.c_lower_exprs.specs.declared.slots.Declared.{Declared}
 use Rattle.c_lower_exprs.specs.Slots.{AreLinked, slot_among, slots_of}
@@ -19,7 +19,7 @@ returns-in-Ok-clause-bound c =
     record {
       linked = subst AreLinked (sym turned) (hidden, c.requires.linked);
       found = λ n.
-          declared_found (first_of c.args.of_names.now) (first_of c.replace.new.firsts) (reverse all) c.args.bound c.requires.found
+          declared_found (named c.args.of_names.now) (named c.replace.new.things) (reverse all) c.args.bound c.requires.found
           c.in-Ok.ensures.thing c.flatten-hidden.result n
           ∙ ap (λ xs. slot_among xs n) (sym turned);
       listed =

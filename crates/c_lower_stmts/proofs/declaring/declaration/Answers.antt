@@ -10,24 +10,24 @@ loop-other-init c = (
   c.in_ok-count.ensures.within,
   λ numbers.
       let one = c.args.one.now in
-      locals_begun (specifier_tree one.specifier) c.args.c.now c.args.line c.args.locals (initialized_tree one.first)
+      locals_begun (specifier_tree one.specifier) c.args.context.now c.args.line c.args.locals (initialized_tree one.first)
       (map initialized_tree one.others.items)
-      (map initialized_tree c.deref-other-items.result.now) c.args.out.now c.local.new.c c.in_ok-count.count c.local.new.out
+      (map initialized_tree c.deref-other-items.result.now) c.args.out.now c.local.new.context c.in_ok-count.count c.local.new.out
       (ap (map initialized_tree) (sym c.deref-other-items.ensures.value)) numbers.1 (c.in_ok-count.ensures.declared numbers.0),
 )
 
 pub loop-other-preserved : goal.loop-other-preserved
 loop-other-preserved c = (
-  within_then c.args.c.now c.loop-other.c c.local_behind.new.c c.loop-other.invariant.0 c.in_ok-count-2.ensures.within,
+  within_then c.args.context.now c.loop-other.context c.local_behind.new.context c.loop-other.invariant.0 c.in_ok-count-2.ensures.within,
   λ numbers.
       let one = c.args.one.now in
       let items = c.deref-other-items.result.now in
       let at = c.loop-other.other-index in
-      locals_turned (specifier_tree one.specifier) c.args.c.now c.args.line c.args.locals
+      locals_turned (specifier_tree one.specifier) c.args.context.now c.args.line c.args.locals
       (initialized_tree one.first ∷ map initialized_tree one.others.items)
       (map initialized_tree (drop at items)) (map initialized_tree (drop (at + 1) items))
-      (initialized_tree c.other-item.result) c.args.out.now c.loop-other.c
-      c.local_behind.new.c
+      (initialized_tree c.other-item.result) c.args.out.now c.loop-other.context
+      c.local_behind.new.context
       c.loop-other.count c.in_ok-count-2.count c.loop-other.out c.local_behind.new.out c.len-start.result
       (at_drop_more (map initialized_tree) items at c.other-item.result c.loop-other-test.true
       ∙ ap (λ x. initialized_tree x ∷ map initialized_tree (drop (at + 1) items)) (sym c.other-item.is))
@@ -41,7 +41,7 @@ pub returns-clause-declared : goal.returns-clause-declared
 returns-clause-declared c = λ numbers.
     let one = c.args.one.now in
     let items = c.deref-other-items.result.now in
-    locals_ended (specifier_tree one.specifier) c.args.c.now c.args.line c.args.locals
+    locals_ended (specifier_tree one.specifier) c.args.context.now c.args.line c.args.locals
     (initialized_tree one.first ∷ map initialized_tree one.others.items)
-    (map initialized_tree (drop c.loop-other.other-index items)) c.args.out.now c.loop-other.c c.loop-other.count c.loop-other.out
+    (map initialized_tree (drop c.loop-other.other-index items)) c.args.out.now c.loop-other.context c.loop-other.count c.loop-other.out
     (at_drop_all (map initialized_tree) items c.loop-other.other-index c.loop-other-test.false) (c.loop-other.invariant.1 numbers)

@@ -7,8 +7,8 @@ use Rattle.c_lower_stmts.proofs.declaring.declaration.Given as goal
 
 abbrev pub invariant-loop-other : goal.invariant-loop-other
 invariant-loop-other l =
-    IsWithin l.fn.c l.c
+    IsWithin l.fn.context l.context
     × (LocalHasIntNumbers (local_tree l.fn.one)
-    → LocalsSoFar (specifier_tree l.fn.one.specifier) l.fn.c l.line l.fn.locals
+    → LocalsSoFar (specifier_tree l.fn.one.specifier) l.fn.context l.line l.fn.locals
     (initialized_tree l.fn.one.first ∷ map initialized_tree l.fn.one.others.items)
-    (map initialized_tree (drop l.other-index l.other-items)) l.fn.out l.c l.count l.out)
+    (map initialized_tree (drop l.other-index l.other-items)) l.fn.out l.context l.count l.out)

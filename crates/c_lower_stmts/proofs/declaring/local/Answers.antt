@@ -12,7 +12,7 @@ use Rattle.c_lower_stmts.proofs.declaring.local.Goals as goal
 
 pub returns-clause-within : goal.returns-clause-within
 returns-clause-within c =
-    within_added c.args.c.now c.add_local.new.self c.args.one.now.declarator.name.text (kind_seen c.object_kind-kind.result)
+    within_added c.args.context.now c.add_local.new.self c.args.one.now.declarator.name.text (kind_seen c.object_kind-kind.result)
     c.saturating_add-to.result c.in_ok-add_local.ensures
 
 pub returns-clause-declared : goal.returns-clause-declared
@@ -20,7 +20,8 @@ returns-clause-declared c = λ numbers.
     let s = specifier_tree c.args.specifier.now in
     let one = c.args.one.now in
     let behind = c.add_local.new.self in
-    local_declared c.args.c.now behind c.args.line c.args.locals c.saturating_add-to.result c.saturating_add.result s (initialized_tree one)
+    local_declared c.args.context.now behind c.args.line c.args.locals c.saturating_add-to.result c.saturating_add.result
+    s (initialized_tree one)
     (kind_seen c.object_kind-kind.result)
     c.args.out.now c.initial.new.out (c.object_kind-kind.ensures ∙ ap (λ t. object_kind t s one.declarator.stars) c.tables.ensures.program)
     (c.saturating_add-to.ensures ∙ ap (λ f. min (f + c.args.locals) 4294967295) c.first_local.ensures) c.in_ok-add_local.ensures

@@ -12,10 +12,11 @@ use Rattle.c_lower_stmts.proofs.heads.step.Goals as goal
 pub returns-in-Some : goal.returns-in-Some
 returns-in-Some c =
     IfOk-weaker c.stepped.result _ _ (λ laid is numbers line.
-    let st = state (on_line c.args.c.now line) c.args.locals c.args.out.now in
-    subst (λ o. EmitsWithin (for_step st (option_map for_step_tree o)) c.args.c.now c.args.locals laid c.args.out.now c.stepped.new.out)
+    let st = state (on_line c.args.context.now line) c.args.locals c.args.out.now in
+    subst (λ o. EmitsWithin (for_step st (option_map for_step_tree o))
+    c.args.context.now c.args.locals laid c.args.out.now c.stepped.new.out)
     (sym c.in-Some.is)
     (subst (λ s. EmitsWithin
-    (for_step st (Some (simple_tree s))) c.args.c.now c.args.locals laid c.args.out.now c.stepped.new.out) c.deref.ensures
+    (for_step st (Some (simple_tree s))) c.args.context.now c.args.locals laid c.args.out.now c.stepped.new.out) c.deref.ensures
     (is (subst (λ s. SimpleHasIntNumbers (simple_tree s)) (sym c.deref.ensures)
     (subst (λ o. IfSome (option_map for_step_tree o) SimpleHasIntNumbers) c.in-Some.is numbers)) line))) c.stepped.ensures

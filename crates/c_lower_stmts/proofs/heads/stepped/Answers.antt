@@ -11,9 +11,10 @@ use Rattle.c_lower_stmts.proofs.heads.stepped.Goals as goal
 pub returns : goal.returns
 returns c =
     IfOk-weaker c.once.result _ _ (λ laid is numbers line.
-    let st = state (on_line c.args.c.now line) c.args.locals c.args.out.now in
-    without_names _ c.args.c.now c.args.locals c.args.c.now laid c.args.out.now c.once.new.out
+    let st = state (on_line c.args.context.now line) c.args.locals c.args.out.now in
+    without_names _ c.args.context.now c.args.locals c.args.context.now laid c.args.out.now c.once.new.out
     (subst (λ p. EmitsLowered
     (simple_from st (from_place st p)
-    (simple_tree c.args.one.now)) c.args.c.now c.args.locals c.args.c.now laid c.args.out.now c.once.new.out) c.place_of_simple.ensures
+    (simple_tree c.args.one.now)) c.args.context.now c.args.locals
+    c.args.context.now laid c.args.out.now c.once.new.out) c.place_of_simple.ensures
     (is numbers line))) c.once.ensures

@@ -13,14 +13,14 @@ pub returns-in-None : goal.returns-in-None
 returns-in-None c =
     IfOk-weaker c.forever.result _ _ (λ _ is numbers line locals.
     subst (λ e. EmitsTested
-    (for_condition (state (on_line c.args.c.now line) locals c.args.out.now) c.args.place
-    (option_map expr_tree e)) c.args.c.now.first_temp c.args.out.now c.forever.new.out)
+    (for_condition (state (on_line c.args.context.now line) locals c.args.out.now) c.args.place
+    (option_map expr_tree e)) c.args.context.now.first_temp c.args.out.now c.forever.new.out)
     (sym c.in-None.is) (is line locals)) c.forever.ensures
 
 pub returns-in-Some : goal.returns-in-Some
 returns-in-Some c =
     IfOk-weaker c.tested.result _ _ (λ _ is numbers line locals.
     subst (λ e. EmitsTested
-    (for_condition (state (on_line c.args.c.now line) locals c.args.out.now) c.args.place
-    (option_map expr_tree e)) c.args.c.now.first_temp c.args.out.now c.tested.new.out)
+    (for_condition (state (on_line c.args.context.now line) locals c.args.out.now) c.args.place
+    (option_map expr_tree e)) c.args.context.now.first_temp c.args.out.now c.tested.new.out)
     (sym c.in-Some.is) (is (subst (λ e. IfSome (option_map expr_tree e) HasIntNumbers) c.in-Some.is numbers) line locals)) c.tested.ensures

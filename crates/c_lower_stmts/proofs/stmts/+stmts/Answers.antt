@@ -25,46 +25,50 @@ pub stmt-returns-in-Empty-clause-laid : goal.stmt-returns-in-Empty-clause-laid
 stmt-returns-in-Empty-clause-laid t c = λ numbers line.
     let tree_is = ap stmt_tree c.in-Empty.is ∙ empty_is c.in-Empty.field-0 in
     subst (λ s. EmitsLowered
-    (stmt s (state (on_line c.args.c.now line) c.args.locals c.args.out.now)) c.args.c.now c.args.locals c.args.c.now
+    (stmt s (state (on_line c.args.context.now line) c.args.locals c.args.out.now)) c.args.context.now c.args.locals c.args.context.now
     (record { begin = Next; locals = c.args.locals }) c.args.out.now c.args.out.now)
-    (sym tree_is) (jumped c.args.c.now line c.args.locals (λ exits. exits.next) Next c.args.out.now (λ p. refl))
+    (sym tree_is) (jumped c.args.context.now line c.args.locals (λ exits. exits.next) Next c.args.out.now (λ p. refl))
 
 pub stmt-returns-in-Break-clause-laid : goal.stmt-returns-in-Break-clause-laid
 stmt-returns-in-Break-clause-laid t c = λ numbers line.
     let tree_is = ap stmt_tree c.in-Break.is ∙ break_is c.in-Break.field-0 in
     subst (λ s. EmitsLowered
-    (stmt s (state (on_line c.args.c.now line) c.args.locals c.args.out.now)) c.args.c.now c.args.locals c.args.c.now
+    (stmt s (state (on_line c.args.context.now line) c.args.locals c.args.out.now)) c.args.context.now c.args.locals c.args.context.now
     (record { begin = Breaks; locals = c.args.locals }) c.args.out.now c.args.out.now)
-    (sym tree_is) (jumped c.args.c.now line c.args.locals (λ exits. exits.breaks) Breaks c.args.out.now (λ p. refl))
+    (sym tree_is) (jumped c.args.context.now line c.args.locals (λ exits. exits.breaks) Breaks c.args.out.now (λ p. refl))
 
 pub stmt-returns-in-Continue-clause-laid : goal.stmt-returns-in-Continue-clause-laid
 stmt-returns-in-Continue-clause-laid t c = λ numbers line.
     let tree_is = ap stmt_tree c.in-Continue.is ∙ continue_is c.in-Continue.field-0 in
     subst (λ s. EmitsLowered
-    (stmt s (state (on_line c.args.c.now line) c.args.locals c.args.out.now)) c.args.c.now c.args.locals c.args.c.now
+    (stmt s (state (on_line c.args.context.now line) c.args.locals c.args.out.now)) c.args.context.now c.args.locals c.args.context.now
     (record { begin = Continues; locals = c.args.locals }) c.args.out.now c.args.out.now)
-    (sym tree_is) (jumped c.args.c.now line c.args.locals (λ exits. exits.continues) Continues c.args.out.now (λ p. refl))
+    (sym tree_is) (jumped c.args.context.now line c.args.locals (λ exits. exits.continues) Continues c.args.out.now (λ p. refl))
 
 pub stmt-returns-in-Local-clause-laid : goal.stmt-returns-in-Local-clause-laid
 stmt-returns-in-Local-clause-laid t c =
     let tree_is = ap stmt_tree c.in-Local.is ∙ local_is c.in-Local.one in
     IfOk-weaker c.declared.result _ _ (λ laid is numbers line.
-    let st = state (on_line c.args.c.now line) c.args.locals c.args.out.now in
-    subst (λ s. EmitsLowered (stmt s st) c.args.c.now c.args.locals c.declared.new.c laid c.args.out.now c.declared.new.out) (sym tree_is)
+    let st = state (on_line c.args.context.now line) c.args.locals c.args.out.now in
+    subst (λ s. EmitsLowered (stmt s st) c.args.context.now c.args.locals c.declared.new.context laid c.args.out.now c.declared.new.out)
+    (sym tree_is)
     (subst (λ p. EmitsLowered
     (declaration (local_tree c.in-Local.one)
-    (from_place st p)) c.args.c.now c.args.locals c.declared.new.c laid c.args.out.now c.declared.new.out) c.place_of_local.ensures
+    (from_place st p)) c.args.context.now c.args.locals c.declared.new.context laid c.args.out.now c.declared.new.out)
+    c.place_of_local.ensures
     (is (subst StmtHasIntNumbers tree_is numbers) line))) c.declared.ensures.laid
 
 pub stmt-returns-in-Simple-clause-laid : goal.stmt-returns-in-Simple-clause-laid
 stmt-returns-in-Simple-clause-laid t c =
     let tree_is = ap stmt_tree c.in-Simple.is ∙ simple_is c.in-Simple.one in
     IfOk-weaker c.once.result _ _ (λ laid is numbers line.
-    let st = state (on_line c.args.c.now line) c.args.locals c.args.out.now in
-    subst (λ s. EmitsLowered (stmt s st) c.args.c.now c.args.locals c.args.c.now laid c.args.out.now c.once.new.out) (sym tree_is)
+    let st = state (on_line c.args.context.now line) c.args.locals c.args.out.now in
+    subst (λ s. EmitsLowered (stmt s st) c.args.context.now c.args.locals
+    c.args.context.now laid c.args.out.now c.once.new.out) (sym tree_is)
     (subst (λ p. EmitsLowered
     (simple_from st (from_place st p)
-    (simple_tree c.in-Simple.one)) c.args.c.now c.args.locals c.args.c.now laid c.args.out.now c.once.new.out) c.place_of_simple.ensures
+    (simple_tree c.in-Simple.one)) c.args.context.now c.args.locals
+    c.args.context.now laid c.args.out.now c.once.new.out) c.place_of_simple.ensures
     (is (subst StmtHasIntNumbers tree_is numbers) line))) c.once.ensures
 
 pub stmt-returns-in-Return-clause-laid : goal.stmt-returns-in-Return-clause-laid
@@ -73,8 +77,8 @@ stmt-returns-in-Return-clause-laid t c =
     IfOk-weaker c.return_at.result _ _ (λ laid is numbers line.
     subst (λ s. EmitsLowered
     (stmt s (state
-    (on_line c.args.c.now line) c.args.locals c.args.out.now))
-    c.args.c.now c.args.locals c.args.c.now laid c.args.out.now c.return_at.new.out)
+    (on_line c.args.context.now line) c.args.locals c.args.out.now))
+    c.args.context.now c.args.locals c.args.context.now laid c.args.out.now c.return_at.new.out)
     (sym tree_is)
     (is (subst StmtHasIntNumbers tree_is numbers) line)) c.return_at.ensures
 
@@ -85,15 +89,15 @@ stmt-returns-in-None-clause-laid t c = λ numbers line.
     let tree_is = ap stmt_tree whole ∙ if_is s.place s.test s.body in
     let n = subst StmtHasIntNumbers tree_is numbers in
     subst (λ x. EmitsLowered
-    (stmt x (state (on_line c.args.c.now line) c.args.locals c.args.out.now)) c.args.c.now c.args.locals c.nested.new.c
+    (stmt x (state (on_line c.args.context.now line) c.args.locals c.args.out.now)) c.args.context.now c.args.locals c.nested.new.context
     (record { begin = c.at.result; locals = c.in_ok-first-in-If.first.locals }) c.args.out.now c.choose.new.out)
     (sym tree_is)
     (subst (λ x. EmitsLowered
     (stmt (tree.Stmt.If s.place (expr_tree s.test) (stmt_tree s.body.value))
-    (state (on_line c.args.c.now line) c.args.locals c.args.out.now)) c.args.c.now c.args.locals x
+    (state (on_line c.args.context.now line) c.args.locals c.args.out.now)) c.args.context.now c.args.locals x
     (record { begin = c.at.result; locals = c.in_ok-first-in-If.first.locals }) c.args.out.now c.choose.new.out)
     (sym c.in_ok-first-in-If.ensures.context)
-    (if_laid c.args.c.now line c.args.locals c.len-from.result c.len-past.result s.place (expr_tree s.test)
+    (if_laid c.args.context.now line c.args.locals c.len-from.result c.len-past.result s.place (expr_tree s.test)
     (stmt_tree s.body.value) c.in_ok-first-in-If.first c.at.result c.args.out.now c.tested.new.out
     c.nested.new.out c.choose.new.out c.len-from.ensures c.len-past.ensures c.at.ensures
     (c.in_ok-tested-in-If.ensures n.0 line c.args.locals) (c.in_ok-first-in-If.ensures.laid n.1 line) c.choose.ensures))
@@ -111,22 +115,24 @@ stmt-returns-in_ok-second-in-Some-clause-laid t c = λ numbers line.
     let two : EmitsWithin
     (stmt (stmt_tree c.in-Some.other.value)
     (inside (state
-    (on_line c.args.c.now line) first.locals c.nested.new.out))) c.args.c.now first.locals second c.nested.new.out
+    (on_line c.args.context.now line) first.locals c.nested.new.out))) c.args.context.now first.locals second c.nested.new.out
     c.nested-in-Some.new.out =
     subst (λ x. EmitsWithin
     (stmt (stmt_tree c.in-Some.other.value)
     (inside (state (on_line x line) first.locals c.nested.new.out))) x first.locals second c.nested.new.out c.nested-in-Some.new.out) kept
     (c.in_ok-second-in-Some.ensures.laid n.2 line) in
     subst (λ x. EmitsLowered
-    (stmt x (state (on_line c.args.c.now line) c.args.locals c.args.out.now)) c.args.c.now c.args.locals c.nested-in-Some.new.c
+    (stmt x (state (on_line c.args.context.now line) c.args.locals c.args.out.now))
+    c.args.context.now c.args.locals c.nested-in-Some.new.context
     (record { begin = c.at-in-Some.result; locals = second.locals }) c.args.out.now c.choose-in-Some.new.out)
     (sym tree_is)
     (subst (λ x. EmitsLowered
     (stmt (tree.Stmt.IfElse s.place (expr_tree s.test) (stmt_tree s.body.value) (stmt_tree c.in-Some.other.value))
-    (state (on_line c.args.c.now line) c.args.locals c.args.out.now)) c.args.c.now c.args.locals x
+    (state (on_line c.args.context.now line) c.args.locals c.args.out.now)) c.args.context.now c.args.locals x
     (record { begin = c.at-in-Some.result; locals = second.locals }) c.args.out.now c.choose-in-Some.new.out)
     (sym (c.in_ok-second-in-Some.ensures.context ∙ kept))
-    (if_else_laid c.args.c.now line c.args.locals c.len-from.result c.len-past.result s.place (expr_tree s.test) (stmt_tree s.body.value)
+    (if_else_laid c.args.context.now line c.args.locals c.len-from.result c.len-past.result s.place (expr_tree s.test)
+    (stmt_tree s.body.value)
     (stmt_tree c.in-Some.other.value) first second c.at-in-Some.result
     c.args.out.now c.tested.new.out c.nested.new.out c.nested-in-Some.new.out c.choose-in-Some.new.out c.len-from.ensures c.len-past.ensures
     c.at-in-Some.ensures
@@ -139,7 +145,8 @@ stmt-returns-in-While-clause-laid t c =
     IfOk-weaker c.while_loop.result _ _ (λ laid is numbers line.
     subst (λ x. EmitsLowered
     (stmt x (state
-    (on_line c.args.c.now line) c.args.locals c.args.out.now)) c.args.c.now c.args.locals c.while_loop.new.c laid c.args.out.now
+    (on_line c.args.context.now line) c.args.locals c.args.out.now))
+    c.args.context.now c.args.locals c.while_loop.new.context laid c.args.out.now
     c.while_loop.new.out) (sym tree_is)
     (is s.place (subst StmtHasIntNumbers tree_is numbers) line)) c.while_loop.ensures.laid
 
@@ -150,7 +157,8 @@ stmt-returns-in-DoWhile-clause-laid t c =
     IfOk-weaker c.do_loop.result _ _ (λ laid is numbers line.
     subst (λ x. EmitsLowered
     (stmt x (state
-    (on_line c.args.c.now line) c.args.locals c.args.out.now)) c.args.c.now c.args.locals c.do_loop.new.c laid c.args.out.now
+    (on_line c.args.context.now line) c.args.locals c.args.out.now))
+    c.args.context.now c.args.locals c.do_loop.new.context laid c.args.out.now
     c.do_loop.new.out) (sym tree_is)
     (is s.place (subst StmtHasIntNumbers tree_is numbers) line)) c.do_loop.ensures.laid
 
@@ -161,7 +169,8 @@ stmt-returns-in-For-clause-laid t c =
     IfOk-weaker c.for_loop.result _ _ (λ laid is numbers line.
     subst (λ x. EmitsLowered
     (stmt x (state
-    (on_line c.args.c.now line) c.args.locals c.args.out.now)) c.args.c.now c.args.locals c.for_loop.new.c laid c.args.out.now
+    (on_line c.args.context.now line) c.args.locals c.args.out.now))
+    c.args.context.now c.args.locals c.for_loop.new.context laid c.args.out.now
     c.for_loop.new.out) (sym tree_is)
     (is (subst StmtHasIntNumbers tree_is numbers) line)) c.for_loop.ensures.laid
 
@@ -172,10 +181,11 @@ while_loop-returns-clause-laid t c = λ place n line.
     let opened = c.in_ok-opened in
     let first = c.in_ok-laid.laid in
     subst (λ x. EmitsLowered
-    (stmt (tree.Stmt.While place test body) (state (on_line c.args.c.now line) c.args.locals c.args.out.now)) c.args.c.now c.args.locals x
+    (stmt (tree.Stmt.While place test body) (state (on_line
+    c.args.context.now line) c.args.locals c.args.out.now)) c.args.context.now c.args.locals x
     (record { begin = c.at.result; locals = first.locals }) c.args.out.now c.close.new.out)
     (sym c.in_ok-laid.ensures.context)
-    (while_laid c.args.c.now line c.args.locals opened.opened.head opened.opened.index c.len-from.result c.len-past.result
+    (while_laid c.args.context.now line c.args.locals opened.opened.head opened.opened.index c.len-from.result c.len-past.result
     opened.opened.visible place test body first
     c.at.result c.args.out.now c.tested.new.out c.nested.new.out c.close.new.out opened.ensures.head opened.ensures.index
     opened.ensures.visible c.len-from.ensures
@@ -191,16 +201,16 @@ do_loop-returns-clause-laid t c = λ place n line.
     let kept = c.in_ok-laid.ensures.context in
     let cond : EmitsTested
     (condition (state
-    (on_line c.args.c.now line) first.locals c.nested.new.out) test) c.args.c.now.first_temp c.nested.new.out c.tested.new.out =
+    (on_line c.args.context.now line) first.locals c.nested.new.out) test) c.args.context.now.first_temp c.nested.new.out c.tested.new.out =
     subst (λ (x : Context). EmitsTested
     (condition (state (on_line x line) first.locals c.nested.new.out) test) x.first_temp c.nested.new.out c.tested.new.out) kept
     (c.in_ok-tested.ensures n.1 line first.locals) in
     subst (λ x. EmitsLowered
     (stmt (tree.Stmt.DoWhile place body test)
-    (state (on_line c.args.c.now line) c.args.locals c.args.out.now)) c.args.c.now c.args.locals x
+    (state (on_line c.args.context.now line) c.args.locals c.args.out.now)) c.args.context.now c.args.locals x
     (record { begin = c.in_ok-begin.begin; locals = first.locals }) c.args.out.now c.close_behind.new.out)
     (sym kept)
-    (do_laid c.args.c.now line c.args.locals opened.opened.head opened.opened.index c.len-from.result opened.opened.visible place test
+    (do_laid c.args.context.now line c.args.locals opened.opened.head opened.opened.index c.len-from.result opened.opened.visible place test
     body first
     c.in_ok-begin.begin c.args.out.now c.nested.new.out c.tested.new.out c.close_behind.new.out opened.ensures.head opened.ensures.index
     opened.ensures.visible
@@ -218,15 +228,15 @@ for_loop-returns-clause-laid t c = λ n line.
     let second = c.in_ok-laid.laid in
     let third = c.in_ok-stepped.stepped in
     let kept = c.in_ok-laid.ensures.context in
-    let inner = c.init.new.c in
-    let within : IsWithin (within_scope c.args.c.now) inner =
-    entered_within c.args.c.now c.enter-scope.new.self inner c.enter-scope.ensures.scope c.in_ok-begun.ensures.within in
-    let left : c.leave.new.self ≡ c.args.c.now =
-    c.leave.ensures c.args.c.now
-    (subst (IsWithin (within_scope c.args.c.now)) (sym kept) within) c.enter-scope.ensures.begin c.enter-scope.ensures.bound in
+    let inner = c.init.new.context in
+    let within : IsWithin (within_scope c.args.context.now) inner =
+    entered_within c.args.context.now c.enter-scope.new.self inner c.enter-scope.ensures.scope c.in_ok-begun.ensures.within in
+    let left : c.leave.new.self ≡ c.args.context.now =
+    c.leave.ensures c.args.context.now
+    (subst (IsWithin (within_scope c.args.context.now)) (sym kept) within) c.enter-scope.ensures.begin c.enter-scope.ensures.bound in
     let inits : (line : ℕ)
-    → EmitsLowered (for_init (state (on_line (within_scope c.args.c.now) line) c.args.locals c.args.out.now) place starts)
-    (within_scope c.args.c.now) c.args.locals inner first c.args.out.now c.init.new.out =
+    → EmitsLowered (for_init (state (on_line (within_scope c.args.context.now) line) c.args.locals c.args.out.now) place starts)
+    (within_scope c.args.context.now) c.args.locals inner first c.args.out.now c.init.new.out =
     subst (λ x. (line : ℕ)
     → EmitsLowered
     (for_init (state
@@ -243,10 +253,10 @@ for_loop-returns-clause-laid t c = λ n line.
     (c.in_ok-stepped.ensures n.2) in
     subst (λ x. EmitsLowered
     (stmt (tree.Stmt.For place starts test ends body)
-    (state (on_line c.args.c.now line) c.args.locals c.args.out.now)) c.args.c.now c.args.locals x
+    (state (on_line c.args.context.now line) c.args.locals c.args.out.now)) c.args.context.now c.args.locals x
     (record { begin = c.followed_by.result; locals = third.locals }) c.args.out.now c.lead_next.new.self)
     (sym left)
-    (for_laid c.args.c.now inner line c.args.locals c.len-start.result opened.opened.head opened.opened.index c.len-from.result
+    (for_laid c.args.context.now inner line c.args.locals c.len-start.result opened.opened.head opened.opened.index c.len-from.result
     c.len-past.result opened.opened.visible place starts
     test ends body first second third c.followed_by.result c.at-label.result c.args.out.now c.init.new.out c.tested_for.new.out
     c.nested.new.out c.step.new.out c.close.new.out c.lead_next.new.self within c.len-start.ensures opened.ensures.head opened.ensures.index
@@ -262,16 +272,17 @@ stmts-loop-one-preserved t c =
     let lt : i < length items = search rules in
     let same : c.args.ones.now.items ≡ items = search rules in
     record {
-      within = within_then c.args.c.now c.loop-one.c c.stmt.new.c c.loop-one.invariant.within c.in_ok-next.ensures.within;
+      within = within_then c.args.context.now c.loop-one.context c.stmt.new.context c.loop-one.invariant.within c.in_ok-next.ensures.within;
       laid = λ numbers line.
           let each = numbers_at items i c.one-item.result lt (subst (λ xs. StmtsHaveIntNumbers (stmts_tree xs)) same numbers) in
           let this = subst (λ x. StmtHasIntNumbers (stmt_tree x)) (sym c.one-item.is) each in
           subst (λ xs. EmitsLowered
-          (stmts (stmts_of xs) (state (on_line c.args.c.now line) c.args.locals c.args.out.now)) c.args.c.now c.args.locals c.stmt.new.c
+          (stmts (stmts_of xs) (state (on_line c.args.context.now line) c.args.locals c.args.out.now))
+          c.args.context.now c.args.locals c.stmt.new.context
           (record { begin = c.followed_by.result; locals = c.in_ok-next.next.locals })
           c.args.out.now c.lead_next.new.self)
           (one_more items i c.one-item.result lt c.one-item.is)
-          (stmts_turn c.args.c.now c.loop-one.c c.stmt.new.c line c.args.locals c.len-start.result c.len-past.result
+          (stmts_turn c.args.context.now c.loop-one.context c.stmt.new.context line c.args.locals c.len-start.result c.len-past.result
           (map stmt_tree (take i items)) (stmt_tree c.one-item.result) c.loop-one.laid c.in_ok-next.next
           c.followed_by.result c.args.out.now c.loop-one.out c.stmt.new.out c.lead_next.new.self c.loop-one.invariant.within
           c.len-start.ensures c.len-past.ensures (c.loop-one.invariant.laid numbers line)

@@ -9,9 +9,9 @@ use Rattle.c_lower_stmts.proofs.stmts.+stmts.Given as goal
 
 abbrev pub invariant-stmts-loop-one : goal.invariant-stmts-loop-one
 invariant-stmts-loop-one l = record {
-  within : IsWithin l.fn.c l.c;
+  within : IsWithin l.fn.context l.context;
   laid : StmtsHaveIntNumbers (stmts_tree l.fn.ones.items) → (line : ℕ)
       → EmitsLowered
       (stmts (stmts_of (map stmt_tree (take l.one-index l.one-items)))
-      (state (on_line l.fn.c line) l.locals l.fn.out)) l.fn.c l.locals l.c l.laid l.fn.out l.out;
+      (state (on_line l.fn.context line) l.locals l.fn.out)) l.fn.context l.locals l.context l.laid l.fn.out l.out;
 }

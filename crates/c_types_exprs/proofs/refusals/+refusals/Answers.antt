@@ -14,40 +14,40 @@ use Rattle.c_types_names.proofs.FirstRefusals.{nothing, then, same, turn, over}
 use Rattle.c_tree.specs.declared.exprs.Expr.{the_lemmas}
 use Rattle.c_types_exprs.proofs.refusals.+refusals.Goals as goal
 
-pub kind_and_refusals-returns-in-Chain-clause-refusals : goal.kind_and_refusals-returns-in-Chain-clause-refusals
-kind_and_refusals-returns-in-Chain-clause-refusals t c =
-    same _ _ _ _ (then _ _ _ _ _ c.kind_and_refusals-kind.ensures.refusals c.links_refusals.ensures.refusals) (search (rules, the_lemmas))
+pub expr_refusals-returns-in-Chain-clause-refusals : goal.expr_refusals-returns-in-Chain-clause-refusals
+expr_refusals-returns-in-Chain-clause-refusals t c =
+    same _ _ _ _ (then _ _ _ _ _ c.expr_refusals-kind.ensures.refusals c.links_refusals.ensures.refusals) (search (rules, the_lemmas))
 
-pub kind_and_refusals-returns-in-Prefix-clause-refusals : goal.kind_and_refusals-returns-in-Prefix-clause-refusals
-kind_and_refusals-returns-in-Prefix-clause-refusals t c =
-    same _ _ _ _ (then _ _ _ _ _ c.kind_and_refusals-kind-in-Prefix.ensures.refusals c.unless.ensures) (search (rules, the_lemmas))
+pub expr_refusals-returns-in-Prefix-clause-refusals : goal.expr_refusals-returns-in-Prefix-clause-refusals
+expr_refusals-returns-in-Prefix-clause-refusals t c =
+    same _ _ _ _ (then _ _ _ _ _ c.expr_refusals-kind-in-Prefix.ensures.refusals c.unless.ensures) (search (rules, the_lemmas))
 
-pub kind_and_refusals-returns-in-Members-clause-refusals : goal.kind_and_refusals-returns-in-Members-clause-refusals
-kind_and_refusals-returns-in-Members-clause-refusals t c =
+pub expr_refusals-returns-in-Members-clause-refusals : goal.expr_refusals-returns-in-Members-clause-refusals
+expr_refusals-returns-in-Members-clause-refusals t c =
     same _ _ _ _
-    (then _ _ _ _ _ c.kind_and_refusals-kind-in-Members.ensures.refusals
+    (then _ _ _ _ _ c.expr_refusals-kind-in-Members.ensures.refusals
     (then _ _ _ _ _ c.member_refusals-kind.ensures.refusals c.members_refusals.ensures.refusals)) (search (rules, the_lemmas))
 
-pub kind_and_refusals-returns-in-Number-clause-refusals : goal.kind_and_refusals-returns-in-Number-clause-refusals
-kind_and_refusals-returns-in-Number-clause-refusals t c = same _ _ _ _ (nothing _) (search (rules, the_lemmas))
+pub expr_refusals-returns-in-Number-clause-refusals : goal.expr_refusals-returns-in-Number-clause-refusals
+expr_refusals-returns-in-Number-clause-refusals t c = same _ _ _ _ (nothing _) (search (rules, the_lemmas))
 
-pub kind_and_refusals-returns-in-Null-clause-refusals : goal.kind_and_refusals-returns-in-Null-clause-refusals
-kind_and_refusals-returns-in-Null-clause-refusals t c = same _ _ _ _ (nothing _) (search (rules, the_lemmas))
+pub expr_refusals-returns-in-Null-clause-refusals : goal.expr_refusals-returns-in-Null-clause-refusals
+expr_refusals-returns-in-Null-clause-refusals t c = same _ _ _ _ (nothing _) (search (rules, the_lemmas))
 
-pub kind_and_refusals-returns-in-Call-clause-refusals : goal.kind_and_refusals-returns-in-Call-clause-refusals
-kind_and_refusals-returns-in-Call-clause-refusals t c =
+pub expr_refusals-returns-in-Call-clause-refusals : goal.expr_refusals-returns-in-Call-clause-refusals
+expr_refusals-returns-in-Call-clause-refusals t c =
     same _ _ _ _ (then _ _ _ _ _ c.unless-in-Call.ensures (then _ _ _ _ _ c.args_refusals.ensures c.callee_refusals.ensures.refusals))
     (search (rules, the_lemmas))
 
-pub kind_and_refusals-returns-in-Malloc-clause-refusals : goal.kind_and_refusals-returns-in-Malloc-clause-refusals
-kind_and_refusals-returns-in-Malloc-clause-refusals t c =
+pub expr_refusals-returns-in-Malloc-clause-refusals : goal.expr_refusals-returns-in-Malloc-clause-refusals
+expr_refusals-returns-in-Malloc-clause-refusals t c =
     same _ _ _ _ (then _ _ _ _ _ c.unless-in-Malloc.ensures c.malloc_refusals.ensures) (search (rules, the_lemmas))
 
 pub args_refusals-loop-arg-preserved : goal.args_refusals-loop-arg-preserved
 args_refusals-loop-arg-preserved t c =
     let within : c.loop-arg.arg-index < length c.deref-arg-items.result.now = search rules in
     let rest = args_refusals c.args.env.now (args_tree (drop (c.loop-arg.arg-index + 1) c.deref-arg-items.result.now)) in
-    turn _ _ _ _ _ rest c.kind_and_refusals.ensures.refusals
+    turn _ _ _ _ _ rest c.expr_refusals.ensures.refusals
     (at_drop_more
     (λ (xs : List Expr). args_refusals c.args.env.now (args_tree xs)) c.deref-arg-items.result.now c.loop-arg.arg-index _ within
     ∙ ap (λ (x : Expr). expr_refusals c.args.env.now (expr_tree x) ++ rest) (sym c.arg-item.is))
@@ -94,9 +94,9 @@ links_refusals-loop-link-preserved t c =
     (given_seen c.loop-link.given) c.loop-link.null
     (links_tree xs)) c.deref-link-items.result.now c.loop-link.link-index c.link-item.result within
     ∙ (ap (λ (x : Link). parts (link_tree x)) (sym c.link-item.is) ∙ ap parts shown) in
-    let looked : c.unless.new.self ≡ with_refusals c.kind_and_refusals-right.new.first refused = search (rules, the_lemmas) in
+    let looked : c.unless.new.self ≡ with_refusals c.expr_refusals-right.new.first refused = search (rules, the_lemmas) in
     let both : c.unless.new.self ≡ with_refusals c.loop-link.first (expr_refusals c.args.env.now operand ++ refused) =
-    then _ _ _ _ _ c.kind_and_refusals-right.ensures.refusals looked in
+    then _ _ _ _ _ c.expr_refusals-right.ensures.refusals looked in
     let kinds = λ (x : LinkTree). kind_of_chain c.args.env.now
     (kind_of_binary x.op (kind_seen c.loop-link.kind) (kind_of c.args.env.now x.operand)) behind in
     let known : kind_seen c.kind_of_binary-kind.result ≡ kind = search (rules, the_lemmas) in (

@@ -1,7 +1,7 @@
 use Rattle.std.proofs.Common.{◌≡◌, [], ◌∷◌, ◌++◌, length, reverse, sym, ap, subst, ◌∙◌, rules}
 use Rattle.std.proofs.lemmas.List.{length-reverse}
 use Rattle.std.specs.Option.{option_flatten}
-use Rattle.c_types_names.specs.FirstOfName.{first_of}
+use Rattle.c_types_names.specs.NameMap.{named}
 use Rattle.c_types_names.specs.declared.variables.Declared.{Declared}
 use Rattle.c_types_names.specs.Bindings.{AreLinked, binding_in}
 use Rattle.c_types_names.proofs.Binding.{reverse-last, declared_found}
@@ -21,7 +21,7 @@ returns-clause-bound c =
     record {
       linked = subst AreLinked (sym turned) (hidden, c.requires.linked);
       found = λ n.
-          declared_found (first_of c.args.bindings.now) (first_of c.replace.new.firsts) (reverse all) c.args.variable c.len.result
+          declared_found (named c.args.bindings.now) (named c.replace.new.things) (reverse all) c.args.variable c.len.result
           c.requires.found place c.in_ok-replace.ensures.thing c.flatten-hidden.result n
           ∙ ap (λ xs. binding_in xs n) (sym turned);
     }

@@ -1,5 +1,5 @@
 use Rattle.std.proofs.Common.{Bool, cond, ◌∷◌, Result, Ok, Err, OnOk, sym, ap, ◌∙◌}
-use Rattle.c_types_rules.specs.Scopes.{is_hidden, specifier_refusals_in}
+use Rattle.c_types_rules.specs.Scopes.{specifier_refusals_in}
 use Rattle.c_types_rules.specs.Statements.{nothing_found, refuses, ◌⊹◌, locals}
 use Rattle.c_tree.specs.Syntax.{local_tree}
 use Rattle.c_types_stmts.proofs.Adding.{nothing, refused, then, same, ends, ends_same}

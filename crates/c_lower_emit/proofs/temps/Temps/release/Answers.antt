@@ -1,4 +1,4 @@
-use Rattle.std.proofs.Common.{map, sym, ap, ◌∙◌, arith}
+use Rattle.std.proofs.Common.{map, ap, ◌∙◌, arith}
 use Rattle.std.proofs.lemmas.List.Elements.{All-nil}
 use Rattle.c_lower_emit.proofs.FirstTemps.{first_same, unused_again}
 use Rattle.c_lower_emit.proofs.TakenTemps.{released_seen}
@@ -12,7 +12,7 @@ invariant_of-self c = record {
   within = omega arith;
   used = All-nil _;
   first =
-      first_same c.self.inside.firsts c.self.inside.all.items c.release_all.new.temps.items
+      first_same c.self.inside.numbers c.self.inside.all.items c.release_all.new.temps.items
       (ap (map unused) c.release_all.ensures ∙ unused_again c.self.inside.all.items) c.self.invariant.first;
 }
 

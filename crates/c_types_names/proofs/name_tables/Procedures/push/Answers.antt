@@ -3,7 +3,7 @@ use Rattle.std.specs.Str.{bytes_eq}
 use Rattle.c_types_rules.specs.Tables.{procedure_in}
 use Rattle.c_types_rules.specs.Items.{same_bool, definitions}
 use Rattle.c_types_names.specs.Seen.{procedure_seen}
-use Rattle.c_types_names.specs.FirstOfName.{or_first, first_of}
+use Rattle.c_types_names.specs.NameMap.{or_first, named}
 use Rattle.c_types_names.specs.NameTables.{first_procedure, procedure_that}
 use Rattle.c_types_names.proofs.Definitions.{definition_more}
 use Rattle.c_types_names.proofs.Noting.{one_more, part_more}
@@ -14,20 +14,20 @@ unfolding procedure_seen
 invariant_of-self-2 c =
     let all = c.self.inside.all.items in
     let one = c.args.one in
-    let old = first_of c.self.inside.first in
+    let old = named c.self.inside.first in
     let items : c.push.new.self.items ≡ all ++ one ∷ [] = search rules in
-    let more = part_more old (first_of c.set.new.firsts) one.head.now.declarator.name.text c.with_procedure-found.result
+    let more = part_more old (named c.set.new.things) one.head.now.declarator.name.text c.with_procedure-found.result
     c.in_ok-set.ensures.thing in (
       λ n.
           one_more procedure_seen (λ y. bytes_eq y.head.declarator.name.text n) (λ ys. procedure_in ys n) refl (λ y ys. refl) _ _ _ one
           (c.self.invariant.0 n)
           (more (option_map first_procedure) true one
-          (c.with_procedure-found.ensures.first ∙ ap (λ o. or_first (option_map first_procedure o) true one) c.first_of.ensures) n)
+          (c.with_procedure-found.ensures.first ∙ ap (λ o. or_first (option_map first_procedure o) true one) c.named.ensures) n)
           ∙ ap (λ xs. procedure_in (map procedure_seen xs) n) (sym items),
       λ defines n.
           definition_more defines n _ _ all one (c.self.invariant.1 defines n)
           (more (procedure_that defines) (same_bool one.defines defines) one
           (c.with_procedure-found.ensures.that defines
-          ∙ ap (λ o. or_first (procedure_that defines o) (same_bool one.defines defines) one) c.first_of.ensures) n)
+          ∙ ap (λ o. or_first (procedure_that defines o) (same_bool one.defines defines) one) c.named.ensures) n)
           ∙ ap (λ xs. procedure_in (definitions defines (map procedure_seen xs)) n) (sym items),
     )

@@ -1,7 +1,7 @@
 use Rattle.std.proofs.Common.{◌≡◌, [], ◌∷◌, ◌++◌, map, option_map, refl, sym, ap, ◌∙◌, rules}
 use Rattle.std.specs.Str.{bytes_eq}
 use Rattle.c_types_rules.specs.Tables.{structure_in}
-use Rattle.c_types_names.specs.FirstOfName.{first_of, or_first}
+use Rattle.c_types_names.specs.NameMap.{named, or_first}
 use Rattle.c_types_names.specs.NameTables.{the_structure, its_fields}
 use Rattle.c_types_names.specs.Seen.{structure_seen}
 use Rattle.c_types_names.specs.StructFields.{fields_of}
@@ -21,11 +21,11 @@ invariant_of-self-2 c =
           one_more structure_seen (λ y. bytes_eq y.tag n) (λ ys. structure_in ys n) refl (λ y ys. refl) _ _ _ c.args.one
           (c.self.invariant.0 n)
           (ap (option_map the_structure) (c.in_ok-add_first.ensures.thing n)
-          ∙ over the_structure (first_of c.self.inside.first n) (bytes_eq one.tag n) kept)
+          ∙ over the_structure (named c.self.inside.first n) (bytes_eq one.tag n) kept)
           ∙ ap (λ xs. structure_in (map structure_seen xs) n) (sym items),
       λ n.
           ap (option_map its_fields) (c.in_ok-add_first.ensures.thing n)
-          ∙ over its_fields (first_of c.self.inside.first n) (bytes_eq one.tag n) kept
+          ∙ over its_fields (named c.self.inside.first n) (bytes_eq one.tag n) kept
           ∙ ap (λ o. or_first o (bytes_eq one.tag n) kept.fields) (c.self.invariant.1 n)
           ∙ ap (λ known. or_first (option_map fields_of (structure_in (map structure_seen all) n)) (bytes_eq one.tag n) known) fields
           ∙ more_fields (map structure_seen all) one n

@@ -11,13 +11,13 @@ returns-in-None c =
     let len : c.len.result ≡ length c.self.inside.all.items = search rules in
     len
     ∙ sym (length-map c.self.inside.all.items declared_seen)
-    ∙ ap (λ (place : Option ℕ). unwrap_or place (length all)) (sym c.in-None.is ∙ c.first_of.ensures ∙ c.self.invariant c.args.name.now)
+    ∙ ap (λ (place : Option ℕ). unwrap_or place (length all)) (sym c.in-None.is ∙ c.named.ensures ∙ c.self.invariant c.args.name.now)
     ∙ place_found all c.args.name.now
     ∙ ap (λ xs. place_named xs c.args.name.now) c.self.view_is
 
 pub returns-in-Some : goal.returns-in-Some
 returns-in-Some c =
     let all = map declared_seen c.self.inside.all.items in
-    ap (λ (place : Option ℕ). unwrap_or place (length all)) (sym c.in-Some.is ∙ c.first_of.ensures ∙ c.self.invariant c.args.name.now)
+    ap (λ (place : Option ℕ). unwrap_or place (length all)) (sym c.in-Some.is ∙ c.named.ensures ∙ c.self.invariant c.args.name.now)
     ∙ place_found all c.args.name.now
     ∙ ap (λ xs. place_named xs c.args.name.now) c.self.view_is

@@ -1,7 +1,7 @@
 use Rattle.std.proofs.Common.{◌≡◌, [], ◌∷◌, ◌++◌, length, map, sym, ap, ◌∙◌, rules}
 use Rattle.std.proofs.lemmas.List.{length-map}
 use Rattle.std.specs.Str.{bytes_eq}
-use Rattle.c_types_names.specs.FirstOfName.{or_first}
+use Rattle.c_types_names.specs.NameMap.{or_first}
 use Rattle.c_types_names.specs.StructFields.{declared_seen, first_place}
 use Rattle.c_types_names.proofs.Noting.{seen_behind}
 use Rattle.c_types_names.proofs.FieldPlaces.{one_more_place}

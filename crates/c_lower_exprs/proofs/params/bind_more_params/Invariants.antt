@@ -1,14 +1,11 @@
 use Rattle.std.proofs.Common.{◌≡◌, ◌+◌, ◌<◌, min, length, map, drop}
 use Rattle.c_lower_rules.specs.Programs.{bound_params}
 use Rattle.c_tree.specs.Syntax.{param_tree}
-use Rattle.c_types_names.specs.Behind.{behind_params}
 use Rattle.c_lower_exprs.specs.Seen.{stacked}
-use Rattle.c_lower_exprs.proofs.params.add_more_params.Given as goal
+use Rattle.c_lower_exprs.proofs.params.bind_more_params.Given as goal
 
 abbrev pub invariant-loop-param : goal.invariant-loop-param
 invariant-loop-param l = record {
-  env : behind_params l.env (map param_tree (drop l.param-index l.params)) ≡ behind_params l.initial.env (map param_tree l.params);
-  tables : l.env.tables ≡ l.initial.env.tables;
   slot : l.slot ≡ min (l.first + l.param-index) 4294967295;
   bound : l.first + length l.params < 4294967296
       → bound_params (l.first + l.param-index) (map param_tree (drop l.param-index l.params)) (stacked l.bound)
