@@ -113,7 +113,7 @@ impl<'a> Context<'a> {
         self.env.tables()
     }
 
-    /// The type of the variable of the name; int where there is none, which a typed program has no use of.
+    /// The type of the variable of the name; int where there is none, or its type is not known, which never comes in a typed program.
     pub fn kind_of(&self, name: &Name) -> CType<'a>
         ensures { type_seen result ≡ known (kind_of_variable (variable self.now.env name.now)) }
     {

@@ -59,7 +59,7 @@ pub fn tag_of(alloc: Global, kind: CType) -> Result<Name, AllocError>
     }
 }
 
-/// The type of the field that was found behind a pointer of the type, if it is one.
+/// The type of the field that was found behind a pointer of the type; none where the type is no pointer.
 fn kind_behind<'a>(pointer: CType<'a>, found: Option<FieldKind<'a>>) -> Kind<'a>
     ensures { (tables : Tables) → (field : NameTree)
         → option_map field_seen found.entry ≡ field_of tables (tag_of (type_seen pointer.entry)) field.text

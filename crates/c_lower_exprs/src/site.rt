@@ -93,7 +93,7 @@ impl<'c, 'a> Site<'c, 'a> {
         self.context.env()
     }
 
-    /// The type of the variable of the name.
+    /// The type of the variable of the name, as `Context::kind_of` gives it.
     pub fn kind_of(&self, name: &Name) -> CType<'a>
         ensures { type_seen result ≡ known (kind_of_variable (variable self.now.env name.now)) }
     {

@@ -1,5 +1,5 @@
 //! Items: structures, names of types, prototypes and definitions.
-ghost use Rattle.std.specs.Prelude.{◌≡◌, ◌++◌, ◌∷◌, [], false, not, OnOk, map, option_map};
+ghost use Rattle.std.specs.Prelude.{◌≡◌, ◌++◌, false, not, OnOk, map, option_map};
 ghost use Rattle.c_grammar.specs.Readers.{place_of_specifier};
 ghost use Rattle.c_types_rules.specs.Types.{unless as unless_of, UNDECLARED, SECOND, LEFT_OUT};
 ghost use Rattle.c_types_rules.specs.Tables.{joined, declared_by, is_defined, tag_or};
@@ -8,7 +8,6 @@ ghost use Rattle.c_types_rules.specs.Programs as program;
 ghost use Rattle.c_tree.specs.Syntax.{ident_tree, fields_tree, param_tree, params_tree, head_tree, block_tree, item_tree};
 ghost use Rattle.c_types_names.specs.FirstRefusal.{with_refusals};
 ghost use Rattle.c_types_stmts.specs.Adding.{Adds};
-ghost use Rattle.c_types_names.specs.Behind.{behind_params};
 
 use crate::heads::procedure_refusals;
 use crate::structures::{alias_refusals, structure_refusals};

@@ -44,7 +44,7 @@ place_of_kind tables [] n = refl
 place_of_kind tables (first ∷ others) n =
     ap (λ place. if bytes_eq first.declarator.name.text n then 0 else suc place) (place_of_kind tables others n)
 
--- the place of the first field of the name, or how many fields there are, if there are fields
+-- the place of the first field of the name, or how many fields there are; 0 where there is no structure
 abbrev pub place_in_table : Option (List DeclaredTree) → List ℕ → ℕ
 place_in_table None n = 0
 place_in_table (Some fields) n = place_named fields n

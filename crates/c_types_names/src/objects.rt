@@ -205,7 +205,7 @@ pub fn field_kind<'a>(
     }
 }
 
-/// The field at the place, with its type, if there are so many.
+/// The field at the place, with its type, if there is one.
 fn field_at<'a>(
     tables: &Tables<'a>,
     fields: &StructFields<'a>,

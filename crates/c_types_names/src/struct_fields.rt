@@ -68,7 +68,7 @@ impl<'a> StructFields<'a> {
         self.all.as_slice()
     }
 
-    /// The field at the place, if there are so many.
+    /// The field at the place, if there is one.
     pub fn at(&self, place: usize) -> Option<DeclaredField<'a>>
         ensures { option_map declared_seen result ≡ slice_get self.now place }
     {

@@ -91,7 +91,7 @@ fn target<'a>(
     Ok(kind)
 }
 
-/// Whether the operator takes what has the type on its left and, on its right, the expression, which has the other.
+/// Whether the operator takes what has the type `left` on its left, and on its right the expression, whose type is `kind`.
 fn may_assign<'a>(
     env: &Env<'a>,
     op: AssignOp,
