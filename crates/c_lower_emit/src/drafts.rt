@@ -106,137 +106,41 @@ impl Label {
 }
 
 /// The command that puts its value into the slot.
-pub fn put_to(cmd: Cmd, slot: u32) -> Cmd
+pub fn put_to(mut cmd: Cmd, slot: u32) -> Cmd
     ensures { result ≡ put_to cmd slot }
 {
-    match cmd {
-        Cmd::Copy { from, next, .. } => Cmd::Copy {
-            to: slot,
-            from,
-            next,
-        },
-        Cmd::Arith {
-            op,
-            left,
-            right,
-            next,
-            ..
-        } => Cmd::Arith {
-            to: slot,
-            op,
-            left,
-            right,
-            next,
-        },
-        Cmd::Any { ty, next, .. } => Cmd::Any { to: slot, ty, next },
-        Cmd::Load {
-            base,
-            kind,
-            field,
-            next,
-            ..
-        } => Cmd::Load {
-            to: slot,
-            base,
-            kind,
-            field,
-            next,
-        },
-        Cmd::New { kind, next, .. } => Cmd::New {
-            to: slot,
-            kind,
-            next,
-        },
-        Cmd::Call {
-            callee,
-            args,
-            next,
-            ..
-        } => Cmd::Call {
-            to: Some(slot),
-            callee,
-            args,
-            next,
-        },
-        other => other,
+    match &mut cmd {
+        Cmd::Copy { to, .. } => *to = slot,
+        Cmd::Arith { to, .. } => *to = slot,
+        Cmd::Any { to, .. } => *to = slot,
+        Cmd::Load { to, .. } => *to = slot,
+        Cmd::New { to, .. } => *to = slot,
+        Cmd::Call { to, .. } => *to = Some(slot),
+        _ => {}
     }
+    cmd
 }
 
 /// The command with its places to go on at.
-fn aimed(cmd: Cmd, next: u32, other: u32) -> Cmd
-    ensures { result ≡ aimed cmd next other }
+fn aimed(mut cmd: Cmd, place: u32, other: u32) -> Cmd
+    ensures { result ≡ aimed cmd place other }
 {
-    match cmd {
-        Cmd::Copy { to, from, .. } => Cmd::Copy { to, from, next },
-        Cmd::Arith {
-            to,
-            op,
-            left,
-            right,
-            ..
-        } => Cmd::Arith {
-            to,
-            op,
-            left,
-            right,
-            next,
-        },
-        Cmd::Any { to, ty, .. } => Cmd::Any { to, ty, next },
-        Cmd::Load {
-            to,
-            base,
-            kind,
-            field,
-            ..
-        } => Cmd::Load {
-            to,
-            base,
-            kind,
-            field,
-            next,
-        },
-        Cmd::Store {
-            base,
-            kind,
-            field,
-            from,
-            ..
-        } => Cmd::Store {
-            base,
-            kind,
-            field,
-            from,
-            next,
-        },
-        Cmd::New { to, kind, .. } => Cmd::New { to, kind, next },
-        Cmd::Free { base, kind, .. } => Cmd::Free { base, kind, next },
-        Cmd::Call {
-            to,
-            callee,
-            args,
-            ..
-        } => Cmd::Call {
-            to,
-            callee,
-            args,
-            next,
-        },
-        Cmd::Branch {
-            op,
-            pointers,
-            left,
-            right,
-            ..
-        } => Cmd::Branch {
-            op,
-            pointers,
-            left,
-            right,
-            yes: next,
-            no: other,
-        },
-        Cmd::Return { value } => Cmd::Return { value },
+    match &mut cmd {
+        Cmd::Copy { next, .. } => *next = place,
+        Cmd::Arith { next, .. } => *next = place,
+        Cmd::Any { next, .. } => *next = place,
+        Cmd::Load { next, .. } => *next = place,
+        Cmd::Store { next, .. } => *next = place,
+        Cmd::New { next, .. } => *next = place,
+        Cmd::Free { next, .. } => *next = place,
+        Cmd::Call { next, .. } => *next = place,
+        Cmd::Branch { yes, no, .. } => {
+            *yes = place;
+            *no = other;
+        }
+        Cmd::Return { .. } => {}
     }
+    cmd
 }
 
 impl Draft {

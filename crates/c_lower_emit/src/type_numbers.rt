@@ -7,9 +7,8 @@ ghost use Rattle.c_lower_emit.specs.TypeNumbers.{number_in};
 ghost use Rattle.shape_data.specs.declared.program.Ty.{Ty};
 
 use c_types_names::kinds::CType;
-use c_types_names::name_map::{NameMap, named, set};
+use c_types_names::name_map::NameMap;
 use std::alloc::{AllocError, Global};
-use std::collections::BTreeMap;
 
 /// A number for each of some types. Among n structures each call takes O(log n) comparisons of their names.
 pub struct TypeNumbers<'a> {
@@ -37,7 +36,7 @@ impl<'a> TypeNumbers<'a> {
         TypeNumbers {
             int: None,
             void: None,
-            of_tags: BTreeMap::new(alloc),
+            of_tags: NameMap::new(alloc),
         }
     }
 
@@ -47,7 +46,7 @@ impl<'a> TypeNumbers<'a> {
     {
         match kind {
             CType::Int => self.int,
-            CType::Pointer(tag) => named(&self.of_tags, tag),
+            CType::Pointer(tag) => self.of_tags.named(tag),
             CType::Void => self.void,
         }
     }
@@ -63,7 +62,7 @@ impl<'a> TypeNumbers<'a> {
                 self.int = Some(number);
                 Ok(())
             }
-            CType::Pointer(tag) => set(&mut self.of_tags, tag, number),
+            CType::Pointer(tag) => self.of_tags.set(tag, number),
             CType::Void => {
                 self.void = Some(number);
                 Ok(())

@@ -2,7 +2,8 @@
 use Rattle.std.specs.Prelude.{◌≡◌, ℕ, List, [], ◌∷◌, map, reverse, Option, None, Some, if◌then◌else◌}
 use Rattle.std.specs.Str.{bytes_eq}
 use Rattle.std.specs.Option.{option_flatten}
-use Rattle.c_types_names.specs.NameMap.{NameMap, named}
+use Rattle.c_types_names.specs.NameMap.{named}
+use Rattle.c_types_names.specs.declared.name_map.NameMap.{NameMap}
 use Rattle.c_lower_rules.specs.Contexts.{slot_of_bound}
 use Rattle.c_lower_exprs.specs.declared.slots.Bound.{Bound}
 use Rattle.c_lower_exprs.specs.declared.slots.Declared.{Declared}

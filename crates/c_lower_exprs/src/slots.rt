@@ -6,9 +6,8 @@ ghost use Rattle.c_lower_exprs.specs.Slots.{IsBound, slot_found, bound_of};
 
 use c_lower_emit::visible_slots::VisibleSlots;
 use c_tree::Name;
-use c_types_names::name_map::{NameMap, named, replace, set};
+use c_types_names::name_map::NameMap;
 use std::alloc::{AllocError, Global};
-use std::collections::BTreeMap;
 use std::marker::Model;
 
 /// A variable, and its slot.
@@ -63,7 +62,7 @@ impl<'a> Drop for Slots<'a> {
 fn slot_found<'a>(of_names: &SlotsOfNames<'a>, name: &Name) -> Option<u32>
     ensures { result ≡ slot_found of_names.now name.now }
 {
-    named(of_names, name)?
+    of_names.named(name)?
 }
 
 /// Forgets the last variable.
@@ -78,7 +77,7 @@ fn forget_last<'a>(
     ensures items { all.new.items ≡ take (length all.old.items - 1) all.old.items }
 {
     let last = all.pop().unwrap();
-    set(of_names, last.bound.name, last.hidden).unwrap();
+    of_names.set(last.bound.name, last.hidden).unwrap();
     visible.pop();
 }
 
@@ -112,7 +111,7 @@ fn declare<'a>(
 {
     all.reserve(1)?;
     visible.push(bound.slot)?;
-    match replace(of_names, bound.name, Some(bound.slot)) {
+    match of_names.replace(bound.name, Some(bound.slot)) {
         Ok(old) => {
             let hidden = old.flatten();
             all.push(Declared { bound, hidden }).unwrap();
@@ -132,7 +131,7 @@ impl<'a> Slots<'a> {
     {
         Slots {
             all: Vec::new(alloc),
-            of_names: BTreeMap::new(alloc),
+            of_names: NameMap::new(alloc),
             visible: VisibleSlots::new(alloc),
         }
     }

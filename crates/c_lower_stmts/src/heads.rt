@@ -88,7 +88,7 @@ pub fn once<'a>(
 {
     let begin = Label::at(out.len());
     performed(&Site::at(context, place), one, out)?;
-    Ok(Laid { begin, locals })
+    Ok(Laid::new(begin, locals))
 }
 
 /// A simple statement that is the step of a `for`.
@@ -117,10 +117,7 @@ pub fn step<'a>(
         context.now locals laid out.old out.new) }
 {
     match one {
-        None => Ok(Laid {
-            begin: Label::Next,
-            locals,
-        }),
+        None => Ok(Laid::new(Label::Next, locals)),
         Some(one) => stepped(context, locals, one, out),
     }
 }
@@ -140,7 +137,7 @@ pub fn return_at<'a>(
 {
     let begin = Label::at(out.len());
     returned(&Site::at(context, place), value, out)?;
-    Ok(Laid { begin, locals })
+    Ok(Laid::new(begin, locals))
 }
 
 /// A declaration of locals, whose nodes have the line of the place.
@@ -160,7 +157,7 @@ pub fn declared<'a>(
     let line = context.line_of(place);
     out.release();
     let locals = declaration(context, line, locals, one, out)?;
-    Ok(Laid { begin, locals })
+    Ok(Laid::new(begin, locals))
 }
 
 /// What a `for` at the place begins with.
@@ -177,10 +174,7 @@ pub fn init<'a>(
         context.old locals context.new laid out.old out.new) }
 {
     match one {
-        ForInit::Empty => Ok(Laid {
-            begin: Label::Next,
-            locals,
-        }),
+        ForInit::Empty => Ok(Laid::new(Label::Next, locals)),
         ForInit::Local(one) => declared(context, locals, place, one, out),
         ForInit::Simple(one) => once(context, locals, place, one, out),
     }

@@ -34,10 +34,7 @@ fn stmt<'a>(
 {
     match one {
         Stmt::Block(inner) => block(context, locals, inner, out),
-        Stmt::Empty(_) => Ok(Laid {
-            begin: Label::Next,
-            locals,
-        }),
+        Stmt::Empty(_) => Ok(Laid::new(Label::Next, locals)),
         Stmt::Local(one) => declared(context, locals, place_of_local(one), one, out),
         Stmt::Simple(one) => once(context, locals, place_of_simple(one), one, out),
         Stmt::If {
@@ -53,18 +50,12 @@ fn stmt<'a>(
             match other {
                 None => {
                     choose(from, past, first.begin, Label::Next, out);
-                    Ok(Laid {
-                        begin: Label::at(from),
-                        locals: first.locals,
-                    })
+                    Ok(Laid::new(Label::at(from), first.locals))
                 }
                 Some(other) => {
                     let second = nested(context, first.locals, other, out)?;
                     choose(from, past, first.begin, second.begin, out);
-                    Ok(Laid {
-                        begin: Label::at(from),
-                        locals: second.locals,
-                    })
+                    Ok(Laid::new(Label::at(from), second.locals))
                 }
             }
         }
@@ -77,14 +68,8 @@ fn stmt<'a>(
             step,
             body,
         } => for_loop(context, locals, body, *place, init, test, step, out),
-        Stmt::Break(_) => Ok(Laid {
-            begin: Label::Breaks,
-            locals,
-        }),
-        Stmt::Continue(_) => Ok(Laid {
-            begin: Label::Continues,
-            locals,
-        }),
+        Stmt::Break(_) => Ok(Laid::new(Label::Breaks, locals)),
+        Stmt::Continue(_) => Ok(Laid::new(Label::Continues, locals)),
         Stmt::Return(place, value) => return_at(context, locals, *place, value, out),
     }
 }
@@ -110,10 +95,7 @@ fn while_loop<'a>(
     let laid = nested(context, locals, body, out)?;
     let past = out.len();
     close(opened, from, past, laid.begin, Label::Next, out)?;
-    Ok(Laid {
-        begin: Label::at(head),
-        locals: laid.locals,
-    })
+    Ok(Laid::new(Label::at(head), laid.locals))
 }
 
 /// A `do`, with the test behind its body (C11 6.8.5.2).
@@ -135,10 +117,7 @@ fn do_loop<'a>(
     let from = out.len();
     tested(context, test, out)?;
     let begin = close_behind(opened, from, laid.begin, out)?;
-    Ok(Laid {
-        begin,
-        locals: laid.locals,
-    })
+    Ok(Laid::new(begin, laid.locals))
 }
 
 /// A `for` (C11 6.8.5.3), in a scope of its own.
@@ -172,10 +151,7 @@ fn for_loop<'a>(
     let label = Label::at(head);
     out.lead_next(start, head, label);
     context.leave(scope);
-    Ok(Laid {
-        begin: begun.begin.followed_by(label),
-        locals: stepped.locals,
-    })
+    Ok(Laid::new(begun.begin.followed_by(label), stepped.locals))
 }
 
 /// A statement in a scope of its own.
@@ -230,18 +206,12 @@ pub fn stmts<'a>(
         context.old locals context.new laid out.old out.new) }
 {
     let start = out.len();
-    let mut laid = Laid {
-        begin: Label::Next,
-        locals,
-    };
+    let mut laid = Laid::new(Label::Next, locals);
     for one in ones {
         let past = out.len();
         let next = stmt(context, laid.locals, one, out)?;
         out.lead_next(start, past, next.begin);
-        laid = Laid {
-            begin: laid.begin.followed_by(next.begin),
-            locals: next.locals,
-        };
+        laid = Laid::new(laid.begin.followed_by(next.begin), next.locals);
     }
     Ok(laid)
 }

@@ -7,3 +7,4 @@ pub mod Stars
 pub mod Fields
 pub mod FieldPlaces
 pub mod FirstRefusals
+pub mod Digests

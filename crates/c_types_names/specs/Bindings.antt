@@ -2,7 +2,8 @@
 use Rattle.std.specs.Prelude.{◌≡◌, ℕ, List, [], ◌∷◌, length, reverse, Option, None, Some, if◌then◌else◌}
 use Rattle.std.specs.Str.{bytes_eq}
 use Rattle.std.specs.Option.{option_flatten}
-use Rattle.c_types_names.specs.NameMap.{NameMap, named}
+use Rattle.c_types_names.specs.NameMap.{named}
+use Rattle.c_types_names.specs.declared.name_map.NameMap.{NameMap}
 use Rattle.c_types_names.specs.declared.variables.Variable.{Variable}
 use Rattle.c_types_names.specs.declared.variables.Binding.{Binding}
 use Rattle.c_types_names.specs.declared.variables.Declared.{Declared}

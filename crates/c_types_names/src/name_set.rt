@@ -3,10 +3,9 @@ ghost use Rattle.std.specs.Prelude.{◌≡◌, ◌||◌, ℕ, List, false, OnOk}
 ghost use Rattle.std.specs.Str.{bytes_eq};
 ghost use Rattle.c_types_names.specs.NameSets.{has};
 
-use crate::name_map::{NameMap, named, set};
+use crate::name_map::NameMap;
 use c_tree::Name;
 use std::alloc::{AllocError, Global};
-use std::collections::BTreeMap;
 
 /// A set of names.
 #[derive(Drop)]
@@ -20,7 +19,7 @@ impl<'a> NameSet<'a> {
         ensures { (n : List ℕ) → has result n ≡ false }
     {
         NameSet {
-            names: BTreeMap::new(alloc),
+            names: NameMap::new(alloc),
         }
     }
 
@@ -28,13 +27,13 @@ impl<'a> NameSet<'a> {
     pub fn contains(&self, name: &Name) -> bool
         ensures { result ≡ has self.now name.now }
     {
-        named(&self.names, name).is_some()
+        self.names.named(name).is_some()
     }
 
     /// With one more name.
     pub fn add(&mut self, name: &'a Name) -> Result<(), AllocError>
         ensures { OnOk result ((n : List ℕ) → has self.new n ≡ (bytes_eq name.now n || has self.old n)) }
     {
-        set(&mut self.names, name, true)
+        self.names.set(name, true)
     }
 }

@@ -9,11 +9,10 @@ ghost use Rattle.c_types_names.specs.Seen.{structure_seen, alias_seen, procedure
 ghost use Rattle.c_types_names.specs.StructFields.{fields_of};
 
 use crate::declared::{Alias, Procedure, Structure};
-use crate::name_map::{NameMap, add_first, named, set};
+use crate::name_map::NameMap;
 use crate::struct_fields::StructFields;
 use c_tree::Name;
 use std::alloc::{AllocError, Global};
-use std::collections::BTreeMap;
 use std::marker::Model;
 
 /// The first structure of a tag, and its fields.
@@ -55,7 +54,7 @@ impl<'a> Structures<'a> {
     {
         Structures {
             all: Vec::new(alloc),
-            first: BTreeMap::new(alloc),
+            first: NameMap::new(alloc),
         }
     }
 
@@ -70,7 +69,7 @@ impl<'a> Structures<'a> {
     pub fn first(&self, tag: &Name) -> Option<Structure<'a>>
         ensures { option_map structure_seen result ≡ structure_in self.now tag.now }
     {
-        match self.first.get(tag.as_bytes()) {
+        match self.first.get(tag) {
             None => None,
             Some(found) => Some(found.structure),
         }
@@ -80,7 +79,7 @@ impl<'a> Structures<'a> {
     pub fn fields(&self, tag: &Name) -> Option<&StructFields<'a>>
         ensures { option_copied result ≡ option_map fields_of (structure_in self.now tag.now) }
     {
-        match self.first.get(tag.as_bytes()) {
+        match self.first.get(tag) {
             None => None,
             Some(found) => Some(&found.fields),
         }
@@ -98,7 +97,7 @@ impl<'a> Structures<'a> {
             structure: one,
             fields,
         };
-        add_first(&mut self.first, one.tag, found)?;
+        self.first.add_first(one.tag, found)?;
         self.all.push(one).unwrap();
         Ok(())
     }
@@ -131,7 +130,7 @@ impl<'a> Aliases<'a> {
     {
         Aliases {
             all: Vec::new(alloc),
-            first: BTreeMap::new(alloc),
+            first: NameMap::new(alloc),
         }
     }
 
@@ -139,7 +138,7 @@ impl<'a> Aliases<'a> {
     pub fn first(&self, name: &Name) -> Option<Alias<'a>>
         ensures { option_map alias_seen result ≡ alias_in self.now name.now }
     {
-        named(&self.first, name)
+        self.first.named(name)
     }
 
     /// With one more name.
@@ -147,7 +146,7 @@ impl<'a> Aliases<'a> {
         ensures { OnOk result (self.new ≡ self.old ++ alias_seen one.entry ∷ []) }
     {
         self.all.reserve(1)?;
-        add_first(&mut self.first, one.name, one)?;
+        self.first.add_first(one.name, one)?;
         self.all.push(one).unwrap();
         Ok(())
     }
@@ -237,7 +236,7 @@ impl<'a> Procedures<'a> {
     {
         Procedures {
             all: Vec::new(alloc),
-            first: BTreeMap::new(alloc),
+            first: NameMap::new(alloc),
         }
     }
 
@@ -245,7 +244,7 @@ impl<'a> Procedures<'a> {
     pub fn first(&self, name: &Name) -> Option<Procedure<'a>>
         ensures { option_map procedure_seen result ≡ procedure_in self.now name.now }
     {
-        match named(&self.first, name) {
+        match self.first.named(name) {
             None => None,
             Some(found) => Some(found.first),
         }
@@ -255,7 +254,7 @@ impl<'a> Procedures<'a> {
     pub fn definition(&self, name: &Name, defines: bool) -> Option<Procedure<'a>>
         ensures { option_map procedure_seen result ≡ procedure_in (definitions defines self.now) name.now }
     {
-        procedure_that(defines, named(&self.first, name))
+        procedure_that(defines, self.first.named(name))
     }
 
     /// With one more procedure.
@@ -264,8 +263,8 @@ impl<'a> Procedures<'a> {
     {
         self.all.reserve(1)?;
         let name = &one.head.declarator.name.text;
-        let found = with_procedure(named(&self.first, name), one);
-        set(&mut self.first, name, found)?;
+        let found = with_procedure(self.first.named(name), one);
+        self.first.set(name, found)?;
         self.all.push(one).unwrap();
         Ok(())
     }

@@ -9,10 +9,9 @@ ghost use Rattle.c_types_names.specs.StructFields.{
   place_named,
 };
 
-use crate::name_map::{NameMap, add_first, named};
+use crate::name_map::NameMap;
 use c_tree::{Declarator, FieldDecl, Name, TypeSpecifier};
 use std::alloc::{AllocError, Global};
-use std::collections::BTreeMap;
 use std::marker::Model;
 
 /// A field: the specifier of its declaration, and its declarator.
@@ -57,7 +56,7 @@ impl<'a> StructFields<'a> {
     {
         StructFields {
             all: Vec::new(alloc),
-            places: BTreeMap::new(alloc),
+            places: NameMap::new(alloc),
         }
     }
 
@@ -79,7 +78,7 @@ impl<'a> StructFields<'a> {
     pub fn place(&self, name: &Name) -> usize
         ensures { result ≡ place_named self.now name.now }
     {
-        match named(&self.places, name) {
+        match self.places.named(name) {
             None => self.all.len(),
             Some(place) => place,
         }
@@ -91,7 +90,7 @@ impl<'a> StructFields<'a> {
     {
         self.all.reserve(1)?;
         let place = self.all.len();
-        add_first(&mut self.places, &one.declarator.name.text, place)?;
+        self.places.add_first(&one.declarator.name.text, place)?;
         self.all.push(one).unwrap();
         Ok(())
     }

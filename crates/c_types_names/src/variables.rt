@@ -5,10 +5,9 @@ ghost use Rattle.c_types_names.specs.Seen.{variable_seen, stacked};
 ghost use Rattle.c_types_names.specs.Bindings.{IsBound, bound_of, variable_of};
 
 use crate::kinds::Kind;
-use crate::name_map::{NameMap, named, replace, set};
+use crate::name_map::NameMap;
 use c_tree::Name;
 use std::alloc::{AllocError, Global};
-use std::collections::BTreeMap;
 use std::marker::Model;
 
 /// A variable and its type.
@@ -68,7 +67,7 @@ impl<'a> Drop for Variables<'a> {
 fn binding_of<'a>(bindings: &Bindings<'a>, name: &Name) -> Option<Binding<'a>>
     ensures { result ≡ bound_of bindings.now name.now }
 {
-    named(bindings, name)?
+    bindings.named(name)?
 }
 
 /// Forgets the last variable.
@@ -79,7 +78,7 @@ fn forget_last<'a>(all: &mut Vec<Declared<'a>>, bindings: &mut Bindings<'a>)
     ensures items { all.new.items ≡ take (length all.old.items - 1) all.old.items }
 {
     let last = all.pop().unwrap();
-    set(bindings, last.variable.name, last.hidden).unwrap();
+    bindings.set(last.variable.name, last.hidden).unwrap();
 }
 
 /// Forgets all variables but the first ones.
@@ -109,7 +108,7 @@ fn declare<'a>(
         variable,
         place: all.len(),
     };
-    let hidden = replace(bindings, variable.name, Some(binding))?.flatten();
+    let hidden = bindings.replace(variable.name, Some(binding))?.flatten();
     all.push(Declared { variable, hidden }).unwrap();
     Ok(())
 }
@@ -121,7 +120,7 @@ impl<'a> Variables<'a> {
     {
         Variables {
             all: Vec::new(alloc),
-            bindings: BTreeMap::new(alloc),
+            bindings: NameMap::new(alloc),
         }
     }
 

@@ -19,7 +19,7 @@ returns-in-Ok-clause-bound c =
     record {
       linked = subst AreLinked (sym turned) (hidden, c.requires.linked);
       found = λ n.
-          declared_found (named c.args.of_names.now) (named c.replace.new.things) (reverse all) c.args.bound c.requires.found
+          declared_found (named c.args.of_names.now) (named c.replace.new.self) (reverse all) c.args.bound c.requires.found
           c.in-Ok.ensures.thing c.flatten-hidden.result n
           ∙ ap (λ xs. slot_among xs n) (sym turned);
       listed =

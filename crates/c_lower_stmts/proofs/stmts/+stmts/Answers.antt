@@ -1,6 +1,7 @@
-use Rattle.std.proofs.Common.{◌≡◌, ◌<◌, ℕ, None, Some, length, map, take, option_map, refl, sym, ap, ◌∙◌, subst, rules}
+use Rattle.std.proofs.Common.{◌≡◌, ◌<◌, ◌+◌, ℕ, None, Some, length, map, take, option_map, refl, sym, ap, ◌∙◌, subst, rules}
 use Rattle.std.proofs.lemmas.Result.{IfOk-weaker}
 use Rattle.c_grammar.specs.Trees as tree
+use Rattle.c_tokens.specs.declared.places.Place.{Place}
 use Rattle.c_tree.specs.declared.stmts.Stmt.TheViews.{If}
 use Rattle.c_tree.specs.Syntax.{stmt_tree, stmts_of, stmts_tree, expr_tree, simple_tree, for_step_tree, local_tree, init_tree}
 use Rattle.c_tree.proofs.Branches.{if_else}
@@ -11,7 +12,7 @@ use Rattle.c_lower_rules.specs.Numbers.{StmtHasIntNumbers, StmtsHaveIntNumbers}
 use Rattle.c_lower_emit.specs.declared.drafts.Label.TheVariants.{Next, Breaks, Continues}
 use Rattle.c_lower_emit.specs.Emitting.{EmitsTested}
 use Rattle.c_lower_exprs.specs.Contexts.{on_line, IsWithin}
-use Rattle.c_lower_stmts.specs.Laying.{EmitsLowered, EmitsWithin}
+use Rattle.c_lower_stmts.specs.Laying.{EmitsLowered, EmitsStmt, EmitsWithin}
 use Rattle.c_lower_stmts.specs.Standing.{state}
 use Rattle.c_lower_stmts.proofs.Branching.{jumped, if_laid, if_else_laid}
 use Rattle.c_lower_stmts.proofs.Rounds.{while_laid, do_laid, for_laid}
@@ -22,28 +23,37 @@ use Rattle.c_tree.proofs.Trees.{local_is, simple_is, break_is, continue_is, retu
 use Rattle.c_lower_stmts.proofs.stmts.+stmts.Goals as goal
 
 pub stmt-returns-in-Empty-clause-laid : goal.stmt-returns-in-Empty-clause-laid
-stmt-returns-in-Empty-clause-laid t c = λ numbers line.
+stmt-returns-in-Empty-clause-laid t c =
+    subst (λ laid. EmitsStmt (stmt_tree c.args.one.now) c.args.context.now c.args.locals
+    c.args.context.now laid c.args.out.now c.args.out.now)
+    (sym c.new.ensures) (λ numbers line.
     let tree_is = ap stmt_tree c.in-Empty.is ∙ empty_is c.in-Empty.field-0 in
     subst (λ s. EmitsLowered
     (stmt s (state (on_line c.args.context.now line) c.args.locals c.args.out.now)) c.args.context.now c.args.locals c.args.context.now
     (record { begin = Next; locals = c.args.locals }) c.args.out.now c.args.out.now)
-    (sym tree_is) (jumped c.args.context.now line c.args.locals (λ exits. exits.next) Next c.args.out.now (λ p. refl))
+    (sym tree_is) (jumped c.args.context.now line c.args.locals (λ exits. exits.next) Next c.args.out.now (λ p. refl)))
 
 pub stmt-returns-in-Break-clause-laid : goal.stmt-returns-in-Break-clause-laid
-stmt-returns-in-Break-clause-laid t c = λ numbers line.
+stmt-returns-in-Break-clause-laid t c =
+    subst (λ laid. EmitsStmt (stmt_tree c.args.one.now) c.args.context.now c.args.locals
+    c.args.context.now laid c.args.out.now c.args.out.now)
+    (sym c.new-in-Break.ensures) (λ numbers line.
     let tree_is = ap stmt_tree c.in-Break.is ∙ break_is c.in-Break.field-0 in
     subst (λ s. EmitsLowered
     (stmt s (state (on_line c.args.context.now line) c.args.locals c.args.out.now)) c.args.context.now c.args.locals c.args.context.now
     (record { begin = Breaks; locals = c.args.locals }) c.args.out.now c.args.out.now)
-    (sym tree_is) (jumped c.args.context.now line c.args.locals (λ exits. exits.breaks) Breaks c.args.out.now (λ p. refl))
+    (sym tree_is) (jumped c.args.context.now line c.args.locals (λ exits. exits.breaks) Breaks c.args.out.now (λ p. refl)))
 
 pub stmt-returns-in-Continue-clause-laid : goal.stmt-returns-in-Continue-clause-laid
-stmt-returns-in-Continue-clause-laid t c = λ numbers line.
+stmt-returns-in-Continue-clause-laid t c =
+    subst (λ laid. EmitsStmt (stmt_tree c.args.one.now) c.args.context.now c.args.locals
+    c.args.context.now laid c.args.out.now c.args.out.now)
+    (sym c.new-in-Continue.ensures) (λ numbers line.
     let tree_is = ap stmt_tree c.in-Continue.is ∙ continue_is c.in-Continue.field-0 in
     subst (λ s. EmitsLowered
     (stmt s (state (on_line c.args.context.now line) c.args.locals c.args.out.now)) c.args.context.now c.args.locals c.args.context.now
     (record { begin = Continues; locals = c.args.locals }) c.args.out.now c.args.out.now)
-    (sym tree_is) (jumped c.args.context.now line c.args.locals (λ exits. exits.continues) Continues c.args.out.now (λ p. refl))
+    (sym tree_is) (jumped c.args.context.now line c.args.locals (λ exits. exits.continues) Continues c.args.out.now (λ p. refl)))
 
 pub stmt-returns-in-Local-clause-laid : goal.stmt-returns-in-Local-clause-laid
 stmt-returns-in-Local-clause-laid t c =
@@ -83,7 +93,10 @@ stmt-returns-in-Return-clause-laid t c =
     (is (subst StmtHasIntNumbers tree_is numbers) line)) c.return_at.ensures
 
 pub stmt-returns-in-None-clause-laid : goal.stmt-returns-in-None-clause-laid
-stmt-returns-in-None-clause-laid t c = λ numbers line.
+stmt-returns-in-None-clause-laid t c =
+    subst (λ laid. EmitsStmt (stmt_tree c.args.one.now) c.args.context.now c.args.locals
+    c.nested.new.context laid c.args.out.now c.choose.new.out)
+    (sym c.new-in-None.ensures) (λ numbers line.
     let s = c.in-If in
     let whole : c.args.one.now ≡ If s.place s.test s.body None = s.is ∙ ap (λ o. If s.place s.test s.body o) c.in-None.is in
     let tree_is = ap stmt_tree whole ∙ if_is s.place s.test s.body in
@@ -100,10 +113,13 @@ stmt-returns-in-None-clause-laid t c = λ numbers line.
     (if_laid c.args.context.now line c.args.locals c.len-from.result c.len-past.result s.place (expr_tree s.test)
     (stmt_tree s.body.value) c.in_ok-first-in-If.first c.at.result c.args.out.now c.tested.new.out
     c.nested.new.out c.choose.new.out c.len-from.ensures c.len-past.ensures c.at.ensures
-    (c.in_ok-tested-in-If.ensures n.0 line c.args.locals) (c.in_ok-first-in-If.ensures.laid n.1 line) c.choose.ensures))
+    (c.in_ok-tested-in-If.ensures n.0 line c.args.locals) (c.in_ok-first-in-If.ensures.laid n.1 line) c.choose.ensures)))
 
 pub stmt-returns-in_ok-second-in-Some-clause-laid : goal.stmt-returns-in_ok-second-in-Some-clause-laid
-stmt-returns-in_ok-second-in-Some-clause-laid t c = λ numbers line.
+stmt-returns-in_ok-second-in-Some-clause-laid t c =
+    subst (λ laid. EmitsStmt (stmt_tree c.args.one.now) c.args.context.now c.args.locals
+    c.nested-in-Some.new.context laid c.args.out.now c.choose-in-Some.new.out)
+    (sym c.new-in-Some.ensures) (λ numbers line.
     let s = c.in-If in
     let whole : c.args.one.now ≡ If s.place s.test s.body (Some c.in-Some.other) =
     s.is ∙ ap (λ o. If s.place s.test s.body o) c.in-Some.is in
@@ -136,7 +152,7 @@ stmt-returns-in_ok-second-in-Some-clause-laid t c = λ numbers line.
     (stmt_tree c.in-Some.other.value) first second c.at-in-Some.result
     c.args.out.now c.tested.new.out c.nested.new.out c.nested-in-Some.new.out c.choose-in-Some.new.out c.len-from.ensures c.len-past.ensures
     c.at-in-Some.ensures
-    (c.in_ok-tested-in-If.ensures n.0 line c.args.locals) (c.in_ok-first-in-If.ensures.laid n.1 line) two c.choose-in-Some.ensures))
+    (c.in_ok-tested-in-If.ensures n.0 line c.args.locals) (c.in_ok-first-in-If.ensures.laid n.1 line) two c.choose-in-Some.ensures)))
 
 pub stmt-returns-in-While-clause-laid : goal.stmt-returns-in-While-clause-laid
 stmt-returns-in-While-clause-laid t c =
@@ -175,7 +191,10 @@ stmt-returns-in-For-clause-laid t c =
     (is (subst StmtHasIntNumbers tree_is numbers) line)) c.for_loop.ensures.laid
 
 pub while_loop-returns-clause-laid : goal.while_loop-returns-clause-laid
-while_loop-returns-clause-laid t c = λ place n line.
+while_loop-returns-clause-laid t c =
+    subst (λ laid. (place : Place) → EmitsStmt (tree.Stmt.While place (expr_tree c.args.test.now) (stmt_tree c.args.body.now.value))
+    c.args.context.now c.args.locals c.nested.new.context laid c.args.out.now c.close.new.out)
+    (sym c.new.ensures) (λ place n line.
     let test = expr_tree c.args.test.now in
     let body = stmt_tree c.args.body.now.value in
     let opened = c.in_ok-opened in
@@ -190,10 +209,13 @@ while_loop-returns-clause-laid t c = λ place n line.
     c.at.result c.args.out.now c.tested.new.out c.nested.new.out c.close.new.out opened.ensures.head opened.ensures.index
     opened.ensures.visible c.len-from.ensures
     c.len-past.ensures c.at.ensures (c.in_ok-tested.ensures n.0 line c.args.locals)
-    (c.in_ok-laid.ensures.laid n.1 line) c.in_ok-close.ensures)
+    (c.in_ok-laid.ensures.laid n.1 line) c.in_ok-close.ensures))
 
 pub do_loop-returns-clause-laid : goal.do_loop-returns-clause-laid
-do_loop-returns-clause-laid t c = λ place n line.
+do_loop-returns-clause-laid t c =
+    subst (λ laid. (place : Place) → EmitsStmt (tree.Stmt.DoWhile place (stmt_tree c.args.body.now.value) (expr_tree c.args.test.now))
+    c.args.context.now c.args.locals c.nested.new.context laid c.args.out.now c.close_behind.new.out)
+    (sym c.new.ensures) (λ place n line.
     let test = expr_tree c.args.test.now in
     let body = stmt_tree c.args.body.now.value in
     let opened = c.in_ok-opened in
@@ -214,10 +236,14 @@ do_loop-returns-clause-laid t c = λ place n line.
     body first
     c.in_ok-begin.begin c.args.out.now c.nested.new.out c.tested.new.out c.close_behind.new.out opened.ensures.head opened.ensures.index
     opened.ensures.visible
-    c.len-from.ensures (c.in_ok-laid.ensures.laid n.0 line) cond c.in_ok-begin.ensures)
+    c.len-from.ensures (c.in_ok-laid.ensures.laid n.0 line) cond c.in_ok-begin.ensures))
 
 pub for_loop-returns-clause-laid : goal.for_loop-returns-clause-laid
-for_loop-returns-clause-laid t c = λ n line.
+for_loop-returns-clause-laid t c =
+    subst (λ laid. EmitsStmt (tree.Stmt.For c.args.place (init_tree c.args.first.now) (option_map expr_tree c.args.test.now)
+    (option_map for_step_tree c.args.last.now) (stmt_tree c.args.body.now.value))
+    c.args.context.now c.args.locals c.leave.new.self laid c.args.out.now c.lead_next.new.self)
+    (sym c.new.ensures) (λ n line.
     let place = c.args.place in
     let starts = init_tree c.args.first.now in
     let test = option_map expr_tree c.args.test.now in
@@ -263,7 +289,7 @@ for_loop-returns-clause-laid t c = λ n line.
     opened.ensures.visible c.len-from.ensures
     c.len-past.ensures c.at-label.ensures inits (λ l. c.in_ok-tested_for.ensures n.1 l first.locals)
     (c.in_ok-laid.ensures.laid n.3) steps c.in_ok-close.ensures
-    c.lead_next.ensures c.followed_by.ensures)
+    c.lead_next.ensures c.followed_by.ensures))
 
 pub stmts-loop-one-preserved : goal.stmts-loop-one-preserved
 stmts-loop-one-preserved t c =
@@ -273,7 +299,11 @@ stmts-loop-one-preserved t c =
     let same : c.args.ones.now.items ≡ items = search rules in
     record {
       within = within_then c.args.context.now c.loop-one.context c.stmt.new.context c.loop-one.invariant.within c.in_ok-next.ensures.within;
-      laid = λ numbers line.
+      laid =
+          subst (λ laid. StmtsHaveIntNumbers (stmts_tree c.args.ones.now.items) → (line : ℕ) → EmitsLowered
+          (stmts (stmts_of (map stmt_tree (take (i + 1) items))) (state (on_line c.args.context.now line) c.args.locals c.args.out.now))
+          c.args.context.now c.args.locals c.stmt.new.context laid c.args.out.now c.lead_next.new.self)
+          (sym c.new-laid-in-loop-one.ensures) (λ numbers line.
           let each = numbers_at items i c.one-item.result lt (subst (λ xs. StmtsHaveIntNumbers (stmts_tree xs)) same numbers) in
           let this = subst (λ x. StmtHasIntNumbers (stmt_tree x)) (sym c.one-item.is) each in
           subst (λ xs. EmitsLowered
@@ -286,5 +316,5 @@ stmts-loop-one-preserved t c =
           (map stmt_tree (take i items)) (stmt_tree c.one-item.result) c.loop-one.laid c.in_ok-next.next
           c.followed_by.result c.args.out.now c.loop-one.out c.stmt.new.out c.lead_next.new.self c.loop-one.invariant.within
           c.len-start.ensures c.len-past.ensures (c.loop-one.invariant.laid numbers line)
-          (λ l. c.in_ok-next.ensures.laid this l) c.lead_next.ensures c.followed_by.ensures);
+          (λ l. c.in_ok-next.ensures.laid this l) c.lead_next.ensures c.followed_by.ensures));
     }

@@ -21,7 +21,7 @@ returns-clause-bound c =
     record {
       linked = subst AreLinked (sym turned) (hidden, c.requires.linked);
       found = λ n.
-          declared_found (named c.args.bindings.now) (named c.replace.new.things) (reverse all) c.args.variable c.len.result
+          declared_found (named c.args.bindings.now) (named c.replace.new.self) (reverse all) c.args.variable c.len.result
           c.requires.found place c.in_ok-replace.ensures.thing c.flatten-hidden.result n
           ∙ ap (λ xs. binding_in xs n) (sym turned);
     }

@@ -25,7 +25,7 @@ returns-clause-bound c =
     let linked : AreLinked (last ∷ reverse rest) = subst AreLinked turned c.requires.bound.linked in
     record {
       linked = linked.1;
-      found = forgotten_found (named c.args.bindings.now) (named c.set.new.things) (reverse rest) last
+      found = forgotten_found (named c.args.bindings.now) (named c.set.new.self) (reverse rest) last
           (λ n. c.requires.bound.found n ∙ ap (λ xs. binding_in xs n) turned) (linked.0)
           (from_ok c.set.result c.unwrap.result _ c.unwrap.ensures c.set.ensures.thing);
     }

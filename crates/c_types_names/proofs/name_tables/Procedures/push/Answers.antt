@@ -16,7 +16,7 @@ invariant_of-self-2 c =
     let one = c.args.one in
     let old = named c.self.inside.first in
     let items : c.push.new.self.items ≡ all ++ one ∷ [] = search rules in
-    let more = part_more old (named c.set.new.things) one.head.now.declarator.name.text c.with_procedure-found.result
+    let more = part_more old (named c.set.new.self) one.head.now.declarator.name.text c.with_procedure-found.result
     c.in_ok-set.ensures.thing in (
       λ n.
           one_more procedure_seen (λ y. bytes_eq y.head.declarator.name.text n) (λ ys. procedure_in ys n) refl (λ y ys. refl) _ _ _ one

@@ -12,7 +12,7 @@ pub returns-in-Some : goal.returns-in-Some
 returns-in-Some c =
     let first = c.self.inside.first in
     let tag = c.args.tag.now in
-    let found : option_copied c.get.result ≡ named first tag = c.get.ensures.value ∙ ap (named first) c.as_bytes.ensures.value in
+    let found : option_copied c.get.result ≡ named first tag = c.get.ensures in
     ap (λ (o : Option (Bor FirstStructure)). option_map structure_seen (option_map the_structure (option_copied o))) (sym c.in-Some.is)
     ∙ ap (λ o. option_map structure_seen (option_map the_structure o)) found
     ∙ c.self.invariant.0 tag
