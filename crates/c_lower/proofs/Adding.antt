@@ -1,5 +1,5 @@
 -- What is found in one part and then in another.
-use Rattle.std.proofs.Common.{◌≡◌, ℕ, ◌+◌, ◌<◌, List, [], ◌∷◌, ◌++◌, length, drop, get_or, Result, Ok, Err, OnOk, append_assoc, sym, ap}
+use Rattle.std.proofs.Common.{◌≡◌, ℕ, ◌+◌, ◌<◌, List, [], ◌∷◌, ◌++◌, length, drop, get_or, append_assoc, sym, ap}
 use Rattle.std.proofs.Common.{◌∙◌, subst}
 use Rattle.std.proofs.lemmas.List.{append-nil, at_drop_more}
 use Rattle.c_tokens.specs.declared.places.Refusal.{Refusal}
@@ -32,11 +32,6 @@ then {one = one} {other = other} {a = a} {b = b} {c = c} first next = record {
 -- the same findings
 pub same : {one : Part} {a b : Building} → Adds one a b → (other : Part) → one ≡ other → Adds other a b
 same {a = a} {b = b} now other is = subst (λ p. Adds p a b) is now
-
-pub same_on : {T E : Type 0} (r : Result T E) (one other : Part) (a b : Building) → OnOk r (Adds one a b) → one ≡ other
-    → OnOk r (Adds other a b)
-same_on (Ok x) one other a b now is = same now other is
-same_on (Err e) one other a b now is = tt
 
 -- before the first turn of a loop
 pub begun : (all : Part) (b : Building) → AddsUpTo all all b b

@@ -91,21 +91,11 @@ module _ (tables : Tables) (head : Head) (block : BlockTree) where
     temps = finished.temps ∙ closes.temps ∙ ap (λ (x : Lowered). map temp_kind x.behind.temps) (sym is);
   }
 
-  -- its code begins at its first node
-  pub begun_first : (begin : Label) (place : ℕ) (none out : Out) (found : Body) → none ≡ no_out
-      → Closes (closed_of tables head block) begin none out
-      → place ≡ resolve at_start begin → place ≡ 0 → IsFinished out found → IsBodyOf tables head block found
-  begun_first begin place none out found nothing closes places first =
-      let l = closed_of tables head block in
-      let closes' = subst (λ x. Closes l begin x out) nothing closes in
-      let entry : l.code.entry 0 (onto 0) ≡ 0 = sym (closes'.emits.entry at_start) ∙ sym places ∙ first in
-      whole_body l begin out found (ap (λ n. record l { code = begun_at n l.code }) entry) closes'
-
   begun_behind : (n : ℕ) (code : Code) → (n ≡ 0 → ⊥) → begun_at n code ≡ opening ⨾ code
   begun_behind zero code not = absurd (not refl)
   begun_behind (suc n) code not = refl
 
-  -- its code begins at another node
+  -- its code does not begin at its first node
   pub begun_later : (begin : Label) (place : ℕ) (none before out : Out) (found : Body) → none ≡ no_out
       → Closes (closed_of tables head block) begin none before
       → place ≡ resolve at_start begin → (place ≡ 0 → ⊥) → Closes (behind_opening (closed_of tables head block)) (At 0) no_out out

@@ -20,7 +20,7 @@ fn are_few(lines: &[FieldDecl]) -> bool
 {
     let mut left = MOST_FIELDS;
     for line in lines {
-        let others = line.others.len();
+        let others = line.declarators.others.len();
         if left <= others {
             return false;
         }

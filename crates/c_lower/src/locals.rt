@@ -1,5 +1,5 @@
 //! The types of a body's locals, in the order of the text.
-ghost use Rattle.std.specs.Prelude.{◌≡◌, ◌++◌, ◌∷◌, [], OnOk, map};
+ghost use Rattle.std.specs.Prelude.{◌≡◌, ◌++◌, ◌∷◌, [], OnOk};
 ghost use Rattle.c_lower_rules.specs.Statements.{kinds_of_locals, declared_kinds, init_kinds, stmt_kinds, stmts_kinds};
 ghost use Rattle.c_tree.specs.Syntax.{specifier_tree, initialized_tree, local_tree, init_tree, stmt_tree, block_tree};
 
@@ -24,23 +24,6 @@ fn push_local<'a>(
     slots.push(known_type(object_kind(tables, specifier, one.declarator.stars))?)
 }
 
-/// The types of the locals behind the first of a declaration.
-#[tactic(auto, using(c_types_names::proofs::Appending::appending))]
-fn push_more_locals<'a>(
-    tables: &Tables<'a>,
-    specifier: &'a TypeSpecifier,
-    ones: &'a [Initialized],
-    slots: &mut Row<Ty>,
-) -> Result<(), AllocError>
-    ensures { OnOk result (slots.new
-        ≡ slots.old ++ kinds_of_locals tables.now (specifier_tree specifier.now) (map initialized_tree ones.now)) }
-{
-    for one in ones {
-        push_local(tables, specifier, one, slots)?;
-    }
-    Ok(())
-}
-
 /// The types of the locals of a declaration.
 #[tactic(auto, using(c_types_names::proofs::Appending::appending))]
 fn push_declared<'a>(
@@ -50,8 +33,10 @@ fn push_declared<'a>(
 ) -> Result<(), AllocError>
     ensures { OnOk result (slots.new ≡ slots.old ++ declared_kinds tables.now (local_tree one.now)) }
 {
-    push_local(tables, &one.specifier, &one.first, slots)?;
-    push_more_locals(tables, &one.specifier, one.others.as_slice(), slots)
+    for declarator in one.declarators.iter() {
+        push_local(tables, &one.specifier, declarator, slots)?;
+    }
+    Ok(())
 }
 
 /// The types of the locals that a `for` begins with.

@@ -29,23 +29,8 @@ fn push_param<'a>(
     slots.push(known_type(param_kind(tables, param))?)
 }
 
-/// The types of parameters behind the first.
-#[tactic(auto, using(c_types_names::proofs::Appending::appending))]
-fn push_more_params<'a>(
-    tables: &Tables<'a>,
-    params: &'a [Param],
-    slots: &mut Row<Ty>,
-) -> Result<(), AllocError>
-    ensures { OnOk result (slots.new ≡ slots.old ++ map (λ (p : ParamTree). known (param_kind tables.now p)) (map param_tree params.now)) }
-{
-    for param in params {
-        push_param(tables, param, slots)?;
-    }
-    Ok(())
-}
-
 /// The types of a procedure's parameters.
-#[tactic(auto, using(c_types_names::proofs::Appending::appending))]
+#[tactic(auto, using(c_types_names::proofs::Appending::appending, c_types_names::proofs::ParamsInTurn::each_param))]
 fn push_params<'a>(
     tables: &Tables<'a>,
     params: &'a Params,
@@ -54,14 +39,10 @@ fn push_params<'a>(
     ensures { OnOk result (slots.new
         ≡ slots.old ++ map (λ (p : ParamTree). known (param_kind tables.now p)) (listed (params_tree params.now))) }
 {
-    match params {
-        Params::Empty => Ok(()),
-        Params::Void(_) => Ok(()),
-        Params::Listed(first, others) => {
-            push_param(tables, first, slots)?;
-            push_more_params(tables, others.as_slice(), slots)
-        }
+    for param in params.iter() {
+        push_param(tables, param, slots)?;
     }
+    Ok(())
 }
 
 /// The types of temporaries.
@@ -105,30 +86,14 @@ fn push_name(param: &Param, names: &mut Row<Name>) -> Result<(), AllocError>
     }
 }
 
-/// The names of parameters that have one, behind the first.
-#[tactic(auto, using(crate::proofs::Naming::naming))]
-fn push_more_names(params: &[Param], names: &mut Row<Name>) -> Result<(), AllocError>
-    ensures { OnOk result (names.new ≡ names.old ++ map name_text (param_names (map param_tree params.now))) }
-{
-    for param in params {
-        push_name(param, names)?;
-    }
-    Ok(())
-}
-
 /// The names of a procedure's parameters that have one.
-#[tactic(auto, using(crate::proofs::Naming::naming))]
+#[tactic(auto, using(crate::proofs::Naming::naming, c_types_names::proofs::ParamsInTurn::each_param))]
 pub fn name_texts(alloc: Global, params: &Params) -> Result<Row<Name>, AllocError>
     ensures { IfOk result (λ names. names ≡ map name_text (param_names (listed (params_tree params.now)))) }
 {
     let mut names = Row::new(alloc);
-    match params {
-        Params::Empty => {}
-        Params::Void(_) => {}
-        Params::Listed(first, others) => {
-            push_name(first, &mut names)?;
-            push_more_names(others.as_slice(), &mut names)?;
-        }
+    for param in params.iter() {
+        push_name(param, &mut names)?;
     }
     Ok(names)
 }

@@ -1,7 +1,7 @@
 -- The variables in scope, the last one first.
-use Rattle.std.proofs.Common.{◌≡◌, ℕ, ◌+◌, ◌-◌, ◌<◌, ◌≤◌, List, [], ◌∷◌, ◌++◌, length, map, take, drop, reverse, get_or, refl}
+use Rattle.std.proofs.Common.{◌≡◌, ℕ, ◌+◌, ◌-◌, ◌≤◌, List, [], ◌∷◌, ◌++◌, length, map, take, drop, reverse, refl}
 use Rattle.std.proofs.Common.{sym, ap, ◌∙◌, arith}
-use Rattle.std.proofs.lemmas.List.{map-append, reverse-append, take_more, take-append-drop, length-reverse, length-map, length-append}
+use Rattle.std.proofs.lemmas.List.{map-append, reverse-append, take-append-drop, length-reverse, length-map, length-append}
 use Rattle.std.proofs.lemmas.List.{length-take-le, length-drop, drop_at}
 use Rattle.c_types_rules.specs.Scopes as scopes
 use Rattle.c_types_rules.specs.Scopes.{Env, with_variable}
@@ -27,12 +27,6 @@ stacked-one b = refl
 
 pub stacked-push : (bound : List Bound) (b : Bound) → stacked (bound ++ b ∷ []) ≡ bound_seen b ∷ stacked bound
 stacked-push bound b = stacked-append bound (b ∷ []) ∙ ap (λ xs. xs ++ stacked bound) (stacked-one b)
-
-pub stacked_more : (bound : List Bound) (i : ℕ) (d : Bound) → i < length bound
-    → stacked (take (i + 1) bound) ≡ bound_seen (get_or bound i d) ∷ stacked (take i bound)
-stacked_more bound i d within = ap stacked (take_more bound i d within) ∙ stacked-push (take i bound) (get_or bound i d)
-
-pub ruleset stacking = (stacked_more, stacked-nil, stacked-push)
 
 pub length-stacked : (bound : List Bound) → length (stacked bound) ≡ length bound
 unfolding stacked

@@ -1,5 +1,5 @@
 -- What the functions on expressions answer.
-use Rattle.std.specs.Prelude.{◌≡◌, ℕ, ◌<◌, ◌≤◌, length, List}
+use Rattle.std.specs.Prelude.{◌≡◌, ℕ, length, List}
 use Rattle.shape_data.specs.declared.program.ArithOp.{ArithOp}
 use Rattle.shape_data.specs.declared.program.Operand.{Operand}
 use Rattle.shape_data.specs.declared.program.TestOp.{TestOp}

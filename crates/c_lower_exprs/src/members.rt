@@ -1,8 +1,9 @@
 //! Expressions that are in hand, and members of what they point to (C11 6.5.2.3).
-ghost use Rattle.std.specs.Prelude.{◌≡◌, ◌∷◌, Some, map, option_map, IfOk};
+ghost use Rattle.std.specs.Prelude.{◌≡◌, Some, map, option_map, IfOk};
 ghost use Rattle.c_grammar.specs.Trees.{Name as NameTree};
 ghost use Rattle.c_types_rules.specs.Tables.{Tables, field_of};
 ghost use Rattle.c_types_rules.specs.Expressions.{kind_of_member};
+ghost use Rattle.c_tree.specs.NonEmpty.{items};
 ghost use Rattle.c_tree.specs.Syntax.{ident_tree};
 ghost use Rattle.c_types_names.specs.Seen.{type_seen, kind_seen, field_seen};
 ghost use Rattle.c_lower_rules.specs.Contexts.{tag_of};
@@ -16,7 +17,7 @@ ghost use Rattle.c_lower_exprs.specs.Lowered.{IsLowered};
 use crate::site::Site;
 use c_lower_emit::output::Output;
 use c_lower_emit::uses::Use;
-use c_tree::{Ident, Name};
+use c_tree::{Ident, Name, NonEmpty};
 use c_types_names::kinds::{CType, Kind, known};
 use c_types_names::objects::{FieldKind, placed_field};
 use shape_data::copy_of;
@@ -117,17 +118,16 @@ pub fn load<'a>(
 pub fn members<'a>(
     site: &Site<'_, 'a>,
     base: Found<'a>,
-    first: &Ident,
-    others: &[Ident],
+    fields: &NonEmpty<Ident>,
     used: Use,
     out: &mut Output<'a>,
 ) -> Result<Found<'a>, AllocError>
     ensures { IfOk result (λ found. (l : Lowering) → (before : Out) → IsLowered Value l site.now.first_temp before out.old base.entry
-        → IsLowered used (members site.now l (ident_tree first.now ∷ map ident_tree others.now)) site.now.first_temp before out.new found) }
+        → IsLowered used (members site.now l (map ident_tree (items fields.now))) site.now.first_temp before out.new found) }
 {
     let mut current = base;
-    let mut field = first;
-    for next in others {
+    let mut field = &fields.first;
+    for next in &fields.others {
         current = load(site, current, field, Use::Value, out)?;
         field = next;
     }

@@ -67,9 +67,9 @@ pub fn lower<'a>(
     match expr {
         Expr::Chain(first, others) => chain(site, first, others, others.len(), used, out),
         Expr::Prefix(_, op, inner) => prefix(site, *op, inner, used, out),
-        Expr::Members(base, first, others) => {
+        Expr::Members(base, fields) => {
             let base = lower(site, base, Use::Value, out)?;
-            members(site, base, first, others.as_slice(), used, out)
+            members(site, base, fields, used, out)
         }
         Expr::Variable(name) => {
             let kind = site.kind_of(&name.text);

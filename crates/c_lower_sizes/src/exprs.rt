@@ -71,7 +71,7 @@ pub fn expr(one: &Expr) -> UseCounts
     match one {
         Expr::Chain(first, others) => chain(expr(first), others),
         Expr::Prefix(_, op, inner) => prefix(*op, expr(inner)),
-        Expr::Members(base, _, others) => made(plus(expr(base).value, count_of(others.len()))),
+        Expr::Members(base, fields) => made(plus(expr(base).value, count_of(fields.others.len()))),
         Expr::Variable(_) => at_hand(),
         Expr::Number(_, _) => at_hand(),
         Expr::Null(_) => at_hand(),
@@ -112,7 +112,7 @@ pub fn target(one: &Expr) -> Option<u32>
     match one {
         Expr::Chain(_, _) => None,
         Expr::Prefix(_, _, _) => None,
-        Expr::Members(base, _, others) => Some(plus(expr(base).value, count_of(others.len()))),
+        Expr::Members(base, fields) => Some(plus(expr(base).value, count_of(fields.others.len()))),
         Expr::Variable(_) => None,
         Expr::Number(_, _) => None,
         Expr::Null(_) => None,

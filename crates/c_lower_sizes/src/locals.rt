@@ -11,7 +11,7 @@ use c_tree::{Block, ForInit, Local, Stmt};
 fn declared(one: &Local) -> u32
     ensures { result ≡ capped (declared (local_tree one.now)) }
 {
-    plus(count_of(one.others.len()), 1)
+    plus(count_of(one.declarators.others.len()), 1)
 }
 
 /// The locals that a `for` begins with.

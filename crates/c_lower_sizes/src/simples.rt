@@ -1,20 +1,19 @@
 //! How many nodes simple statements and declarations have (C11 6.8.3, 6.7).
-ghost use Rattle.std.specs.Prelude.{◌≡◌, map, option_map};
-ghost use Rattle.c_tree.specs.Syntax.{expr_tree, assign_tree, simple_tree, initialized_tree, local_tree};
+ghost use Rattle.std.specs.Prelude.{◌≡◌, option_map};
+ghost use Rattle.c_tree.specs.Syntax.{expr_tree, assign_tree, simple_tree, local_tree};
 ghost use Rattle.c_lower_sizes.specs.Sizes.{
   assign_size,
   update_size,
   assign_by_size,
   simple_size,
   initial_size,
-  locals_size,
   declaration_size,
 };
 ghost use Rattle.c_lower_sizes.specs.Counts.{capped, seen};
 
 use crate::counts::{UseCounts, at_hand, capped, plus};
 use crate::exprs::{arguments, expr, target};
-use c_tree::{AssignOp, Expr, Initialized, Local, Simple};
+use c_tree::{AssignOp, Expr, Local, Simple};
 
 /// `=`, to a variable or to a field behind a pointer of so many nodes.
 fn assign(to: Option<u32>, value: UseCounts) -> u32
@@ -70,20 +69,13 @@ fn initial(value: &Option<Expr>) -> u32
     }
 }
 
-/// The locals behind the first of a declaration.
-fn more_locals(others: &Vec<Initialized>) -> u32
-    ensures { result ≡ capped (locals_size (map initialized_tree others.now.items)) }
-{
-    let mut total = 0;
-    for one in others {
-        total = plus(total, initial(&one.value));
-    }
-    total
-}
-
 /// A declaration of locals.
 pub fn declaration(one: &Local) -> u32
     ensures { result ≡ capped (declaration_size (local_tree one.now)) }
 {
-    plus(initial(&one.first.value), more_locals(&one.others))
+    let mut total = 0;
+    for declarator in one.declarators.iter() {
+        total = plus(total, initial(&declarator.value));
+    }
+    total
 }

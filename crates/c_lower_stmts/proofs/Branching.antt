@@ -1,24 +1,20 @@
 -- Statements of one part, and branches.
-use Rattle.std.proofs.Common.{◌≡◌, ℕ, ◌+◌, ◌-◌, ◌<◌, ◌≤◌, List, length, refl, sym, ap, ◌∙◌, subst, arith}
+use Rattle.std.proofs.Common.{◌≡◌, ℕ, ◌+◌, ◌<◌, ◌≤◌, List, length, refl, sym, ap, ◌∙◌, subst, arith}
 use Rattle.c_tokens.specs.declared.places.Place.{Place}
-use Rattle.c_grammar.specs.Trees.{Expr, Local, Stmt}
+use Rattle.c_grammar.specs.Trees.{Expr, Stmt}
 use Rattle.c_lower_rules.specs.Code.{Exits, Code, Test, jump, nothing, choose}
 use Rattle.c_lower_rules.specs.Contexts.{Context}
-use Rattle.c_lower_rules.specs.Temporaries.{Temp, released}
-use Rattle.c_lower_rules.specs.Values.{Piece}
-use Rattle.c_lower_rules.specs.Statements.{Lowered, from_place, with_temps, with_names, inside, declaration, condition, stmt}
+use Rattle.c_lower_rules.specs.Temporaries.{Temp}
+use Rattle.c_lower_rules.specs.Statements.{Lowered, with_temps, with_names, inside, condition, stmt}
 use Rattle.c_lower_emit.specs.declared.drafts.Label.{Label}
 use Rattle.c_lower_emit.specs.declared.drafts.Label.TheVariants.{At, Next}
 use Rattle.c_lower_emit.specs.Drafts.{Places, exits, resolve}
 use Rattle.c_lower_emit.specs.Emitting.{Out, HasRoom, Grows, EmitsTest, EmitsCode, EmitsTested}
 use Rattle.c_lower_emit.proofs.Joining.{behind_nodes, code_none}
 use Rattle.c_lower_exprs.specs.Contexts.{on_line}
-use Rattle.c_lower_stmts.specs.Declaring.{Declares}
 use Rattle.c_lower_stmts.specs.Standing.{state}
 use Rattle.c_lower_stmts.specs.declared.laid.Laid.{Laid}
 use Rattle.c_lower_stmts.specs.Laying.{EmitsLowered, EmitsWithin}
-use Rattle.c_lower_stmts.specs.Parts.{EmitsReleased}
-use Rattle.c_lower_stmts.proofs.Releasing.{released_out, room_released, same_count}
 
 -- ROOM
 
@@ -46,60 +42,6 @@ pub jumped : (c : Context) (line locals : ℕ) (exit : Exits → ℕ) (begin : L
     (record { begin = begin; locals = locals }) o o
 jumped c line locals exit begin o is room slots =
     record { emits = code_none exit begin o is; locals_then = refl; context = refl; grown = omega arith }
-
--- a piece that a statement is, which uses no temporary of others
-pub piece_laid : (c : Context) (line locals : ℕ) (piece : List Temp → Piece) (begin : Label) (old new : Out)
-    → (length old.nodes < 4294967296 → begin ≡ At (length old.nodes))
-    → EmitsReleased piece c.first_temp old new
-    → EmitsLowered
-    (record {
-      code = (piece (released old.temps)).code;
-      behind = record (state (on_line c line) locals old) { temps = (piece (released old.temps)).temps };
-    })
-    c locals c (record { begin = begin; locals = locals }) old new
-piece_laid c line locals piece begin old new at h room slots =
-    let p = piece (released old.temps) in
-    let nodes = room.nodes in
-    record {
-      emits = subst (λ b. EmitsCode p.code p.temps b old new) (sym (at (omega (arith, nodes)))) (h room);
-      locals_then = refl;
-      context = refl;
-      grown = omega arith;
-    }
-
-pub declared_laid : (c after : Context) (line line' locals then : ℕ) (place : Place) (l : Local) (begin : Label) (old new : Out)
-    → line' ≡ place.line - c.first_line
-    → (length old.nodes < 4294967296 → begin ≡ At (length old.nodes))
-    → Declares (declaration l (state (on_line c line') locals (released_out old))) c line' locals after then (released_out old) new
-    → EmitsLowered (declaration l (from_place (state (on_line c line) locals old) place)) c locals after
-    (record { begin = begin; locals = then }) old new
-declared_laid c after line line' locals then place l begin old new is at h room slots =
-    let dl = declaration l (from_place (state (on_line c line) locals old) place) in
-    let h' =
-    subst (λ n. Declares (declaration l (state (on_line c n) locals (released_out old))) c n locals after
-    then (released_out old) new) is h in
-    let d = h' (room_released c.first_temp dl.code.size old room) slots in
-    let nodes = room.nodes in
-    let grown = d.emits.grows.grown in
-    let same = same_count old.temps in
-    record {
-      emits = subst (λ b. EmitsCode dl.code dl.behind.temps b old new) (sym (at (omega (arith, nodes)))) (record {
-        drafts = d.emits.drafts;
-        grows =
-            record {
-              nodes = d.emits.grows.nodes;
-              size = d.emits.grows.size;
-              temps = d.emits.grows.temps;
-              grown = omega (arith, grown, same);
-            };
-        laid = d.emits.laid;
-        entry = d.emits.entry;
-        loops = d.emits.loops;
-      });
-      locals_then = d.locals_then;
-      context = ap (λ (x : Context). on_line after x.line) (sym d.context) ∙ d.context;
-      grown = d.grown;
-    }
 
 pub without_names : (l : Lowered) (c : Context) (locals : ℕ) (after : Context) (laid : Laid) (old new : Out)
     → EmitsLowered l c locals after laid old new → EmitsWithin l c locals laid old new

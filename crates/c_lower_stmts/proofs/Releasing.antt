@@ -1,18 +1,13 @@
 -- Statements and conditions before which no temporary is used.
 use Rattle.std.proofs.Common.{◌≡◌, ℕ, ◌≤◌, List, length, refl, sym, subst, arith}
 use Rattle.std.proofs.lemmas.List.{length-map}
-use Rattle.shape_data.specs.declared.program.Cmd.TheVariants as cmd
-use Rattle.shape_data.specs.declared.program.Operand.{Operand}
-use Rattle.c_lower_rules.specs.Code.{Code, Test, choose, command}
-use Rattle.c_lower_rules.specs.Contexts.{Context}
+use Rattle.c_lower_rules.specs.Code.{Code, Test, choose}
 use Rattle.c_lower_rules.specs.Temporaries.{Temp, released, released_one}
-use Rattle.c_lower_rules.specs.Values.{Piece, Value, Tested}
-use Rattle.c_lower_rules.specs.Statements.{return_value}
+use Rattle.c_lower_rules.specs.Values.{Tested}
 use Rattle.c_lower_emit.specs.declared.drafts.Label.TheVariants.{At}
 use Rattle.c_lower_emit.specs.declared.drafts.Ways.{Ways}
-use Rattle.c_lower_emit.specs.Emitting.{Out, led_out, HasRoom, EmitsStraight, EmitsTest, EmitsCode, EmitsTested}
-use Rattle.c_lower_emit.proofs.Joining.{behind_nodes, room_first, code_behind, chosen}
-use Rattle.c_lower_stmts.specs.Parts.{EmitsReleased}
+use Rattle.c_lower_emit.specs.Emitting.{Out, led_out, HasRoom, EmitsTest, EmitsCode, EmitsTested}
+use Rattle.c_lower_emit.proofs.Joining.{behind_nodes, chosen}
 
 -- with no temporary in use
 abbrev pub released_out : Out → Out
@@ -38,33 +33,6 @@ test_released first tested o m h room =
       laid = e.laid;
       loops = e.loops;
     }
-
-pub code_released : (piece : List Temp → Piece) (first : ℕ) (o m : Out)
-    → (HasRoom first (piece (released o.temps)).code.size (released_out o)
-    → EmitsCode (piece (released o.temps)).code (piece (released o.temps)).temps (At (length o.nodes)) (released_out o) m)
-    → EmitsReleased piece first o m
-code_released piece first o m h room =
-    let e = h (room_released first (piece (released o.temps)).code.size o room) in
-    let grown = e.grows.grown in
-    let same = same_count o.temps in
-    record {
-      drafts = e.drafts;
-      grows = record { nodes = e.grows.nodes; size = e.grows.size; temps = e.grows.temps; grown = omega (arith, grown, same) };
-      laid = e.laid;
-      entry = e.entry;
-      loops = e.loops;
-    }
-
--- a value, and its return
-pub value_returned : (c : Context) (first : ℕ) (v : Value) (operand : Operand) (o m n : Out)
-    → (HasRoom first v.code.size o → EmitsStraight v.code v.temps o m × (operand ≡ v.operand))
-    → EmitsCode (command c.line (λ next. cmd.Return operand)) m.temps (At (length m.nodes)) m n
-    → HasRoom first (return_value c v).code.size o → EmitsCode (return_value c v).code (return_value c v).temps (At (length o.nodes)) o n
-value_returned c first v operand o m n h k room =
-    let e = h (room_first first v.code.size 1 o room) in
-    let k' = subst (λ x. EmitsCode (command c.line (λ next. cmd.Return x)) m.temps (At (length m.nodes)) m n) e.1 k in
-    let k'' = subst (λ ts. EmitsCode (command c.line (λ next. cmd.Return v.operand)) ts (At (length m.nodes)) m n) e.0.grows.temps k' in
-    code_behind v.code (command c.line (λ next. cmd.Return v.operand)) v.temps v.temps (At (length m.nodes)) o m n e.0 k''
 
 pub chosen_at : (w : Ways) (test : Test) (one other : Code) (s t u : List Temp) (o m m' n new : Out) (from past : ℕ) → from ≡ length o.nodes
     → past ≡ length m.nodes

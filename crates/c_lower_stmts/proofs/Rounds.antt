@@ -1,12 +1,12 @@
--- Loops and scopes.
+-- Loops.
 use Rattle.std.proofs.Common.{◌≡◌, ℕ, ◌+◌, ◌<◌, ◌≤◌, List, length, refl, sym, ap, ◌∙◌, subst, arith}
 use Rattle.std.specs.Prelude.{Option}
 use Rattle.c_tokens.specs.declared.places.Place.{Place}
-use Rattle.c_grammar.specs.Trees.{Expr, Simple, ForInit, Stmt, Stmts}
+use Rattle.c_grammar.specs.Trees.{Expr, Simple, ForInit, Stmt}
 use Rattle.c_lower_rules.specs.Code.{Code, Test, nothing, ◌⨾◌, repeat, repeat_first}
 use Rattle.c_lower_rules.specs.Contexts.{Context, visible, within_scope}
 use Rattle.c_lower_rules.specs.Temporaries.{Temp}
-use Rattle.c_lower_rules.specs.Statements.{with_temps, with_names, inside, condition, for_init, for_condition, for_step, stmt, stmts}
+use Rattle.c_lower_rules.specs.Statements.{with_temps, with_names, inside, condition, for_init, for_condition, for_step, stmt}
 use Rattle.c_lower_emit.specs.declared.drafts.Label.{Label}
 use Rattle.c_lower_emit.specs.declared.drafts.Label.TheVariants.{At, Next}
 use Rattle.c_lower_emit.specs.Drafts.{redirect, next_at}
@@ -213,19 +213,3 @@ for_laid c inner line locals from head index body step slots' place init e s b f
       context = refl;
       grown = omega (arith, grown0, grown1, grown2);
     }
-
--- SCOPES
-
-pub block_laid : (c inner : Context) (line locals : ℕ) (place end : Place) (body : Stmts) (laid : Laid) (old new : Out)
-    → EmitsLowered (stmts body (state (on_line (within_scope c) line) locals old)) (within_scope c) locals inner laid old new
-    → EmitsLowered (stmt (Stmt.Block place body end) (state (on_line c line) locals old)) c locals c laid old new
-block_laid c inner line locals place end body laid old new h room slots =
-    let e = h room slots in
-    record { emits = e.emits; locals_then = e.locals_then; context = refl; grown = e.grown }
-
-pub nested_laid : (c inner : Context) (line locals : ℕ) (b : Stmt) (laid : Laid) (old new : Out)
-    → EmitsLowered (stmt b (state (on_line (within_scope c) line) locals old)) (within_scope c) locals inner laid old new
-    → EmitsWithin (stmt b (inside (state (on_line c line) locals old))) c locals laid old new
-nested_laid c inner line locals b laid old new h room slots =
-    let e = h room slots in
-    record { emits = e.emits; locals_then = e.locals_then; grown = e.grown }

@@ -1,14 +1,13 @@
 -- Statements one behind another.
 use Rattle.std.proofs.Common.{◌≡◌, ℕ, ◌+◌, ◌<◌, ◌≤◌, List, [], ◌∷◌, ◌++◌, length, map, refl, sym, ap, ◌∙◌, subst, arith}
-use Rattle.c_grammar.specs.Trees.{Stmt, Stmts}
+use Rattle.c_grammar.specs.Trees.{Stmt}
 use Rattle.c_lower_rules.specs.Code.{◌⨾◌}
 use Rattle.c_lower_rules.specs.Contexts.{Context}
 use Rattle.c_lower_rules.specs.Statements.{State, Lowered, stmt, stmts}
 use Rattle.c_lower_emit.specs.declared.drafts.Label.{Label}
-use Rattle.c_lower_emit.specs.declared.drafts.Label.TheVariants.{Next}
 use Rattle.c_lower_emit.specs.Drafts.{redirect, next_at}
 use Rattle.c_lower_emit.specs.Emitting.{Out, led_out, HasRoom, EmitsCode}
-use Rattle.c_lower_emit.proofs.Joining.{behind_nodes, code_none, code_then, SameCode, same_code, same_back, same_both, same_behind}
+use Rattle.c_lower_emit.proofs.Joining.{behind_nodes, code_then, SameCode, same_code, same_back, same_both, same_behind}
 use Rattle.c_lower_emit.proofs.Joining.{same_nothing_behind, same_nothing_before, same_groups}
 use Rattle.c_lower_exprs.specs.Contexts.{on_line, IsWithin}
 use Rattle.c_lower_stmts.specs.declared.laid.Laid.{Laid}
@@ -44,11 +43,6 @@ stmts_more (y ∷ ys) x st =
           (same_behind one.code _ _ more.code) (same_back _ _ (same_groups one.code rest.code last.code));
       behind = more.behind;
     }
-
-pub stmts_none : (c : Context) (line locals : ℕ) (o : Out)
-    → EmitsLowered (stmts Stmts.NoStmts (state (on_line c line) locals o)) c locals c (record { begin = Next; locals = locals }) o o
-stmts_none c line locals o room slots =
-    record { emits = code_none (λ exits. exits.next) Next o (λ p. refl); locals_then = refl; context = refl; grown = omega arith }
 
 pub stmts_turn : (c0 c c' : Context) (line locals from past : ℕ) (xs : List Stmt) (x : Stmt) (laid next : Laid) (begin : Label)
     (o m n new : Out)

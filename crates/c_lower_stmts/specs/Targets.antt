@@ -25,8 +25,9 @@ pub record IsPointer (c : Context) (to : statements.Target) (first : ℕ) (old n
 -- what an expression is as a target
 abbrev pub IsTarget : Context → tree.Expr → Target → Type 0
 IsTarget c left (Variable slot) = target c left ≡ statements.Target.Variable slot
-IsTarget c left (Member base first others) =
-    (target c left ≡ member_target c (lowering c (expr_tree base.now.value)) (ident_tree first.now) (map ident_tree others.now.items))
+IsTarget c left (Member base fields) =
+    (target c left
+    ≡ member_target c (lowering c (expr_tree base.now.value)) (ident_tree fields.now.first) (map ident_tree fields.now.others.items))
     × (HasIntNumbers left → HasIntNumbers (expr_tree base.now.value))
 
 -- where the target is a member, this is the type of its field

@@ -124,9 +124,13 @@ pub fn declaration<'a>(
         context.old line locals context.new then out.old out.new) }
 {
     let start = out.len();
-    let mut count = local(context, line, locals, &one.specifier, &one.first, out)?;
-    for other in &one.others {
-        count = local_behind(context, line, count, start, &one.specifier, other, out)?;
+    let Local {
+        specifier,
+        declarators,
+    } = one;
+    let mut count = local(context, line, locals, specifier, &declarators.first, out)?;
+    for other in &declarators.others {
+        count = local_behind(context, line, count, start, specifier, other, out)?;
     }
     Ok(count)
 }

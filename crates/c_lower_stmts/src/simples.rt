@@ -31,7 +31,7 @@ use c_lower_emit::uses::Use;
 use c_lower_exprs::site::Site;
 use c_lower_exprs::values::{lower, values};
 use c_tree::places::place_of_expr;
-use c_tree::{AssignOp, Expr, Ident, Place, Simple, StepOp};
+use c_tree::{AssignOp, Expr, Ident, NonEmpty, Place, Simple, StepOp};
 use shape_data::program::{ArithOp, Operand};
 use std::alloc::AllocError;
 
@@ -40,23 +40,22 @@ fn set_member<'a>(
     site: &Site<'_, 'a>,
     left: &'a Expr,
     base: &'a Box<Expr>,
-    first: &'a Ident,
-    others: &'a Vec<Ident>,
+    fields: &'a NonEmpty<Ident>,
     value: &'a Expr,
     out: &mut Output<'a>,
 ) -> Result<(), AllocError>
     ensures { OnOk result (HasIntNumbers (expr_tree base.now.value) → HasIntNumbers (expr_tree value.now)
-        → IsFieldKind (member_target site.now (lowering site.now (expr_tree base.now.value)) (ident_tree first.now)
-        (map ident_tree others.now.items))
+        → IsFieldKind (member_target site.now (lowering site.now (expr_tree base.now.value)) (ident_tree fields.now.first)
+        (map ident_tree fields.now.others.items))
         (known (kind_of site.now.env (expr_tree left.now)))
         → EmitsPiece (assign site.now
-        (member_target site.now (lowering site.now (expr_tree base.now.value)) (ident_tree first.now)
-        (map ident_tree others.now.items))
+        (member_target site.now (lowering site.now (expr_tree base.now.value)) (ident_tree fields.now.first)
+        (map ident_tree fields.now.others.items))
         (expr_tree value.now))
         site.now.first_temp out.old out.new) }
 {
     let value = wanted(site, WantedType::TypeOf(left), value, Use::Value, out)?;
-    let pointer = lower_pointer(site, base, first, others, out)?;
+    let pointer = lower_pointer(site, base, fields, out)?;
     store(site, pointer.base, pointer.field, value.operand, out)
 }
 
@@ -87,9 +86,7 @@ fn assign<'a>(
 {
     match target_of(site, left) {
         Target::Variable(to) => set_variable(site, to, value, out),
-        Target::Member(base, first, others) => {
-            set_member(site, left, base, first, others, value, out)
-        }
+        Target::Member(base, fields) => set_member(site, left, base, fields, value, out),
     }
 }
 
@@ -107,9 +104,7 @@ fn update<'a>(
 {
     match target_of(site, left) {
         Target::Variable(to) => update_variable(site, to, op, by, out),
-        Target::Member(base, first, others) => {
-            update_member(site, base, first, others, op, by, out)
-        }
+        Target::Member(base, fields) => update_member(site, base, fields, op, by, out),
     }
 }
 

@@ -15,7 +15,7 @@ use c_lower_emit::uses::Use;
 use c_lower_exprs::members::{Found, load};
 use c_lower_exprs::site::Site;
 use c_lower_exprs::values::lower;
-use c_tree::{Expr, Ident};
+use c_tree::{Expr, Ident, NonEmpty};
 use std::alloc::AllocError;
 
 /// What an expression is that is assigned to.
@@ -24,7 +24,7 @@ pub enum Target<'a> {
     /// The variable in the slot.
     Variable(u32),
     /// The last of the fields, one behind another, of what the expression points to.
-    Member(&'a Box<Expr>, &'a Ident, &'a Vec<Ident>),
+    Member(&'a Box<Expr>, &'a NonEmpty<Ident>),
 }
 
 /// A pointer that was emitted, and the field of what it points to.
@@ -41,7 +41,7 @@ pub fn target_of<'a>(site: &Site<'_, 'a>, left: &'a Expr) -> Target<'a>
     match left {
         Expr::Chain(_, _) => Target::Variable(0),
         Expr::Prefix(_, _, _) => Target::Variable(0),
-        Expr::Members(base, first, others) => Target::Member(base, first, others),
+        Expr::Members(base, fields) => Target::Member(base, fields),
         Expr::Variable(name) => Target::Variable(site.slot_of(&name.text)),
         Expr::Number(_, _) => Target::Variable(0),
         Expr::Null(_) => Target::Variable(0),
@@ -55,17 +55,16 @@ pub fn target_of<'a>(site: &Site<'_, 'a>, left: &'a Expr) -> Target<'a>
 fn walk<'a>(
     site: &Site<'_, 'a>,
     base: Found<'a>,
-    first: &'a Ident,
-    others: &'a [Ident],
+    fields: &'a NonEmpty<Ident>,
     out: &mut Output<'a>,
 ) -> Result<Pointer<'a>, AllocError>
     ensures { IfOk result (λ found. (l : Lowering) → (before : Out) → IsLowered Value l site.now.first_temp before out.old base.entry
-        → IsPointer site.now (member_target site.now l (ident_tree first.now) (map ident_tree others.now))
+        → IsPointer site.now (member_target site.now l (ident_tree fields.now.first) (map ident_tree fields.now.others.items))
         site.now.first_temp before out.new found) }
 {
     let mut current = base;
-    let mut field = first;
-    for next in others {
+    let mut field = &fields.first;
+    for next in &fields.others {
         current = load(site, current, field, Use::Value, out)?;
         field = next;
     }
@@ -77,15 +76,15 @@ fn walk<'a>(
 pub fn lower_pointer<'a>(
     site: &Site<'_, 'a>,
     base: &'a Box<Expr>,
-    first: &'a Ident,
-    others: &'a Vec<Ident>,
+    fields: &'a NonEmpty<Ident>,
     out: &mut Output<'a>,
 ) -> Result<Pointer<'a>, AllocError>
     ensures { IfOk result (λ found. HasIntNumbers (expr_tree base.now.value)
         → IsPointer site.now
-        (member_target site.now (lowering site.now (expr_tree base.now.value)) (ident_tree first.now) (map ident_tree others.now.items))
+        (member_target site.now (lowering site.now (expr_tree base.now.value)) (ident_tree fields.now.first)
+        (map ident_tree fields.now.others.items))
         site.now.first_temp out.old out.new found) }
 {
     let base = lower(site, base, Use::Value, out)?;
-    walk(site, base, first, others.as_slice(), out)
+    walk(site, base, fields, out)
 }

@@ -21,7 +21,7 @@ use c_lower_exprs::members::{Found, load};
 use c_lower_exprs::operators::arithmetic;
 use c_lower_exprs::site::Site;
 use c_lower_exprs::values::lower;
-use c_tree::{Expr, Ident};
+use c_tree::{Expr, Ident, NonEmpty};
 use c_types_names::kinds::CType;
 use shape_data::program::{ArithOp, Operand};
 use std::alloc::AllocError;
@@ -42,7 +42,7 @@ fn is_call(expr: &Expr) -> bool
     match expr {
         Expr::Chain(_, _) => false,
         Expr::Prefix(_, _, _) => false,
-        Expr::Members(_, _, _) => false,
+        Expr::Members(_, _) => false,
         Expr::Variable(_) => false,
         Expr::Number(_, _) => false,
         Expr::Null(_) => false,
@@ -159,20 +159,19 @@ fn update_field_by_call<'a>(
 pub fn update_member<'a>(
     site: &Site<'_, 'a>,
     base: &'a Box<Expr>,
-    first: &'a Ident,
-    others: &'a Vec<Ident>,
+    fields: &'a NonEmpty<Ident>,
     op: ArithOp,
     by: Amount<'a>,
     out: &mut Output<'a>,
 ) -> Result<(), AllocError>
     ensures { OnOk result (HasIntNumbers (expr_tree base.now.value) → AmountHasIntNumbers by.entry
         → EmitsPiece (update site.now
-        (member_target site.now (lowering site.now (expr_tree base.now.value)) (ident_tree first.now)
-        (map ident_tree others.now.items))
+        (member_target site.now (lowering site.now (expr_tree base.now.value)) (ident_tree fields.now.first)
+        (map ident_tree fields.now.others.items))
         op (amount_is_call by.entry) (amount site.now by.entry))
         site.now.first_temp out.old out.new) }
 {
-    let pointer = lower_pointer(site, base, first, others, out)?;
+    let pointer = lower_pointer(site, base, fields, out)?;
     if amount_is_call(by) {
         update_field_by_call(site, pointer, op, by, out)
     } else {

@@ -52,7 +52,7 @@ pub fn wanted<'a>(
     match expr {
         Expr::Chain(_, _) => lower(site, expr, used, out),
         Expr::Prefix(_, _, _) => lower(site, expr, used, out),
-        Expr::Members(_, _, _) => lower(site, expr, used, out),
+        Expr::Members(_, _) => lower(site, expr, used, out),
         Expr::Variable(_) => lower(site, expr, used, out),
         Expr::Number(_, _) => lower(site, expr, used, out),
         Expr::Null(_) => lower(site, expr, used, out),

@@ -1,5 +1,5 @@
 //! The parser's one public call.
-ghost use Rattle.std.specs.Prelude.{◌≡◌, ℕ, ◌≤◌, IfOk, IfErr, Ok};
+ghost use Rattle.std.specs.Prelude.{◌≡◌, ◌≤◌, IfOk, IfErr, Ok};
 ghost use Rattle.c_tokens.specs.TokenLists.{IsTokenList};
 ghost use Rattle.c_tokens.specs.declared.fault.ReadFault.TheVariants.{OutOfMemory};
 ghost use Rattle.c_grammar.specs.Nesting.{file_nesting};

@@ -11,7 +11,7 @@ use crate::simple::{begins_simple, read_named, read_other};
 use c_parse_exprs::exprs::read_expr;
 use c_parse_exprs::types::{read_declarator, read_name, read_specifier};
 use c_parse_exprs::{Class, SyntaxFault, Words};
-use c_tree::{Expr, Ident, Initialized, Local, Simple, TypeSpecifier};
+use c_tree::{Expr, Ident, Initialized, Local, NonEmpty, Simple, TypeSpecifier};
 use std::alloc::Global;
 
 /// Locals, or a simple statement.
@@ -86,8 +86,7 @@ fn read_locals(
     let others = read_more_initialized(alloc, levels, words)?;
     Ok(Local {
         specifier,
-        first,
-        others,
+        declarators: NonEmpty { first, others },
     })
 }
 

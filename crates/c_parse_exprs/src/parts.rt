@@ -9,7 +9,7 @@ ghost use Rattle.c_parse_exprs.specs.Levels.{level_of, level_tree};
 
 use crate::types::{read_name, read_specifier};
 use crate::{Class, SyntaxFault, Words};
-use c_tree::{BinaryOp, Expr, Ident, Link, MallocTypes, Place, TypeSpecifier};
+use c_tree::{BinaryOp, Expr, Ident, Link, MallocTypes, NonEmpty, Place, TypeSpecifier};
 use std::alloc::{AllocError, Global};
 
 /// Whether an expression begins with a word of the class.
@@ -102,8 +102,11 @@ pub fn with_members(alloc: Global, base: Expr, mut members: Vec<Ident>) -> Resul
     if members.is_empty() {
         return Ok(base);
     }
-    let first = members.remove(0);
-    Ok(Expr::Members(Box::new(alloc, base)?, first, members))
+    let fields = NonEmpty {
+        first: members.remove(0),
+        others: members,
+    };
+    Ok(Expr::Members(Box::new(alloc, base)?, fields))
 }
 
 /// `(sizeof(TYPE))`, and the type.

@@ -9,7 +9,7 @@ ghost use Rattle.c_parse_exprs.specs.Reads.{Reads};
 
 use crate::{Class, SyntaxFault, Words};
 use c_tree::places::place_of_specifier;
-use c_tree::{Declarator, FieldDecl, Ident, Param, Params, TypeSpecifier};
+use c_tree::{Declarator, FieldDecl, Ident, NonEmpty, Param, Params, TypeSpecifier};
 use std::alloc::Global;
 
 /// A name.
@@ -100,8 +100,7 @@ fn read_fields(alloc: Global, words: &mut Words<'_>) -> Result<FieldDecl, Syntax
     words.take(Class::Semicolon)?;
     Ok(FieldDecl {
         specifier,
-        first,
-        others,
+        declarators: NonEmpty { first, others },
     })
 }
 
@@ -204,6 +203,6 @@ pub fn read_params(alloc: Global, words: &mut Words<'_>) -> Result<Params, Synta
     if is_void_alone(&first, others.as_slice()) {
         Ok(Params::Void(place_of_specifier(&first.specifier)))
     } else {
-        Ok(Params::Listed(first, others))
+        Ok(Params::Listed(NonEmpty { first, others }))
     }
 }

@@ -1,8 +1,8 @@
 -- What writing words to a text does, whatever words come behind.
 use Rattle.std.specs.Prelude.{◌≡◌, ℕ, zero, suc, List, ◌∷◌, ◌++◌, Option, codes}
-use Rattle.c_grammar.specs.Trees.{Name, Specifier, Expr, Args, Simple, ForInit}
+use Rattle.c_grammar.specs.Trees.{Name, Specifier, Expr, Args, Simple, ForInit, Stmt}
 use Rattle.c_grammar.specs.Printing.{Texts, spaced_texts, print_maybe, print_name, print_specifier, print_expr, print_args, print_simple}
-use Rattle.c_grammar.specs.Printing.{print_init, print_stmts}
+use Rattle.c_grammar.specs.Printing.{print_init, print_stmt, print_stmts}
 use Rattle.c_tree.specs.Syntax.{BlockTree}
 
 -- of the words to print before anything behind, all but those that `rest` prints have been written, each with a space behind it
@@ -39,6 +39,22 @@ abbrev pub print_for : ForInit → Option Expr → Option Simple → Texts → T
 print_for init test step behind =
     codes "for" ∷ codes "("
     ∷ print_init init (codes ";" ∷ print_maybe print_expr test (codes ";" ∷ print_maybe print_simple step (codes ")" ∷ behind)))
+
+-- `return`, the value, if there is one, and a semicolon
+abbrev pub print_return : Option Expr → Texts → Texts
+print_return value behind = codes "return" ∷ print_maybe print_expr value (codes ";" ∷ behind)
+
+-- a word, a test in parentheses, and a statement
+abbrev pub print_tested : List ℕ → Expr → Stmt → Texts → Texts
+print_tested word test body behind = print_in_parens word test (print_stmt body behind)
+
+-- `else` and a statement, if there is one
+abbrev pub print_else : Option Stmt → Texts → Texts
+print_else other behind = print_maybe (λ one rest. codes "else" ∷ print_stmt one rest) other behind
+
+-- `do`, a statement, `while` with a test in parentheses, and a semicolon
+abbrev pub print_do_while : Stmt → Expr → Texts → Texts
+print_do_while body test behind = codes "do" ∷ print_stmt body (print_in_parens (codes "while") test (codes ";" ∷ behind))
 
 -- statements in braces
 abbrev pub print_block : BlockTree → Texts → Texts

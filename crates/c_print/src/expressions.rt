@@ -13,11 +13,12 @@ ghost use Rattle.c_grammar.specs.Printing.{
   text_of_prefix,
 };
 ghost use Rattle.c_print.specs.Writing.{Prints, print_cast, print_call, print_in_parens};
+ghost use Rattle.c_tree.specs.NonEmpty.{items};
 ghost use Rattle.c_tree.specs.Syntax.{ident_tree, specifier_tree, binary_tree, prefix_tree, expr_tree, links_tree, args_tree};
 
 use crate::types::write_specifier;
 use crate::words::{write_comma, write_name, write_number, write_word};
-use c_tree::{BinaryOp, Expr, Ident, Link, PrefixOp, TypeSpecifier};
+use c_tree::{BinaryOp, Expr, Ident, Link, NonEmpty, PrefixOp, TypeSpecifier};
 use std::alloc::AllocError;
 
 /// The text of an operator between two operands.
@@ -58,11 +59,11 @@ fn write_member(text: &mut Vec<u8>, field: &Ident) -> Result<(), AllocError>
 }
 
 /// Writes `->` and a field, for each field.
-fn write_members(text: &mut Vec<u8>, fields: &[Ident]) -> Result<(), AllocError>
-    ensures { OnOk result (Prints (print_each (λ field rest. codes "->" ∷ print_name field rest) (map ident_tree fields.now))
+fn write_members(text: &mut Vec<u8>, fields: &NonEmpty<Ident>) -> Result<(), AllocError>
+    ensures { OnOk result (Prints (print_each (λ field rest. codes "->" ∷ print_name field rest) (map ident_tree (items fields.now)))
         text.old.items text.new.items) }
 {
-    for field in fields {
+    for field in fields.iter() {
         write_member(text, field)?;
     }
     Ok(())
@@ -123,10 +124,9 @@ pub fn write_expr(text: &mut Vec<u8>, expr: &Expr) -> Result<(), AllocError>
             write_word(text, text_of_prefix(*op))?;
             write_expr(text, inner)
         }
-        Expr::Members(base, first, others) => {
+        Expr::Members(base, fields) => {
             write_expr(text, base)?;
-            write_member(text, first)?;
-            write_members(text, others)
+            write_members(text, fields)
         }
         Expr::Variable(name) => write_name(text, name),
         Expr::Number(_, value) => write_number(text, *value),

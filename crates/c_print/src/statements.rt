@@ -1,5 +1,5 @@
 //! Statements and local declarations (C11 6.8). The calls nest as deep as the statement does.
-ghost use Rattle.std.specs.Prelude.{◌≡◌, OnOk, map, option_map};
+ghost use Rattle.std.specs.Prelude.{◌≡◌, ◌∷◌, OnOk, map, option_map, codes};
 ghost use Rattle.c_grammar.specs.Printing.{
   print_more,
   print_maybe,
@@ -12,7 +12,16 @@ ghost use Rattle.c_grammar.specs.Printing.{
   print_stmt,
   print_stmts,
 };
-ghost use Rattle.c_print.specs.Writing.{Prints, print_value, print_for, print_block};
+ghost use Rattle.c_print.specs.Writing.{
+  Prints,
+  print_value,
+  print_for,
+  print_return,
+  print_tested,
+  print_else,
+  print_do_while,
+  print_block,
+};
 ghost use Rattle.c_tree.specs.Syntax.{
   expr_tree,
   assign_tree,
@@ -23,6 +32,7 @@ ghost use Rattle.c_tree.specs.Syntax.{
   local_tree,
   init_tree,
   stmt_tree,
+  else_tree,
   stmts_tree,
   block_tree,
 };
@@ -121,8 +131,8 @@ fn write_local(text: &mut Vec<u8>, local: &Local) -> Result<(), AllocError>
     ensures { OnOk result (Prints (print_local (local_tree local.now)) text.old.items text.new.items) }
 {
     write_specifier(text, &local.specifier)?;
-    write_initialized(text, &local.first)?;
-    write_more_initialized(text, &local.others)
+    write_initialized(text, &local.declarators.first)?;
+    write_more_initialized(text, &local.declarators.others)
 }
 
 /// Writes what a `for` begins with.
@@ -156,6 +166,23 @@ fn write_for(
     write_word(text, b")")
 }
 
+/// Writes the word and a semicolon.
+fn write_jump(text: &mut Vec<u8>, word: &[u8]) -> Result<(), AllocError>
+    ensures { OnOk result (Prints (λ behind. word.now ∷ codes ";" ∷ behind) text.old.items text.new.items) }
+{
+    write_word(text, word)?;
+    write_word(text, b";")
+}
+
+/// Writes `return`, the value, if there is one, and a semicolon.
+fn write_return(text: &mut Vec<u8>, value: &Option<Expr>) -> Result<(), AllocError>
+    ensures { OnOk result (Prints (print_return (option_map expr_tree value.now)) text.old.items text.new.items) }
+{
+    write_word(text, b"return")?;
+    write_optional_expr(text, value)?;
+    write_word(text, b";")
+}
+
 /// Writes the statement.
 #[cycle(write)]
 fn write_stmt(text: &mut Vec<u8>, stmt: &Stmt) -> Result<(), AllocError>
@@ -178,26 +205,11 @@ fn write_stmt(text: &mut Vec<u8>, stmt: &Stmt) -> Result<(), AllocError>
             other,
             ..
         } => {
-            write_in_parens(text, b"if", test)?;
-            write_stmt(text, body)?;
-            match other {
-                None => Ok(()),
-                Some(other) => {
-                    write_word(text, b"else")?;
-                    write_stmt(text, other)
-                }
-            }
+            write_tested(text, b"if", body, test)?;
+            write_else(text, other)
         }
-        Stmt::While { test, body, .. } => {
-            write_in_parens(text, b"while", test)?;
-            write_stmt(text, body)
-        }
-        Stmt::DoWhile { body, test, .. } => {
-            write_word(text, b"do")?;
-            write_stmt(text, body)?;
-            write_in_parens(text, b"while", test)?;
-            write_word(text, b";")
-        }
+        Stmt::While { test, body, .. } => write_tested(text, b"while", body, test),
+        Stmt::DoWhile { body, test, .. } => write_do_while(text, body, test),
         Stmt::For {
             init,
             test,
@@ -208,20 +220,44 @@ fn write_stmt(text: &mut Vec<u8>, stmt: &Stmt) -> Result<(), AllocError>
             write_for(text, init, test, step)?;
             write_stmt(text, body)
         }
-        Stmt::Break(_) => {
-            write_word(text, b"break")?;
-            write_word(text, b";")
-        }
-        Stmt::Continue(_) => {
-            write_word(text, b"continue")?;
-            write_word(text, b";")
-        }
-        Stmt::Return(_, value) => {
-            write_word(text, b"return")?;
-            write_optional_expr(text, value)?;
-            write_word(text, b";")
+        Stmt::Break(_) => write_jump(text, b"break"),
+        Stmt::Continue(_) => write_jump(text, b"continue"),
+        Stmt::Return(_, value) => write_return(text, value),
+    }
+}
+
+/// Writes the word, the test in parentheses, and the statement: an `if` up to its `else`, or a `while`.
+#[cycle(write)]
+fn write_tested(text: &mut Vec<u8>, word: &[u8], body: &Stmt, test: &Expr) -> Result<(), AllocError>
+    ensures { OnOk result (Prints (print_tested word.now (expr_tree test.now) (stmt_tree body.now)) text.old.items text.new.items) }
+{
+    write_in_parens(text, word, test)?;
+    write_stmt(text, body)
+}
+
+/// Writes `else` and the statement behind it, if there is one.
+#[cycle(write)]
+fn write_else(text: &mut Vec<u8>, other: &Option<Box<Stmt>>) -> Result<(), AllocError>
+    ensures { OnOk result (Prints (print_else (option_map else_tree other.now)) text.old.items text.new.items) }
+{
+    match other {
+        None => Ok(()),
+        Some(other) => {
+            write_word(text, b"else")?;
+            write_stmt(text, other)
         }
     }
+}
+
+/// Writes `do`, the statement, `while` with the test in parentheses, and a semicolon.
+#[cycle(write)]
+fn write_do_while(text: &mut Vec<u8>, body: &Stmt, test: &Expr) -> Result<(), AllocError>
+    ensures { OnOk result (Prints (print_do_while (stmt_tree body.now) (expr_tree test.now)) text.old.items text.new.items) }
+{
+    write_word(text, b"do")?;
+    write_stmt(text, body)?;
+    write_in_parens(text, b"while", test)?;
+    write_word(text, b";")
 }
 
 /// Writes the statements of the block, in braces.

@@ -57,8 +57,8 @@ fn write_fields(text: &mut Vec<u8>, line: &FieldDecl) -> Result<(), AllocError>
     ensures { OnOk result (Prints (print_fields (fields_tree line.now)) text.old.items text.new.items) }
 {
     write_specifier(text, &line.specifier)?;
-    write_declarator(text, &line.first)?;
-    write_more_declarators(text, &line.others)?;
+    write_declarator(text, &line.declarators.first)?;
+    write_more_declarators(text, &line.declarators.others)?;
     write_word(text, b";")
 }
 
@@ -108,9 +108,9 @@ fn write_params(text: &mut Vec<u8>, params: &Params) -> Result<(), AllocError>
     match params {
         Params::Empty => Ok(()),
         Params::Void(_) => write_word(text, b"void"),
-        Params::Listed(first, others) => {
-            write_param(text, first)?;
-            write_more_params(text, others)
+        Params::Listed(listed) => {
+            write_param(text, &listed.first)?;
+            write_more_params(text, &listed.others)
         }
     }
 }

@@ -3,6 +3,7 @@ use Rattle.std.proofs.Common.{◌≡◌, Option, None, Box, Vec, Global, map, op
 use Rattle.c_tokens.specs.declared.places.Place.{Place}
 use Rattle.c_grammar.specs.Trees as tree
 use Rattle.c_tree.specs.declared.names.Ident.{Ident}
+use Rattle.c_tree.specs.declared.non_empty.NonEmpty.{NonEmpty}
 use Rattle.c_tree.specs.declared.exprs.Expr.{Expr}
 use Rattle.c_tree.specs.declared.exprs.Expr.TheVariants.{rolls-Members, rolls-Call, rolls-Paren}
 use Rattle.c_tree.specs.declared.exprs.Expr.TheViews as expr
@@ -28,11 +29,11 @@ pub paren_is : (place : Place) (inner : Box Expr Global)
 paren_is place inner = ap expr_tree (sym (rolls-Paren place inner))
     ∙ fold-roll-Expr tree.Expr LinkTree expr_level link_level (Expr-F.Paren place inner)
 
-pub members_is : (base : Box Expr Global) (first : Ident) (others : Vec Ident Global)
-    → expr_tree (expr.Members base first others) ≡ tree.Expr.Members (expr_tree base.value) (ident_tree first) (map ident_tree others.items)
-members_is base first others =
-    ap expr_tree (sym (rolls-Members base first others))
-    ∙ fold-roll-Expr tree.Expr LinkTree expr_level link_level (Expr-F.Members base first others)
+pub members_is : (base : Box Expr Global) (fields : NonEmpty Ident)
+    → expr_tree (expr.Members base fields)
+    ≡ tree.Expr.Members (expr_tree base.value) (ident_tree fields.first) (map ident_tree fields.others.items)
+members_is base fields = ap expr_tree (sym (rolls-Members base fields))
+    ∙ fold-roll-Expr tree.Expr LinkTree expr_level link_level (Expr-F.Members base fields)
 
 pub call_is : (callee : Ident) (args : Vec Expr Global)
     → expr_tree (expr.Call callee args) ≡ tree.Expr.Call (ident_tree callee) (args_tree args.items)

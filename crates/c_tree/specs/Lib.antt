@@ -1,1 +1,3 @@
+pub mod NonEmpty
+pub mod Params
 pub mod Syntax

@@ -1,5 +1,5 @@
 -- Which syntax tree of the grammar each value of the crate's types stands for.
-use Rattle.std.specs.Prelude.{ℕ, Option, Some, None, Box, List, [], ◌∷◌, map, option_map}
+use Rattle.std.specs.Prelude.{Option, Some, None, Box, List, [], ◌∷◌, map, option_map}
 use Rattle.std.specs.Global.{Global}
 use Rattle.c_tokens.specs.declared.places.Place.{Place}
 use Rattle.c_grammar.specs.Trees as tree
@@ -53,8 +53,8 @@ declarator_tree one = record { stars = one.stars; name = ident_tree one.name }
 abbrev pub fields_tree : FieldDecl → tree.Fields
 fields_tree line = record {
   specifier = specifier_tree line.specifier;
-  first = declarator_tree line.first;
-  others = map declarator_tree line.others.items;
+  first = declarator_tree line.declarators.first;
+  others = map declarator_tree line.declarators.others.items;
 }
 
 abbrev pub param_tree : Param → tree.Param
@@ -63,7 +63,7 @@ param_tree one = record { specifier = specifier_tree one.specifier; stars = one.
 abbrev pub params_tree : Params → tree.Params
 params_tree params.Empty = tree.Params.NoParams
 params_tree (params.Void place) = tree.Params.VoidParams place
-params_tree (params.Listed first others) = tree.Params.Listed (param_tree first) (map param_tree others.items)
+params_tree (params.Listed list) = tree.Params.Listed (param_tree list.first) (map param_tree list.others.items)
 
 abbrev pub head_tree : Head → tree.Head
 head_tree head = record {
@@ -106,7 +106,7 @@ args_of (one ∷ others) = tree.Args.Arg one (args_of others)
 abbrev pub expr_level : Expr-F tree.Expr LinkTree → tree.Expr
 expr_level (Expr-F.Chain first others) = tree.Expr.Chain first.value (links_of others.items)
 expr_level (Expr-F.Prefix place op inner) = tree.Expr.Prefix place (prefix_tree op) inner.value
-expr_level (Expr-F.Members base first others) = tree.Expr.Members base.value (ident_tree first) (map ident_tree others.items)
+expr_level (Expr-F.Members base fields) = tree.Expr.Members base.value (ident_tree fields.first) (map ident_tree fields.others.items)
 expr_level (Expr-F.Variable name) = tree.Expr.Variable (ident_tree name)
 expr_level (Expr-F.Number place value) = tree.Expr.Number place value
 expr_level (Expr-F.Null place) = tree.Expr.Null place
@@ -152,8 +152,8 @@ initialized_tree one = record { declarator = declarator_tree one.declarator; val
 abbrev pub local_tree : Local → tree.Local
 local_tree local = record {
   specifier = specifier_tree local.specifier;
-  first = initialized_tree local.first;
-  others = map initialized_tree local.others.items;
+  first = initialized_tree local.declarators.first;
+  others = map initialized_tree local.declarators.others.items;
 }
 
 abbrev pub init_tree : ForInit → tree.ForInit
@@ -200,6 +200,10 @@ block_level block = record { place = block.«open»; body = stmts_of block.stmts
 
 abbrev pub stmt_tree : Stmt → tree.Stmt
 stmt_tree = fold-Stmt tree.Stmt BlockTree stmt_level block_level
+
+-- the statement behind an `else`
+abbrev pub else_tree : Box Stmt Global → tree.Stmt
+else_tree other = stmt_tree other.value
 
 abbrev pub block_tree : Block → BlockTree
 block_tree = fold-Block tree.Stmt BlockTree stmt_level block_level

@@ -1,5 +1,6 @@
 //! Expressions (C11 6.5).
 use crate::names::{Ident, TypeSpecifier};
+use crate::non_empty::NonEmpty;
 use c_tokens::Place;
 
 /// An operator between two operands (C11 6.5.5 to 6.5.14).
@@ -56,7 +57,7 @@ pub enum Expr {
     /// A prefix operator and its operand (C11 6.5.3.3).
     Prefix(Place, PrefixOp, Box<Expr>),
     /// `->` and a field, once or more (C11 6.5.2.3).
-    Members(Box<Expr>, Ident, Vec<Ident>),
+    Members(Box<Expr>, NonEmpty<Ident>),
     /// A variable (C11 6.5.1).
     Variable(Ident),
     /// A number (C11 6.4.4.1).

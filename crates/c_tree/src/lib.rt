@@ -5,6 +5,7 @@
 pub mod exprs;
 pub mod items;
 pub mod names;
+pub mod non_empty;
 pub mod places;
 pub mod stmts;
 
@@ -12,5 +13,6 @@ pub use c_tokens::Place;
 pub use exprs::{BinaryOp, Expr, Link, MallocTypes, PrefixOp};
 pub use items::{Item, Unit};
 pub use names::{Declarator, FieldDecl, Head, Ident, Param, Params, TypeSpecifier};
+pub use non_empty::NonEmpty;
 pub use shape_data::Name;
 pub use stmts::{AssignOp, Block, ForInit, Initialized, Local, Simple, StepOp, Stmt};

@@ -1,4 +1,9 @@
 //! Names, types and what declares them (C11 6.7).
+ghost use Rattle.std.specs.Prelude.{◌≡◌, length};
+ghost use Rattle.c_tree.specs.NonEmpty.{left};
+ghost use Rattle.c_tree.specs.Params.{param_items};
+
+use crate::non_empty::{Iter, NonEmpty};
 use c_tokens::Place;
 use shape_data::Name;
 
@@ -33,8 +38,7 @@ pub struct Declarator {
 #[derive(Drop)]
 pub struct FieldDecl {
     pub specifier: TypeSpecifier,
-    pub first: Declarator,
-    pub others: Vec<Declarator>,
+    pub declarators: NonEmpty<Declarator>,
 }
 
 /// A parameter, which a prototype may leave without a name (C11 6.7.6.3).
@@ -53,7 +57,32 @@ pub enum Params {
     /// `void` alone, which says that there is no parameter.
     Void(Place),
     /// One or more parameters, with commas between them.
-    Listed(Param, Vec<Param>),
+    Listed(NonEmpty<Param>),
+}
+
+impl Params {
+    /// Each parameter, in the order of the text.
+    pub fn iter(&self) -> Iter<'_, Param>
+        ensures { left result ≡ param_items self.now }
+    {
+        match self {
+            Params::Empty => {}
+            Params::Void(_) => {}
+            Params::Listed(listed) => return listed.iter(),
+        }
+        Iter::none()
+    }
+
+    /// How many parameters there are.
+    pub fn len(&self) -> usize
+        ensures { result ≡ length (param_items self.now) }
+    {
+        match self {
+            Params::Empty => 0,
+            Params::Void(_) => 0,
+            Params::Listed(listed) => listed.others.len() + 1,
+        }
+    }
 }
 
 /// What a function is called with, and what it answers (C11 6.7.6.3).

@@ -27,7 +27,7 @@ pub fn place_of_expr(expr: &Expr) -> Place
     match expr {
         Expr::Chain(first, _) => place_of_expr(first),
         Expr::Prefix(place, _, _) => *place,
-        Expr::Members(base, _, _) => place_of_expr(base),
+        Expr::Members(base, _) => place_of_expr(base),
         Expr::Variable(name) => name.place,
         Expr::Number(place, _) => *place,
         Expr::Null(place) => *place,

@@ -1,6 +1,7 @@
 //! Statements and local declarations (C11 6.8).
 use crate::exprs::Expr;
 use crate::names::{Declarator, Ident, TypeSpecifier};
+use crate::non_empty::NonEmpty;
 use c_tokens::Place;
 
 /// An operator that assigns (C11 6.5.16).
@@ -49,8 +50,7 @@ pub struct Initialized {
 #[derive(Drop)]
 pub struct Local {
     pub specifier: TypeSpecifier,
-    pub first: Initialized,
-    pub others: Vec<Initialized>,
+    pub declarators: NonEmpty<Initialized>,
 }
 
 /// What a `for` begins with (C11 6.8.5.3). Its parts stand by themselves, as its step does, since a `for` would be the largest of the

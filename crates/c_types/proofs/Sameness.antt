@@ -1,16 +1,11 @@
 -- Lists that are compared place by place.
 use Rattle.std.proofs.Common.{◌≡◌, ◌==◌, ℕ, ◌-◌, Bool, leb, List, [], ◌∷◌, length, sym, ap, ◌∙◌, arith}
-use Rattle.c_types_rules.specs.Types.{Kind}
 use Rattle.c_types_rules.specs.Tables.{FieldKind}
-use Rattle.c_types_rules.specs.Items.{same_fields, same_kinds}
+use Rattle.c_types_rules.specs.Items.{same_fields}
 
 pub fields_left : (ones : List FieldKind) → same_fields [] ones ≡ (length ones == 0)
 fields_left [] = grind (arith)
 fields_left (one ∷ ones) = grind (arith)
-
-pub kinds_left : (ones : List Kind) → same_kinds [] ones ≡ (length ones == 0)
-kinds_left [] = grind (arith)
-kinds_left (one ∷ ones) = grind (arith)
 
 none_left : (one other left n : ℕ) → one ≡ n → left ≡ other - n → leb other one ≡ (left == 0)
 none_left one other left n is rest = grind (arith, is, rest)
@@ -23,5 +18,3 @@ module _ {Y : Type 0} (same : List Y → List Y → Bool) (left : (list : List Y
       none_left one other (length others) n is rest ∙ sym (left others) ∙ ap (λ list. same list others) (sym none) ∙ known
 
 pub ruleset fields = (fields_left)
-
-pub ruleset kinds = (kinds_left)

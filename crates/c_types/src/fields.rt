@@ -89,8 +89,7 @@ impl<'a> Fields<'a> {
         ensures { let seen = fields_tree line.now in
             OnOk result (self.new ≡ self.old ++ map (field_kind tables.now seen.specifier) (seen.first ∷ seen.others)) }
     {
-        self.push(field_kind(tables, &line.specifier, &line.first))?;
-        for one in &line.others {
+        for one in line.declarators.iter() {
             self.push(field_kind(tables, &line.specifier, one))?;
         }
         Ok(())

@@ -72,24 +72,8 @@ fn add_name<'a>(before: &mut NameSet<'a>, name: &'a Option<Ident>) -> Result<(),
     }
 }
 
-/// What is refused in parameters, behind others.
-fn more_param_refusals<'a>(
-    tables: &Tables,
-    before: &mut NameSet<'a>,
-    params: &'a [Param],
-    first: &mut FirstRefusal,
-) -> Result<(), AllocError>
-    ensures { OnOk result ((names : List NameTree) → Lists before.old names
-        → first.new ≡ with_refusals first.old (each_param_refusals tables.now names (map param_tree params.now))) }
-{
-    for param in params {
-        param_refusals(tables, before, param, first);
-        add_name(before, &param.name)?;
-    }
-    Ok(())
-}
-
 /// What is refused in the parameters of a procedure.
+#[tactic(auto, using(c_types_names::proofs::ParamsInTurn::each_param))]
 fn each_param_refusals(
     alloc: Global,
     tables: &Tables,
@@ -98,16 +82,12 @@ fn each_param_refusals(
 ) -> Result<(), AllocError>
     ensures { OnOk result (first.new ≡ with_refusals first.old (each_param_refusals tables.now [] (listed (params_tree params.now)))) }
 {
-    match params {
-        Params::Empty => Ok(()),
-        Params::Void(_) => Ok(()),
-        Params::Listed(param, others) => {
-            let mut before = NameSet::new(alloc);
-            param_refusals(tables, &before, param, first);
-            add_name(&mut before, &param.name)?;
-            more_param_refusals(tables, &mut before, others.as_slice(), first)
-        }
+    let mut before = NameSet::new(alloc);
+    for param in params.iter() {
+        param_refusals(tables, &before, param, first);
+        add_name(&mut before, &param.name)?;
     }
+    Ok(())
 }
 
 /// What is refused in a head, whatever else is declared under its name.
@@ -132,50 +112,23 @@ fn head_refusals<'a>(
     names.refuse_second(alloc, first)
 }
 
-/// Whether the types of parameters may agree, one by one.
-#[tactic(auto, using(crate::proofs::Sameness::kinds))]
-fn same_listed<'a>(tables: &Tables<'a>, ones: &'a [Param], others: &'a [Param]) -> bool
-    ensures { result ≡ same_kinds (map (param_kind tables.now) (map param_tree ones.now))
-        (map (param_kind tables.now) (map param_tree others.now)) }
-{
-    for (place, one) in ones.iter().enumerate() {
-        if place >= others.len() {
-            return false;
-        }
-        if !may_agree(param_kind(tables, one), param_kind(tables, &others[place])) {
-            return false;
-        }
-    }
-    others.len() <= ones.len()
-}
-
-/// Whether no parameter is listed.
-fn has_none(params: &Params) -> bool
-    ensures { (tables : TypeTables) → result ≡ same_kinds [] (param_kinds tables (params_tree params.now)) }
-{
-    match params {
-        Params::Empty => true,
-        Params::Void(_) => true,
-        Params::Listed(_, _) => false,
-    }
-}
-
-/// Whether the types of parameters may agree.
+/// Whether there are as many parameters, and their types may agree.
+#[tactic(auto, using(c_types_names::proofs::ParamsInTurn::each_kind))]
 fn same_params<'a>(tables: &Tables<'a>, ones: &'a Params, others: &'a Params) -> bool
     ensures { result ≡ same_kinds (param_kinds tables.now (params_tree ones.now)) (param_kinds tables.now (params_tree others.now)) }
 {
-    match ones {
-        Params::Listed(one, more) => match others {
-            Params::Listed(other, others) => {
-                may_agree(param_kind(tables, one), param_kind(tables, other))
-                    && same_listed(tables, more.as_slice(), others.as_slice())
+    let mut left = others.iter();
+    for one in ones.iter() {
+        match left.next() {
+            None => return false,
+            Some(other) => {
+                if !may_agree(param_kind(tables, one), param_kind(tables, other)) {
+                    return false;
+                }
             }
-            Params::Empty => false,
-            Params::Void(_) => false,
-        },
-        Params::Empty => has_none(others),
-        Params::Void(_) => has_none(others),
+        }
     }
+    left.next().is_none()
 }
 
 /// Whether the types of the results may agree.

@@ -36,28 +36,13 @@ fn unnamed_refusal(param: &Param, first: &mut FirstRefusal)
     );
 }
 
-/// Refuses parameters that have no name.
-#[tactic(auto, using(crate::proofs::FieldLines::lining))]
-fn more_unnamed_refusals(params: &[Param], first: &mut FirstRefusal)
-    ensures { first.new ≡ with_refusals first.old (rule.unnamed_refusals (map param_tree params.now)) }
-{
-    for param in params {
-        unnamed_refusal(param, first);
-    }
-}
-
 /// Refuses parameters of a definition that have no name.
-#[tactic(auto, using(crate::proofs::FieldLines::lining))]
+#[tactic(auto, using(crate::proofs::FieldLines::lining, c_types_names::proofs::ParamsInTurn::each_param))]
 fn unnamed_refusals(params: &Params, first: &mut FirstRefusal)
     ensures { first.new ≡ with_refusals first.old (rule.unnamed_refusals (rule.listed (params_tree params.now))) }
 {
-    match params {
-        Params::Empty => {}
-        Params::Void(_) => {}
-        Params::Listed(param, others) => {
-            unnamed_refusal(param, first);
-            more_unnamed_refusals(others.as_slice(), first);
-        }
+    for param in params.iter() {
+        unnamed_refusal(param, first);
     }
 }
 

@@ -59,8 +59,7 @@ impl<'a> Names<'a> {
         ensures { let seen = fields_tree line.now in
             OnOk result (self.new ≡ self.old ++ map (λ (one : DeclaratorTree). one.name) (seen.first ∷ seen.others)) }
     {
-        self.push(&line.first.name)?;
-        for one in &line.others {
+        for one in line.declarators.iter() {
             self.push(&one.name)?;
         }
         Ok(())
@@ -88,30 +87,15 @@ impl<'a> Names<'a> {
         }
     }
 
-    /// The names of parameters that have one.
-    #[tactic(auto, using(crate::proofs::NamesInTurn::pushing))]
-    fn push_more_params(&mut self, params: &'a [Param]) -> Result<(), AllocError>
-        ensures { OnOk result (self.new ≡ self.old ++ param_names (map param_tree params.now)) }
-    {
-        for param in params {
-            self.push_param(param)?;
-        }
-        Ok(())
-    }
-
     /// The names of a procedure's parameters that have one.
-    #[tactic(auto, using(crate::proofs::NamesInTurn::pushing))]
+    #[tactic(auto, using(crate::proofs::NamesInTurn::pushing, c_types_names::proofs::ParamsInTurn::each_param))]
     pub fn push_params(&mut self, params: &'a Params) -> Result<(), AllocError>
         ensures { OnOk result (self.new ≡ self.old ++ param_names (listed (params_tree params.now))) }
     {
-        match params {
-            Params::Empty => Ok(()),
-            Params::Void(_) => Ok(()),
-            Params::Listed(first, others) => {
-                self.push_param(first)?;
-                self.push_more_params(others.as_slice())
-            }
+        for param in params.iter() {
+            self.push_param(param)?;
         }
+        Ok(())
     }
 
     /// Refuses each name that stood before.

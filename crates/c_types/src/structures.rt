@@ -13,6 +13,7 @@ ghost use Rattle.c_types_rules.specs.Items.{
 ghost use Rattle.c_grammar.specs.Readers.{place_of_specifier};
 ghost use Rattle.c_types_rules.specs.Types.{unless as unless_of, LEFT_OUT};
 ghost use Rattle.c_types_rules.specs.Tables.{field_kinds, structure_in, alias_in, specifier_refusals, may_be_object};
+ghost use Rattle.c_tree.specs.NonEmpty.{items};
 ghost use Rattle.c_tree.specs.Syntax.{ident_tree, specifier_tree, declarator_tree, fields_tree};
 ghost use Rattle.c_types_names.specs.Seen.{alias_seen};
 ghost use Rattle.c_types_names.specs.StructFields.{kind_of_declared};
@@ -21,7 +22,7 @@ ghost use Rattle.c_types_names.specs.FirstRefusal.{with_refusals};
 use crate::fields::Fields;
 use crate::names::Names;
 use c_tree::places::place_of_specifier;
-use c_tree::{Declarator, FieldDecl, Ident, TypeSpecifier};
+use c_tree::{Declarator, FieldDecl, Ident, NonEmpty, TypeSpecifier};
 use c_types_names::codes::{DIFFERS, LEFT_OUT, SECOND};
 use c_types_names::declared::Alias;
 use c_types_names::first_refusal::FirstRefusal;
@@ -45,10 +46,16 @@ fn declarator_refusal(specifier: &TypeSpecifier, one: &Declarator, first: &mut F
 }
 
 /// Refuses each field that is neither an int nor a pointer to a structure.
-fn declarator_refusals(specifier: &TypeSpecifier, ones: &[Declarator], first: &mut FirstRefusal)
-    ensures { first.new ≡ with_refusals first.old (declarator_refusals (specifier_tree specifier.now) (map declarator_tree ones.now)) }
+#[tactic(auto, using(crate::proofs::FieldLines::lining))]
+fn declarator_refusals(
+    specifier: &TypeSpecifier,
+    ones: &NonEmpty<Declarator>,
+    first: &mut FirstRefusal,
+)
+    ensures { first.new ≡ with_refusals first.old
+        (declarator_refusals (specifier_tree specifier.now) (map declarator_tree (items ones.now))) }
 {
-    for one in ones {
+    for one in ones.iter() {
         declarator_refusal(specifier, one, first);
     }
 }
@@ -61,8 +68,7 @@ fn line_refusals(tables: &Tables, line: &FieldDecl, first: &mut FirstRefusal)
         (specifier_refusals tables.now seen.specifier ++ declarator_refusals seen.specifier (seen.first ∷ seen.others)) }
 {
     specifier_refusals(tables, &line.specifier, first);
-    declarator_refusal(&line.specifier, &line.first, first);
-    declarator_refusals(&line.specifier, line.others.as_slice(), first);
+    declarator_refusals(&line.specifier, &line.declarators, first);
 }
 
 /// What is refused in declarations of fields.

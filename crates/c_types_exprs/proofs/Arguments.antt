@@ -1,12 +1,16 @@
 -- As many arguments as parameters.
-use Rattle.std.proofs.Common.{◌≡◌, ℕ, suc, true, ◌==◌, List, [], ◌∷◌, length, map, take, drop, ◌-◌, ◌≤◌, refl, sym, ap, ◌∙◌, arith}
-use Rattle.std.proofs.lemmas.List.{length-map, length-take-le}
+use Rattle.std.proofs.Common.{◌≡◌, ℕ, suc, true, ◌==◌, List, [], ◌∷◌, length, map, refl, ap, ◌∙◌, arith}
+use Rattle.std.proofs.lemmas.List.{length-map}
 use Rattle.c_grammar.specs.Trees.{Expr, Args}
 use Rattle.c_tree.specs.declared.exprs.Expr.{Expr as Argument}
 use Rattle.c_types_rules.specs.Types.{Kind}
+use Rattle.c_types_rules.specs.Tables.{Tables, param_kind, param_kinds}
 use Rattle.c_types_rules.specs.Scopes.{Env}
 use Rattle.c_types_rules.specs.Expressions.{same_number, all_fit}
-use Rattle.c_tree.specs.Syntax.{expr_tree, args_of, args_tree}
+use Rattle.c_tree.specs.declared.names.Params.{Params}
+use Rattle.c_tree.specs.Params.{param_items}
+use Rattle.c_tree.specs.Syntax.{param_tree, params_tree, expr_tree, args_of, args_tree}
+use Rattle.c_types_names.proofs.ParamsInTurn.{each_kind}
 
 step : (m n : ℕ) → (m == n) ≡ (suc m == suc n)
 step m n = grind (arith)
@@ -24,13 +28,10 @@ pub none_fit : (env : Env) (kinds : List Kind) → all_fit env kinds Args.NoArgs
 none_fit env [] = refl
 none_fit env (kind ∷ kinds) = refl
 
-pub counted : (kind : Kind) (kinds : List Kind) (args : List Argument) (n : ℕ) → 1 ≤ length args → n ≡ length kinds
-    → (n == length (take (length args - 1) (drop 1 args))) ≡ same_number (kind ∷ kinds) (args_tree args)
-counted kind kinds [] n some is = absurd (omega arith)
-counted kind kinds (arg ∷ rest) n some is =
-    let within : length (arg ∷ rest) - 1 ≤ length rest = omega arith in
-    let all : length (take (length (arg ∷ rest) - 1) rest) ≡ length rest =
-    length-take-le (length (arg ∷ rest) - 1) rest within ∙ omega arith in
-    ap (λ m. n == m) all ∙ ap (λ m. m == length rest) is ∙ sym (by_number kinds rest)
+pub as_many : (tables : Tables) (params : Params) → length (param_kinds tables (params_tree params)) ≡ length (param_items params)
+as_many tables params =
+    ap length (each_kind tables params)
+    ∙ length-map (map param_tree (param_items params)) (param_kind tables)
+    ∙ length-map (param_items params) param_tree
 
-pub ruleset arguments = (by_number, none_fit)
+pub ruleset arguments = (by_number, none_fit, as_many)

@@ -4,12 +4,13 @@ ghost use Rattle.std.specs.Prelude.{◌≡◌, ◌∷◌, ◌++◌, [], OnOk, ma
 ghost use Rattle.c_types_rules.specs.Expressions.{kind_of_call};
 ghost use Rattle.c_types_rules.specs.Kinds.{link_kinds, member_kinds, first_kinds, later_kinds, operand_kinds, arg_kinds, kinds};
 ghost use Rattle.c_types_rules.specs.Tables.{procedure_in};
+ghost use Rattle.c_tree.specs.NonEmpty.{items};
 ghost use Rattle.c_tree.specs.Syntax.{ident_tree, expr_tree, links_tree, args_tree};
 ghost use Rattle.c_types_names.specs.Seen.{kind_seen};
 ghost use Rattle.c_types_exprs.specs.Listing.{with_kinds};
 
 use crate::exprs::{kind_of, kind_of_binary, kind_of_call, kind_of_member};
-use c_tree::{Expr, Ident, Link};
+use c_tree::{Expr, Ident, Link, NonEmpty};
 use c_types_names::env::Env;
 use c_types_names::kinds::Kind;
 use c_types_names::tables::Tables;
@@ -63,13 +64,14 @@ impl<'a> Kinds<'a> {
 fn push_members<'a>(
     tables: &Tables<'a>,
     kind: Kind<'a>,
-    fields: &[Ident],
+    fields: &NonEmpty<Ident>,
     list: &mut Kinds<'a>,
 ) -> Result<(), AllocError>
-    ensures { OnOk result (list.new ≡ list.old ++ member_kinds tables.now (kind_seen kind.entry) (map ident_tree fields.now)) }
+    ensures { OnOk result (list.new
+        ≡ list.old ++ member_kinds tables.now (kind_seen kind.entry) (map ident_tree (items fields.now))) }
 {
     let mut current = kind;
-    for field in fields {
+    for field in fields.iter() {
         current = kind_of_member(tables, current, field);
         list.push(current)?;
     }
@@ -104,11 +106,9 @@ fn push_first<'a>(env: &Env<'a>, expr: &'a Expr, list: &mut Kinds<'a>) -> Result
             push_first(env, operand, list)?;
             push_links(env, kind_of(env, operand), others, list)
         }
-        Expr::Members(base, field, others) => {
+        Expr::Members(base, fields) => {
             push_first(env, base, list)?;
-            let kind = kind_of_member(env.tables(), kind_of(env, base), field);
-            list.push(kind)?;
-            push_members(env.tables(), kind, others.as_slice(), list)
+            push_members(env.tables(), kind_of(env, base), fields, list)
         }
         Expr::Prefix(_, _, _) => list.push(kind_of(env, expr)),
         Expr::Variable(_) => list.push(kind_of(env, expr)),
@@ -135,7 +135,7 @@ fn push_later<'a>(env: &Env<'a>, expr: &'a Expr, list: &mut Kinds<'a>) -> Result
             push_first(env, inner, list)?;
             push_later(env, inner, list)
         }
-        Expr::Members(base, _, _) => push_later(env, base, list),
+        Expr::Members(base, _) => push_later(env, base, list),
         Expr::Variable(_) => Ok(()),
         Expr::Number(_, _) => Ok(()),
         Expr::Null(_) => Ok(()),

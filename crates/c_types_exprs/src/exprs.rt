@@ -15,10 +15,11 @@ ghost use Rattle.c_types_rules.specs.Expressions.{
   is_null,
 };
 ghost use Rattle.c_grammar.specs.Trees.{BinaryOp as BinaryOpTree};
+ghost use Rattle.c_tree.specs.NonEmpty.{items};
 ghost use Rattle.c_tree.specs.Syntax.{ident_tree, binary_tree, prefix_tree, expr_tree, links_tree};
 ghost use Rattle.c_types_names.specs.Seen.{kind_seen};
 
-use c_tree::{BinaryOp, Expr, Ident, Link, Name, PrefixOp};
+use c_tree::{BinaryOp, Expr, Ident, Link, Name, NonEmpty, PrefixOp};
 use c_types_names::env::Env;
 use c_types_names::kinds::{CType, Kind};
 use c_types_names::objects::{field_of, kind_of_result, pointer_of};
@@ -60,11 +61,11 @@ pub(crate) fn kind_of_member<'a>(tables: &Tables<'a>, kind: Kind<'a>, field: &Id
 }
 
 /// The type behind one `->` after another.
-fn kind_of_members<'a>(tables: &Tables<'a>, kind: Kind<'a>, fields: &[Ident]) -> Kind<'a>
-    ensures { kind_seen result ≡ kind_of_members tables.now (kind_seen kind.entry) (map ident_tree fields.now) }
+fn kind_of_members<'a>(tables: &Tables<'a>, kind: Kind<'a>, fields: &NonEmpty<Ident>) -> Kind<'a>
+    ensures { kind_seen result ≡ kind_of_members tables.now (kind_seen kind.entry) (map ident_tree (items fields.now)) }
 {
     let mut current = kind;
-    for field in fields {
+    for field in fields.iter() {
         current = kind_of_member(tables, current, field);
     }
     current
@@ -120,10 +121,7 @@ pub fn kind_of<'a>(env: &Env<'a>, expr: &'a Expr) -> Kind<'a>
     match expr {
         Expr::Chain(first, others) => kind_of_chain(env, kind_of(env, first), others),
         Expr::Prefix(_, op, inner) => kind_of_prefix(*op, kind_of(env, inner)),
-        Expr::Members(base, first, others) => {
-            let kind = kind_of_member(env.tables(), kind_of(env, base), first);
-            kind_of_members(env.tables(), kind, others.as_slice())
-        }
+        Expr::Members(base, fields) => { kind_of_members(env.tables(), kind_of(env, base), fields) }
         Expr::Variable(name) => kind_of_variable(env, &name.text),
         Expr::Number(_, _) => Some(CType::Int),
         Expr::Null(_) => Some(CType::Int),
@@ -152,7 +150,7 @@ pub fn is_null(expr: &Expr) -> bool
     match expr {
         Expr::Chain(_, _) => false,
         Expr::Prefix(_, _, _) => false,
-        Expr::Members(_, _, _) => false,
+        Expr::Members(_, _) => false,
         Expr::Variable(_) => false,
         Expr::Number(_, value) => *value == 0,
         Expr::Null(_) => true,

@@ -1,6 +1,6 @@
 //! What is refused in an expression; its type is found in the same walk. The calls nest as deep as the expression does.
 ghost use Rattle.std.specs.Prelude.{◌≡◌, map, option_map};
-ghost use Rattle.c_types_rules.specs.Tables.{param_kind, param_kinds, procedure_in};
+ghost use Rattle.c_types_rules.specs.Tables.{param_kinds, procedure_in};
 ghost use Rattle.c_types_rules.specs.Scopes.{variable};
 ghost use Rattle.c_types_rules.specs.Expressions.{
   member_refusals,
@@ -23,7 +23,8 @@ ghost use Rattle.c_types_rules.specs.Expressions.{
   kind_of_chain,
 };
 ghost use Rattle.c_grammar.specs.Trees.{Expr as ExprTree};
-ghost use Rattle.c_tree.specs.Syntax.{ident_tree, specifier_tree, param_tree, params_tree, expr_tree, links_tree, args_tree};
+ghost use Rattle.c_tree.specs.NonEmpty.{items};
+ghost use Rattle.c_tree.specs.Syntax.{ident_tree, specifier_tree, params_tree, expr_tree, links_tree, args_tree};
 ghost use Rattle.c_types_names.specs.Seen.{kind_seen};
 ghost use Rattle.c_types_exprs.specs.Seen.{given_seen};
 ghost use Rattle.c_types_names.specs.FirstRefusal.{with_refusals};
@@ -31,7 +32,7 @@ ghost use Rattle.c_types_names.specs.FirstRefusal.{with_refusals};
 use crate::exprs::{is_null, kind_of, kind_of_binary, kind_of_prefix};
 use crate::value_types::{Given, fits, given_as, may_stand_behind, may_stand_by};
 use c_tree::places::place_of_expr;
-use c_tree::{Expr, Ident, Link, Param, Params, Place, TypeSpecifier};
+use c_tree::{Expr, Ident, Link, NonEmpty, Params, Place, TypeSpecifier};
 use c_types_names::codes::{ARGUMENTS, CLASH, LEFT_OUT, UNDECLARED};
 use c_types_names::env::Env;
 use c_types_names::first_refusal::FirstRefusal;
@@ -75,15 +76,15 @@ fn members_refusals<'a>(
     tables: &Tables<'a>,
     place: Place,
     kind: Kind<'a>,
-    fields: &[Ident],
+    fields: &NonEmpty<Ident>,
     first: &mut FirstRefusal,
 ) -> Kind<'a>
     ensures refusals { first.new ≡ with_refusals first.old
-        (members_refusals tables.now place (kind_seen kind.entry) (map ident_tree fields.now)) }
-    ensures kind { kind_seen result ≡ kind_of_members tables.now (kind_seen kind.entry) (map ident_tree fields.now) }
+        (members_refusals tables.now place (kind_seen kind.entry) (map ident_tree (items fields.now))) }
+    ensures kind { kind_seen result ≡ kind_of_members tables.now (kind_seen kind.entry) (map ident_tree (items fields.now)) }
 {
     let mut current = kind;
-    for field in fields {
+    for field in fields.iter() {
         current = member_refusals(tables, place, current, field, first);
     }
     current
@@ -125,48 +126,26 @@ fn malloc_refusals(
 fn same_number(tables: &Tables, params: &Params, args: &[Expr]) -> bool
     ensures { result ≡ same_number (param_kinds tables.now (params_tree params.now)) (args_tree args.now) }
 {
-    match params {
-        Params::Empty => args.is_empty(),
-        Params::Void(_) => args.is_empty(),
-        Params::Listed(_, others) => match args {
-            [] => false,
-            [_, rest @ ..] => others.len() == rest.len(),
-        },
-    }
+    params.len() == args.len()
 }
 
 /// Whether each argument may be assigned to its parameter.
-#[tactic(auto, using(crate::proofs::Arguments::arguments))]
-fn all_fit_among<'a>(env: &Env<'a>, params: &'a [Param], args: &'a [Expr]) -> bool
-    ensures { result ≡ all_fit env.now (map (param_kind env.now.tables) (map param_tree params.now)) (args_tree args.now) }
-{
-    for (place, arg) in args.iter().enumerate() {
-        if place >= params.len() {
-            return true;
-        }
-        if !fits(env, param_kind(env.tables(), &params[place]), arg) {
-            return false;
-        }
-    }
-    true
-}
-
-/// Whether each argument may be assigned to its parameter.
-#[tactic(auto, using(crate::proofs::Arguments::arguments))]
+#[tactic(auto, using(crate::proofs::Arguments::arguments, c_types_names::proofs::ParamsInTurn::each_kind))]
 fn all_fit<'a>(env: &Env<'a>, params: &'a Params, args: &'a [Expr]) -> bool
     ensures { result ≡ all_fit env.now (param_kinds env.now.tables (params_tree params.now)) (args_tree args.now) }
 {
-    match params {
-        Params::Empty => true,
-        Params::Void(_) => true,
-        Params::Listed(param, others) => match args {
-            [] => true,
-            [arg, rest @ ..] => {
-                fits(env, param_kind(env.tables(), param), arg)
-                    && all_fit_among(env, others.as_slice(), rest)
+    let mut left = args.iter();
+    for param in params.iter() {
+        match left.next() {
+            None => return true,
+            Some(arg) => {
+                if !fits(env, param_kind(env.tables(), param), arg) {
+                    return false;
+                }
             }
-        },
+        }
     }
+    true
 }
 
 /// Refuses a call of a name that is no procedure's, and one whose arguments are not those that the procedure takes; gives the type of the
@@ -240,11 +219,9 @@ pub fn expr_refusals<'a>(env: &Env<'a>, expr: &'a Expr, first: &mut FirstRefusal
             );
             kind_of_prefix(*op, kind)
         }
-        Expr::Members(base, field, others) => {
+        Expr::Members(base, fields) => {
             let kind = expr_refusals(env, base, first);
-            let place = place_of_expr(base);
-            let kind = member_refusals(env.tables(), place, kind, field, first);
-            members_refusals(env.tables(), place, kind, others.as_slice(), first)
+            members_refusals(env.tables(), place_of_expr(base), kind, fields, first)
         }
         Expr::Variable(name) => variable_refusals(env, name, first),
         Expr::Number(_, _) => Some(CType::Int),
@@ -341,7 +318,7 @@ pub fn whole_refusals<'a>(env: &Env<'a>, expr: &'a Expr, first: &mut FirstRefusa
     match expr {
         Expr::Chain(_, _) => expr_refusals(env, expr, first),
         Expr::Prefix(_, _, _) => expr_refusals(env, expr, first),
-        Expr::Members(_, _, _) => expr_refusals(env, expr, first),
+        Expr::Members(_, _) => expr_refusals(env, expr, first),
         Expr::Variable(_) => expr_refusals(env, expr, first),
         Expr::Number(_, _) => expr_refusals(env, expr, first),
         Expr::Null(_) => expr_refusals(env, expr, first),

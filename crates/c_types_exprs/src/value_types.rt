@@ -50,7 +50,7 @@ pub fn given_as<'a>(env: &Env<'a>, expr: &'a Expr, kind: Kind<'a>) -> Given<'a>
     match expr {
         Expr::Chain(_, _) => Given::OfKind(kind),
         Expr::Prefix(_, _, _) => Given::OfKind(kind),
-        Expr::Members(_, _, _) => Given::OfKind(kind),
+        Expr::Members(_, _) => Given::OfKind(kind),
         Expr::Variable(_) => Given::OfKind(kind),
         Expr::Number(_, _) => Given::OfKind(kind),
         Expr::Null(_) => Given::OfKind(kind),

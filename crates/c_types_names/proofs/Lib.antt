@@ -8,3 +8,4 @@ pub mod Fields
 pub mod FieldPlaces
 pub mod FirstRefusals
 pub mod Digests
+pub mod ParamsInTurn

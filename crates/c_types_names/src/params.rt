@@ -1,5 +1,5 @@
 //! The variables of a procedure's parameters (C11 6.9.1).
-ghost use Rattle.std.specs.Prelude.{◌≡◌, ◌∷◌, [], OnOk, map};
+ghost use Rattle.std.specs.Prelude.{◌≡◌, ◌∷◌, [], OnOk};
 ghost use Rattle.c_types_rules.specs.Items.{listed};
 ghost use Rattle.c_tree.specs.Syntax.{param_tree, params_tree};
 ghost use Rattle.c_types_names.specs.Behind.{behind_params};
@@ -20,28 +20,14 @@ fn add_param<'a>(env: &mut Env<'a>, param: &'a Param) -> Result<(), AllocError>
     }
 }
 
-/// Adds the variables of parameters.
-fn add_more_params<'a>(env: &mut Env<'a>, params: &'a [Param]) -> Result<(), AllocError>
-    ensures env { OnOk result (env.new ≡ behind_params env.old (map param_tree params.now)) }
-    ensures tables { env.new.tables ≡ env.old.tables }
-{
-    for param in params {
-        add_param(env, param)?;
-    }
-    Ok(())
-}
-
 /// Adds the variables of a procedure's parameters.
+#[tactic(auto, using(crate::proofs::ParamsInTurn::each_param))]
 pub fn add_params<'a>(env: &mut Env<'a>, params: &'a Params) -> Result<(), AllocError>
     ensures env { OnOk result (env.new ≡ behind_params env.old (listed (params_tree params.now))) }
     ensures tables { env.new.tables ≡ env.old.tables }
 {
-    match params {
-        Params::Empty => Ok(()),
-        Params::Void(_) => Ok(()),
-        Params::Listed(param, others) => {
-            add_param(env, param)?;
-            add_more_params(env, others.as_slice())
-        }
+    for param in params.iter() {
+        add_param(env, param)?;
     }
+    Ok(())
 }

@@ -115,8 +115,7 @@ impl<'a> StructFields<'a> {
     fn push_line(&mut self, line: &'a FieldDecl) -> Result<(), AllocError>
         ensures { OnOk result (self.new ≡ self.old ++ declared_in_line (fields_tree line.now)) }
     {
-        self.push_declarator(&line.specifier, &line.first)?;
-        for one in &line.others {
+        for one in line.declarators.iter() {
             self.push_declarator(&line.specifier, one)?;
         }
         Ok(())

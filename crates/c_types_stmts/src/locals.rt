@@ -59,23 +59,6 @@ fn local<'a>(
     initializer(env, place, kind, &one.value, found)
 }
 
-/// The other locals of a declaration.
-fn more_locals<'a>(
-    env: &mut Env<'a>,
-    specifier: &'a TypeSpecifier,
-    ones: &'a [Initialized],
-    found: &mut Finding<'a>,
-) -> Result<(), AllocError>
-    ensures found { OnOk result (Adds (rule.locals env.old (specifier_tree specifier.now) (map initialized_tree ones.now))
-        found.old found.new) }
-    ensures env { OnOk result (env.new ≡ rule.behind_locals env.old (specifier_tree specifier.now) (map initialized_tree ones.now)) }
-{
-    for one in ones {
-        local(env, specifier, one, found)?;
-    }
-    Ok(())
-}
-
 /// The locals of a declaration whose specifier is a type.
 fn checked_locals<'a>(
     env: &mut Env<'a>,
@@ -86,8 +69,10 @@ fn checked_locals<'a>(
         OnOk result (Adds (rule.locals env.old l.specifier (l.first ∷ l.others)) found.old found.new) }
     ensures env { OnOk result (env.new ≡ rule.behind_declaration env.old (local_tree one.now)) }
 {
-    local(env, &one.specifier, &one.first, found)?;
-    more_locals(env, &one.specifier, one.others.as_slice(), found)
+    for declarator in one.declarators.iter() {
+        local(env, &one.specifier, declarator, found)?;
+    }
+    Ok(())
 }
 
 /// The variable of a local, of which nothing is looked at.
@@ -102,26 +87,14 @@ fn add_local<'a>(
     env.add(&one.declarator.name.text, kind)
 }
 
-/// The variables of locals, of which nothing is looked at.
-fn add_locals<'a>(
-    env: &mut Env<'a>,
-    specifier: &'a TypeSpecifier,
-    ones: &'a [Initialized],
-) -> Result<(), AllocError>
-    ensures { OnOk result (env.new ≡ rule.behind_locals env.old (specifier_tree specifier.now) (map initialized_tree ones.now)) }
-{
-    for one in ones {
-        add_local(env, specifier, one)?;
-    }
-    Ok(())
-}
-
 /// The variables of a declaration whose specifier is no type.
 fn unchecked_locals<'a>(env: &mut Env<'a>, one: &'a Local) -> Result<(), AllocError>
     ensures { OnOk result (env.new ≡ rule.behind_declaration env.old (local_tree one.now)) }
 {
-    add_local(env, &one.specifier, &one.first)?;
-    add_locals(env, &one.specifier, one.others.as_slice())
+    for declarator in one.declarators.iter() {
+        add_local(env, &one.specifier, declarator)?;
+    }
+    Ok(())
 }
 
 /// A declaration.

@@ -67,7 +67,7 @@ fn is_target(expr: &Expr) -> bool
     match expr {
         Expr::Chain(_, _) => false,
         Expr::Prefix(_, _, _) => false,
-        Expr::Members(_, _, _) => true,
+        Expr::Members(_, _) => true,
         Expr::Variable(_) => true,
         Expr::Number(_, _) => false,
         Expr::Null(_) => false,

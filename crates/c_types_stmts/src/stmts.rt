@@ -1,9 +1,11 @@
 //! Statements (C11 6.8). The calls nest as deep as the blocks, branches and loops do.
-ghost use Rattle.std.specs.Prelude.{◌≡◌, ◌&&◌, not, OnOk, option_map};
+ghost use Rattle.std.specs.Prelude.{◌≡◌, ◌&&◌, Bool, not, OnOk, option_map};
 ghost use Rattle.c_types_rules.specs.Statements as rule;
 ghost use Rattle.c_types_rules.specs.Expressions.{kind_of, fits};
 ghost use Rattle.c_types_rules.specs.Scopes.{entered};
-ghost use Rattle.c_tree.specs.Syntax.{expr_tree, for_step_tree, stmt_tree, stmts_tree, block_tree};
+ghost use Rattle.c_grammar.specs.Trees.{Stmt as StmtTree};
+ghost use Rattle.c_tokens.specs.declared.places.Place.{Place as PlaceTree};
+ghost use Rattle.c_tree.specs.Syntax.{expr_tree, init_tree, for_step_tree, stmt_tree, stmts_tree, block_tree};
 ghost use Rattle.c_types_names.specs.Seen.{kind_seen};
 ghost use Rattle.c_types_stmts.specs.Adding.{Adds};
 ghost use Rattle.c_types_stmts.specs.Behind.{behind_stmts};
@@ -12,7 +14,7 @@ use crate::finding::Finding;
 use crate::locals::{declaration, init};
 use crate::simples::{plain, simple, whole};
 use c_tree::places::place_of_expr;
-use c_tree::{Block, Expr, Place, Simple, Stmt};
+use c_tree::{Block, Expr, ForInit, Place, Simple, Stmt};
 use c_types_exprs::value_types::{fits_as, given_as, gives_scalar};
 use c_types_names::codes::{CLASH, LEFT_OUT};
 use c_types_names::env::Env;
@@ -20,7 +22,7 @@ use c_types_names::kinds::{CType, Kind};
 use std::alloc::AllocError;
 
 /// A condition.
-fn test<'a>(env: &Env<'a>, expr: &'a Expr, found: &mut Finding<'a>) -> Result<(), AllocError>
+fn condition<'a>(env: &Env<'a>, expr: &'a Expr, found: &mut Finding<'a>) -> Result<(), AllocError>
     ensures { OnOk result (Adds (rule.test env.now (expr_tree expr.now)) found.old found.new) }
 {
     let kind = plain(env, expr, found)?;
@@ -30,7 +32,7 @@ fn test<'a>(env: &Env<'a>, expr: &'a Expr, found: &mut Finding<'a>) -> Result<()
 }
 
 /// A condition, if there is one.
-fn maybe_test<'a>(
+fn maybe_condition<'a>(
     env: &Env<'a>,
     expr: &'a Option<Expr>,
     found: &mut Finding<'a>,
@@ -39,7 +41,7 @@ fn maybe_test<'a>(
 {
     match expr {
         None => Ok(()),
-        Some(expr) => test(env, expr, found),
+        Some(expr) => condition(env, expr, found),
     }
 }
 
@@ -114,6 +116,31 @@ fn returned<'a>(
     }
 }
 
+/// A `for`, which has a scope of its own (C11 6.8.5.3).
+#[cycle(stmts)]
+fn for_loop<'a>(
+    env: &mut Env<'a>,
+    answer: Kind<'a>,
+    first: &'a ForInit,
+    test: &'a Option<Expr>,
+    step: &'a Option<Box<Simple>>,
+    body: &'a Box<Stmt>,
+    found: &mut Finding<'a>,
+) -> Result<(), AllocError>
+    ensures found { (loops : Bool) (place : PlaceTree) → OnOk result (Adds (rule.stmt env.old (kind_seen answer.entry) loops
+        (StmtTree.For place (init_tree first.now) (option_map expr_tree test.now) (option_map for_step_tree step.now)
+        (stmt_tree body.now.value))) found.old found.new) }
+    ensures env { OnOk result (env.new ≡ env.old) }
+{
+    let begin = env.enter();
+    init(env, first, found)?;
+    maybe_condition(env, test, found)?;
+    maybe_simple(env, step, found)?;
+    nested(env, answer, true, body, found)?;
+    env.leave(begin);
+    Ok(())
+}
+
 /// A statement of a procedure with this result, in a loop or not.
 #[cycle(stmts)]
 fn stmt<'a>(
@@ -132,54 +159,34 @@ fn stmt<'a>(
         Stmt::Local(one) => declaration(env, one, found),
         Stmt::Simple(one) => simple(env, one, found),
         Stmt::If {
-            test: condition,
+            test,
             body,
             other,
             ..
         } => {
-            test(env, condition, found)?;
+            condition(env, test, found)?;
             nested(env, answer, loops, body, found)?;
             match other {
                 None => Ok(()),
                 Some(other) => nested(env, answer, loops, other, found),
             }
         }
-        Stmt::While {
-            test: condition,
-            body,
-            ..
-        } => {
-            test(env, condition, found)?;
+        Stmt::While { test, body, .. } => {
+            condition(env, test, found)?;
             nested(env, answer, true, body, found)
         }
-        Stmt::DoWhile {
-            body,
-            test: condition,
-            ..
-        } => {
+        Stmt::DoWhile { body, test, .. } => {
             nested(env, answer, true, body, found)?;
-            test(env, condition, found)
+            condition(env, test, found)
         }
         Stmt::For {
             init: first,
-            test: condition,
+            test,
             step,
             body,
             ..
-        } => {
-            let begin = env.enter();
-            init(env, first, found)?;
-            maybe_test(env, condition, found)?;
-            maybe_simple(env, step, found)?;
-            nested(env, answer, true, body, found)?;
-            env.leave(begin);
-            Ok(())
-        }
-        Stmt::Break(place) => {
-            found.unless(loops, *place, LEFT_OUT);
-            Ok(())
-        }
-        Stmt::Continue(place) => {
+        } => for_loop(env, answer, first, test, step, body, found),
+        Stmt::Break(place) | Stmt::Continue(place) => {
             found.unless(loops, *place, LEFT_OUT);
             Ok(())
         }

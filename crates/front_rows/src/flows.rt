@@ -123,6 +123,173 @@ fn put_slots(lines: &mut Vec<u8>, slots: &[u32]) -> Result<(), AllocError> {
     Ok(())
 }
 
+/// Appends an operator, what it assigns, and its operands.
+fn put_arith(
+    lines: &mut Vec<u8>,
+    to: u32,
+    op: ArithOp,
+    left: Operand,
+    right: Operand,
+    on: u32,
+) -> Result<(), AllocError> {
+    put(
+        lines,
+        &[
+            word(arith_text(op)),
+            slot(to),
+            value(left),
+            value(right),
+            next(on),
+        ],
+    )
+}
+
+fn put_any(lines: &mut Vec<u8>, to: u32, ty: &Ty, on: u32) -> Result<(), AllocError> {
+    let [mark, tag] = kind(ty);
+    put(lines, &[word(b" any"), slot(to), mark, tag, next(on)])
+}
+
+/// Appends a load: the slot that it assigns, and the field that it reads.
+fn put_load(
+    lines: &mut Vec<u8>,
+    to: u32,
+    base: u32,
+    tag: &Name,
+    place: u32,
+    on: u32,
+) -> Result<(), AllocError> {
+    put(
+        lines,
+        &[
+            word(b" load"),
+            slot(to),
+            slot(base),
+            word(b" "),
+            word(tag.as_bytes()),
+            field(place),
+            next(on),
+        ],
+    )
+}
+
+/// Appends a store: the field that it assigns, and the operand that it reads.
+fn put_store(
+    lines: &mut Vec<u8>,
+    base: u32,
+    tag: &Name,
+    place: u32,
+    from: Operand,
+    on: u32,
+) -> Result<(), AllocError> {
+    put(
+        lines,
+        &[
+            word(b" store"),
+            slot(base),
+            word(b" "),
+            word(tag.as_bytes()),
+            field(place),
+            value(from),
+            next(on),
+        ],
+    )
+}
+
+/// Appends the word, a slot and the name of its structure.
+fn put_structure(
+    lines: &mut Vec<u8>,
+    text: &[u8],
+    place: u32,
+    tag: &Name,
+    on: u32,
+) -> Result<(), AllocError> {
+    put(
+        lines,
+        &[
+            word(text),
+            slot(place),
+            word(b" "),
+            word(tag.as_bytes()),
+            next(on),
+        ],
+    )
+}
+
+/// Appends a call: the slot that gets its result, if any, the procedure's name, and the arguments.
+fn put_call(
+    lines: &mut Vec<u8>,
+    to: Option<u32>,
+    callee: &Name,
+    args: &[Operand],
+    on: u32,
+) -> Result<(), AllocError> {
+    put(
+        lines,
+        &[
+            word(b" call"),
+            target(to),
+            word(b" "),
+            word(callee.as_bytes()),
+        ],
+    )?;
+    put_values(lines, args)?;
+    put(lines, &[next(on)])
+}
+
+/// Appends a branch: its test, and where a run goes on if it holds, and if not.
+fn put_branch(
+    lines: &mut Vec<u8>,
+    op: TestOp,
+    pointers: bool,
+    left: Operand,
+    right: Operand,
+    yes: u32,
+    no: u32,
+) -> Result<(), AllocError> {
+    put(
+        lines,
+        &[
+            word(test_text(op)),
+            word(pointers_text(pointers)),
+            value(left),
+            value(right),
+            next(yes),
+            next(no),
+        ],
+    )
+}
+
+/// Appends a command on the heap, and nothing for another one.
+fn put_heap_command(lines: &mut Vec<u8>, command: &Cmd) -> Result<(), AllocError> {
+    match command {
+        Cmd::Load {
+            to,
+            base,
+            kind: tag,
+            field: place,
+            next: on,
+        } => put_load(lines, *to, *base, tag, *place, *on),
+        Cmd::Store {
+            base,
+            kind: tag,
+            field: place,
+            from,
+            next: on,
+        } => put_store(lines, *base, tag, *place, *from, *on),
+        Cmd::New {
+            to,
+            kind: tag,
+            next: on,
+        } => put_structure(lines, b" new", *to, tag, *on),
+        Cmd::Free {
+            base,
+            kind: tag,
+            next: on,
+        } => put_structure(lines, b" free", *base, tag, *on),
+        _ => Ok(()),
+    }
+}
+
 /// Appends a command: its word, what it assigns, what it reads, and where a run goes on.
 fn put_command(lines: &mut Vec<u8>, command: &Cmd) -> Result<(), AllocError> {
     match command {
@@ -135,102 +302,17 @@ fn put_command(lines: &mut Vec<u8>, command: &Cmd) -> Result<(), AllocError> {
             left,
             right,
             next: on,
-        } => put(
-            lines,
-            &[
-                word(arith_text(*op)),
-                slot(*to),
-                value(*left),
-                value(*right),
-                next(*on),
-            ],
-        ),
-        Cmd::Any { to, ty, next: on } => {
-            let [mark, tag] = kind(ty);
-            put(lines, &[word(b" any"), slot(*to), mark, tag, next(*on)])
+        } => put_arith(lines, *to, *op, *left, *right, *on),
+        Cmd::Any { to, ty, next: on } => put_any(lines, *to, ty, *on),
+        Cmd::Load { .. } | Cmd::Store { .. } | Cmd::New { .. } | Cmd::Free { .. } => {
+            put_heap_command(lines, command)
         }
-        Cmd::Load {
-            to,
-            base,
-            kind: tag,
-            field: place,
-            next: on,
-        } => put(
-            lines,
-            &[
-                word(b" load"),
-                slot(*to),
-                slot(*base),
-                word(b" "),
-                word(tag.as_bytes()),
-                field(*place),
-                next(*on),
-            ],
-        ),
-        Cmd::Store {
-            base,
-            kind: tag,
-            field: place,
-            from,
-            next: on,
-        } => put(
-            lines,
-            &[
-                word(b" store"),
-                slot(*base),
-                word(b" "),
-                word(tag.as_bytes()),
-                field(*place),
-                value(*from),
-                next(*on),
-            ],
-        ),
-        Cmd::New {
-            to,
-            kind: tag,
-            next: on,
-        } => put(
-            lines,
-            &[
-                word(b" new"),
-                slot(*to),
-                word(b" "),
-                word(tag.as_bytes()),
-                next(*on),
-            ],
-        ),
-        Cmd::Free {
-            base,
-            kind: tag,
-            next: on,
-        } => put(
-            lines,
-            &[
-                word(b" free"),
-                slot(*base),
-                word(b" "),
-                word(tag.as_bytes()),
-                next(*on),
-            ],
-        ),
         Cmd::Call {
             to,
             callee,
             args,
             next: on,
-        } => {
-            put(
-                lines,
-                &[
-                    word(b" call"),
-                    target(*to),
-                    word(b" "),
-                    word(callee.as_bytes()),
-                ],
-            )?;
-            put_values(lines, args.as_slice())?;
-            put(lines, &[next(*on)])
-        }
+        } => put_call(lines, *to, callee, args.as_slice(), *on),
         Cmd::Branch {
             op,
             pointers,
@@ -238,17 +320,7 @@ fn put_command(lines: &mut Vec<u8>, command: &Cmd) -> Result<(), AllocError> {
             right,
             yes,
             no,
-        } => put(
-            lines,
-            &[
-                word(test_text(*op)),
-                word(pointers_text(*pointers)),
-                value(*left),
-                value(*right),
-                next(*yes),
-                next(*no),
-            ],
-        ),
+        } => put_branch(lines, *op, *pointers, *left, *right, *yes, *no),
         Cmd::Return { value: given } => put(lines, &[word(b" ret"), value(*given)]),
     }
 }

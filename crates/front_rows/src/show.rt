@@ -98,9 +98,9 @@ impl<'a> Left<'a> {
         match &head.params {
             Params::Empty => self.put(&[Task::Text(b")")])?,
             Params::Void(_) => self.put(&[Task::Text(b"void)")])?,
-            Params::Listed(first, others) => self.put(&[
-                Task::Param(first),
-                Task::Params(others.as_slice()),
+            Params::Listed(params) => self.put(&[
+                Task::Param(&params.first),
+                Task::Params(params.others.as_slice()),
                 Task::Text(b")"),
             ])?,
         }
@@ -172,12 +172,12 @@ impl<'a> Left<'a> {
             Expr::Prefix(_, PrefixOp::Not, inner) => {
                 self.put(&[Task::Text(b"(!"), Task::Expr(&**inner), Task::Text(b")")])
             }
-            Expr::Members(base, first, others) => self.put(&[
+            Expr::Members(base, fields) => self.put(&[
                 Task::Text(b"("),
                 Task::Expr(&**base),
                 Task::Text(b"->"),
-                Task::Name(first),
-                Task::Members(others.as_slice()),
+                Task::Name(&fields.first),
+                Task::Members(fields.others.as_slice()),
                 Task::Text(b")"),
             ]),
             Expr::Variable(name) => self.put(&[Task::Name(name)]),
@@ -343,8 +343,8 @@ impl<'a> Left<'a> {
             Task::Local(local) => self.put(&[
                 Task::Type(&local.specifier),
                 Task::Text(b" "),
-                Task::Initialized(&local.first),
-                Task::Others(local.others.as_slice()),
+                Task::Initialized(&local.declarators.first),
+                Task::Others(local.declarators.others.as_slice()),
             ]),
             Task::Block(block) => self.put(&[
                 Task::Text(b"{"),
@@ -367,8 +367,8 @@ impl<'a> Left<'a> {
             Task::Fields([first, others @ ..]) => self.put(&[
                 Task::Type(&first.specifier),
                 Task::Text(b" "),
-                Task::Declarator(&first.first),
-                Task::More(first.others.as_slice()),
+                Task::Declarator(&first.declarators.first),
+                Task::More(first.declarators.others.as_slice()),
                 Task::Text(b";"),
                 Task::Fields(others),
             ]),

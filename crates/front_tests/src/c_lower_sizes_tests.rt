@@ -1,7 +1,8 @@
 //! Small bodies, built by hand from the types.
 use c_lower_sizes::{MOST_COUNTED, body_size, local_count};
 use c_tree::{
-    BinaryOp, Declarator, Expr, Ident, Initialized, Link, Local, Name, Place, Stmt, TypeSpecifier,
+    BinaryOp, Declarator, Expr, Ident, Initialized, Link, Local, Name, NonEmpty, Place, Stmt,
+    TypeSpecifier,
 };
 use std::alloc::Global;
 use std::rt::HostRuntime;
@@ -63,8 +64,10 @@ fn declarations(alloc: Global, times: u32) -> Result<Vec<Stmt>, Fail> {
         others.push(named(alloc, b"y", Some(two(alloc, BinaryOp::Less)?))?)?;
         stmts.push(Stmt::Local(Local {
             specifier: TypeSpecifier::Int(HERE),
-            first: named(alloc, b"x", None)?,
-            others,
+            declarators: NonEmpty {
+                first: named(alloc, b"x", None)?,
+                others,
+            },
         }))?;
     }
     Ok(stmts)

@@ -1,6 +1,7 @@
 use Rattle.std.proofs.Common.{◌≡◌, ◌<◌, ◌+◌, ◌-◌, ◌∷◌, map, drop, take, sym, ap, ◌∙◌, subst, arith, rules}
 use Rattle.std.proofs.lemmas.List.{at_drop_more, at_drop_all}
 use Rattle.std.proofs.lemmas.Result.{IfOk-weaker}
+use Rattle.c_tree.specs.NonEmpty.{items}
 use Rattle.c_tree.specs.Syntax.{ident_tree, expr_tree, links_tree, args_tree, prefix_tree}
 use Rattle.c_lower_rules.specs.Expressions.{lowering, prefix, chain, lowerings, members}
 use Rattle.c_lower_rules.specs.Numbers.{HasIntNumbers}
@@ -146,21 +147,17 @@ pub lower-returns-in_ok-base-in-Members : goal.lower-returns-in_ok-base-in-Membe
 lower-returns-in_ok-base-in-Members t c =
     let ctx = c.args.site.now in
     let m = c.in-Members in
-    let tree = ap expr_tree m.is ∙ members_is m.base m.first m.others in
+    let tree = ap expr_tree m.is ∙ members_is m.base m.fields in
     let base : m.base.value ≡ c.deref.result.now = search rules in
     IfOk-weaker c.members.result _ _ (λ found is numbers.
     subst (λ e. IsLowered c.args.used (lowering ctx e) c.args.site.now.first_temp c.args.out.now c.members.new.out found) (sym tree)
-    (subst (λ xs. IsLowered c.args.used
-    (members ctx (lowering ctx (expr_tree m.base.value))
-    (ident_tree m.first ∷ map ident_tree xs)) c.args.site.now.first_temp c.args.out.now c.members.new.out found)
-    c.as_slice.ensures.value
     (subst (λ b. IsLowered c.args.used
-    (members ctx (lowering ctx (expr_tree b))
-    (ident_tree m.first ∷ map ident_tree c.as_slice.result.now)) c.args.site.now.first_temp c.args.out.now c.members.new.out found)
+    (members ctx (lowering ctx (expr_tree b)) (map ident_tree (items m.fields)))
+    c.args.site.now.first_temp c.args.out.now c.members.new.out found)
     (sym base)
     (is (lowering ctx (expr_tree c.deref.result.now)) c.args.out.now
     (c.in_ok-base-in-Members.ensures
-    (subst (λ b. HasIntNumbers (expr_tree b)) base (subst HasIntNumbers tree numbers))))))) c.members.ensures
+    (subst (λ b. HasIntNumbers (expr_tree b)) base (subst HasIntNumbers tree numbers)))))) c.members.ensures
 
 pub lower-returns-in_ok-operands-in-Call : goal.lower-returns-in_ok-operands-in-Call
 lower-returns-in_ok-operands-in-Call t c =

@@ -10,8 +10,8 @@ loop-other-init c = (
   c.in_ok-count.ensures.within,
   λ numbers.
       let one = c.args.one.now in
-      locals_begun (specifier_tree one.specifier) c.args.context.now c.args.line c.args.locals (initialized_tree one.first)
-      (map initialized_tree one.others.items)
+      locals_begun (specifier_tree one.specifier) c.args.context.now c.args.line c.args.locals (initialized_tree one.declarators.first)
+      (map initialized_tree one.declarators.others.items)
       (map initialized_tree c.deref-other-items.result.now) c.args.out.now c.local.new.context c.in_ok-count.count c.local.new.out
       (ap (map initialized_tree) (sym c.deref-other-items.ensures.value)) numbers.1 (c.in_ok-count.ensures.declared numbers.0),
 )
@@ -24,7 +24,7 @@ loop-other-preserved c = (
       let items = c.deref-other-items.result.now in
       let at = c.loop-other.other-index in
       locals_turned (specifier_tree one.specifier) c.args.context.now c.args.line c.args.locals
-      (initialized_tree one.first ∷ map initialized_tree one.others.items)
+      (initialized_tree one.declarators.first ∷ map initialized_tree one.declarators.others.items)
       (map initialized_tree (drop at items)) (map initialized_tree (drop (at + 1) items))
       (initialized_tree c.other-item.result) c.args.out.now c.loop-other.context
       c.local_behind.new.context
@@ -42,6 +42,6 @@ returns-clause-declared c = λ numbers.
     let one = c.args.one.now in
     let items = c.deref-other-items.result.now in
     locals_ended (specifier_tree one.specifier) c.args.context.now c.args.line c.args.locals
-    (initialized_tree one.first ∷ map initialized_tree one.others.items)
+    (initialized_tree one.declarators.first ∷ map initialized_tree one.declarators.others.items)
     (map initialized_tree (drop c.loop-other.other-index items)) c.args.out.now c.loop-other.context c.loop-other.count c.loop-other.out
     (at_drop_all (map initialized_tree) items c.loop-other.other-index c.loop-other-test.false) (c.loop-other.invariant.1 numbers)

@@ -10,5 +10,5 @@ invariant-loop-other l =
     IsWithin l.fn.context l.context
     × (LocalHasIntNumbers (local_tree l.fn.one)
     → LocalsSoFar (specifier_tree l.fn.one.specifier) l.fn.context l.line l.fn.locals
-    (initialized_tree l.fn.one.first ∷ map initialized_tree l.fn.one.others.items)
+    (initialized_tree l.fn.one.declarators.first ∷ map initialized_tree l.fn.one.declarators.others.items)
     (map initialized_tree (drop l.other-index l.other-items)) l.fn.out l.context l.count l.out)

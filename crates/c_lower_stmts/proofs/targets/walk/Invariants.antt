@@ -11,6 +11,7 @@ use Rattle.c_lower_stmts.proofs.targets.walk.Given as goal
 abbrev pub invariant-loop-next : goal.invariant-loop-next
 invariant-loop-next l =
     (lowering : Lowering) → (before : Out) → IsLowered Value lowering l.site.first_temp before l.fn.out l.fn.base
-    → TargetSoFar l.site l.site.first_temp (member_target l.site lowering (ident_tree l.fn.first) (map ident_tree l.others))
+    → TargetSoFar l.site l.site.first_temp
+    (member_target l.site lowering (ident_tree l.fields.first) (map ident_tree l.fields.others.items))
     (ident_tree l.field)
-    (map ident_tree (drop l.next-index l.others)) before l.out l.current
+    (map ident_tree (drop l.next-index l.next-items)) before l.out l.current

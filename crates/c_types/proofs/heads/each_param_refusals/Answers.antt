@@ -1,30 +1,37 @@
-use Rattle.std.proofs.Common.{[], ◌++◌, List, map, sym, ap, ◌∙◌}
-use Rattle.std.proofs.lemmas.Result.{on_ok_weaker}
-use Rattle.c_types_rules.specs.Items.{param_refusals, each_param_refusals, listed, with_name}
+use Rattle.std.proofs.Common.{[], List, map, ap, rules}
+use Rattle.c_types_rules.specs.Items.{with_name, param_refusals, each_param_refusals}
 use Rattle.c_tree.specs.declared.names.Param.{Param}
-use Rattle.c_tree.specs.declared.names.Params.{Params}
-use Rattle.c_tree.specs.Syntax.{param_tree, params_tree}
-use Rattle.c_types_names.proofs.FirstRefusals.{nothing, then, same}
+use Rattle.c_tree.specs.NonEmpty.{left}
+use Rattle.c_tree.specs.Syntax.{param_tree}
+use Rattle.c_types_names.proofs.FirstRefusals.{turn, over}
+use Rattle.c_types_names.proofs.ParamsInTurn.{each_param}
 use Rattle.c_types.proofs.NamesInTurn.{lists_none}
 use Rattle.c_types.proofs.heads.each_param_refusals.Goals as goal
 
-pub returns-in-Empty : goal.returns-in-Empty
-returns-in-Empty c =
-    same _ _ _ _ (nothing c.args.first.now)
-    (ap (λ (ps : Params). each_param_refusals c.args.tables.now [] (listed (params_tree ps))) (sym c.in-Empty.is))
+pub loop-param-init : goal.loop-param-init
+loop-param-init c = record {
+  names = [];
+  lists = lists_none c.new-before.result c.new-before.ensures;
+  passes = search (rules, each_param);
+}
 
-pub returns-in-Void : goal.returns-in-Void
-returns-in-Void c =
-    same _ _ _ _ (nothing c.args.first.now)
-    (ap (λ (ps : Params). each_param_refusals c.args.tables.now [] (listed (params_tree ps))) (sym c.in-Void.is))
-
-pub returns-in_ok-add_name-in-Listed : goal.returns-in_ok-add_name-in-Listed
-returns-in_ok-add_name-in-Listed c = on_ok_weaker c.more_param_refusals.result (λ more.
+pub loop-param-preserved : goal.loop-param-preserved
+loop-param-preserved c =
     let t = c.args.tables.now in
-    let p = param_tree c.in-Listed.param in
-    let none = lists_none c.new-before.result c.new-before.ensures in
-    let names = with_name p.name [] in
-    same _ _ _ _ (then _ _ _ _ _ (c.param_refusals.ensures [] none) (more names (c.in_ok-add_name-in-Listed.ensures [] none)))
-    (ap (λ (ps : List Param). param_refusals t [] p ++ each_param_refusals t names (map param_tree ps)) c.as_slice.ensures.value
-    ∙ ap (λ (ps : Params). each_param_refusals t [] (listed (params_tree ps))) (sym c.in-Listed.is)))
-    c.more_param_refusals.ensures
+    let before = c.loop-param.invariant in
+    let x = param_tree c.in-Some.param.now in
+    let names = with_name x.name before.names in
+    record {
+      names = names;
+      lists = c.in_ok-add_name.ensures before.names before.lists;
+      passes =
+          turn _ _ _ _ (param_refusals t before.names x) (each_param_refusals t names (map param_tree (left c.next.new.self)))
+          (c.param_refusals.ensures before.names before.lists)
+          (ap (λ (xs : List Param). each_param_refusals t before.names (map param_tree xs)) c.in-Some.ensures.steps) before.passes;
+    }
+
+pub returns : goal.returns
+returns c =
+    let all = c.loop-param.invariant in
+    over _ _ _ (ap (λ (xs : List Param). each_param_refusals c.args.tables.now all.names
+    (map param_tree xs)) c.in-None.ensures.steps.0) all.passes

@@ -1,10 +1,11 @@
-use Rattle.std.proofs.Common.{◌≡◌, map, drop}
+use Rattle.std.proofs.Common.{◌≡◌, map}
 use Rattle.c_types_rules.specs.Expressions.{kind_of_members}
+use Rattle.c_tree.specs.NonEmpty.{left, items}
 use Rattle.c_tree.specs.Syntax.{ident_tree}
 use Rattle.c_types_names.specs.Seen.{kind_seen}
 use Rattle.c_types_exprs.proofs.exprs.kind_of_members.Given as goal
 
 abbrev pub invariant-loop-field : goal.invariant-loop-field
 invariant-loop-field l =
-    kind_of_members l.tables (kind_seen l.current) (map ident_tree (drop l.field-index l.fields))
-    ≡ kind_of_members l.tables (kind_seen l.initial.current) (map ident_tree l.fields)
+    kind_of_members l.tables (kind_seen l.current) (map ident_tree (left l.field-iterator))
+    ≡ kind_of_members l.tables (kind_seen l.initial.current) (map ident_tree (items l.fields))

@@ -25,8 +25,7 @@ expr_refusals-returns-in-Prefix-clause-refusals t c =
 pub expr_refusals-returns-in-Members-clause-refusals : goal.expr_refusals-returns-in-Members-clause-refusals
 expr_refusals-returns-in-Members-clause-refusals t c =
     same _ _ _ _
-    (then _ _ _ _ _ c.expr_refusals-kind-in-Members.ensures.refusals
-    (then _ _ _ _ _ c.member_refusals-kind.ensures.refusals c.members_refusals.ensures.refusals)) (search (rules, the_lemmas))
+    (then _ _ _ _ _ c.expr_refusals-kind-in-Members.ensures.refusals c.members_refusals.ensures.refusals) (search (rules, the_lemmas))
 
 pub expr_refusals-returns-in-Number-clause-refusals : goal.expr_refusals-returns-in-Number-clause-refusals
 expr_refusals-returns-in-Number-clause-refusals t c = same _ _ _ _ (nothing _) (search (rules, the_lemmas))

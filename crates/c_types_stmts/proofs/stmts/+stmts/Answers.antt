@@ -1,4 +1,4 @@
-use Rattle.std.proofs.Common.{◌≡◌, ◌<◌, ◌≤◌, None, Some, List, length, option_map, refl, sym, ap, ◌∙◌, rules}
+use Rattle.std.proofs.Common.{◌≡◌, ◌<◌, ◌≤◌, None, Some, List, length, option_map, refl, ap, ◌∙◌, rules}
 use Rattle.std.proofs.lemmas.List.{at_drop_all}
 use Rattle.c_types_rules.specs.Scopes.{Env, entered}
 use Rattle.c_types_rules.specs.Statements.{test, stmt, stmts, behind_stmt}
@@ -36,29 +36,24 @@ nested-returns-clause-env t c =
     (stmt_kept _ _ (stmt_tree c.deref.result.now) c.in_ok-stmt.ensures.env) c.enter-begin.ensures.around
     c.leave.ensures
 
-pub stmt-leave-requires : goal.stmt-leave-requires
-stmt-leave-requires t c =
-    may_leave c.args.env.now c.enter-begin.new.self c.nested-in-For.new.env c.enter-begin.result c.enter-begin.ensures.scopes
-    (kept_again _ _ _ c.in_ok-nested-in-For.ensures.env
-    (init_kept _ _ (init_tree c.in-For.first) c.in_ok-init-in-For.ensures.env)) c.enter-begin.ensures.around
+pub for_loop-leave-requires : goal.for_loop-leave-requires
+for_loop-leave-requires t c =
+    may_leave c.args.env.now c.enter-begin.new.self c.nested.new.env c.enter-begin.result c.enter-begin.ensures.scopes
+    (kept_again _ _ _ c.in_ok-nested.ensures.env
+    (init_kept _ _ (init_tree c.args.first.now) c.in_ok-init.ensures.env)) c.enter-begin.ensures.around
 
-pub stmt-returns-in_ok-nested-in-For-clause-env : goal.stmt-returns-in_ok-nested-in-For-clause-env
-stmt-returns-in_ok-nested-in-For-clause-env t c =
-    let s = c.in-For in
-    left c.args.env.now c.enter-begin.new.self c.nested-in-For.new.env c.leave.new.self c.enter-begin.result c.enter-begin.ensures.scopes
-    (kept_again _ _ _ c.in_ok-nested-in-For.ensures.env
-    (init_kept _ _ (init_tree c.in-For.first) c.in_ok-init-in-For.ensures.env)) c.enter-begin.ensures.around c.leave.ensures
-    ∙ ap (behind_stmt c.args.env.now) (sym (ap stmt_tree s.is ∙ for_is s.place s.first s.condition s.step s.body))
+pub for_loop-returns-clause-env : goal.for_loop-returns-clause-env
+for_loop-returns-clause-env t c =
+    left c.args.env.now c.enter-begin.new.self c.nested.new.env c.leave.new.self c.enter-begin.result c.enter-begin.ensures.scopes
+    (kept_again _ _ _ c.in_ok-nested.ensures.env
+    (init_kept _ _ (init_tree c.args.first.now) c.in_ok-init.ensures.env)) c.enter-begin.ensures.around c.leave.ensures
 
-pub stmt-returns-in_ok-nested-in-For-clause-found : goal.stmt-returns-in_ok-nested-in-For-clause-found
-stmt-returns-in_ok-nested-in-For-clause-found t c =
-    let s = c.in-For in
-    tree_found c.args.env.now (kind_seen c.args.answer) c.args.loops _ _
-    (ap stmt_tree s.is ∙ for_is s.place s.first s.condition s.step s.body)
-    (for_found c.args.env.now c.enter-begin.new.self c.init.new.env (kind_seen c.args.answer) c.args.loops s.place (init_tree s.first)
-    (option_map expr_tree s.condition) (option_map for_step_tree s.step) (stmt_tree s.body.value)
-    c.enter-begin.ensures.scopes c.in_ok-init-in-For.ensures.env c.in_ok-init-in-For.ensures.found c.in_ok-maybe_test-in-For.ensures
-    c.in_ok-maybe_simple-in-For.ensures c.in_ok-nested-in-For.ensures.found)
+pub for_loop-returns-clause-found : goal.for_loop-returns-clause-found
+for_loop-returns-clause-found t c = λ loops place.
+    for_found c.args.env.now c.enter-begin.new.self c.init.new.env (kind_seen c.args.answer) loops place (init_tree c.args.first.now)
+    (option_map expr_tree c.args.test.now) (option_map for_step_tree c.args.step.now) (stmt_tree c.args.body.now.value)
+    c.enter-begin.ensures.scopes c.in_ok-init.ensures.env c.in_ok-init.ensures.found c.in_ok-maybe_condition.ensures
+    c.in_ok-maybe_simple.ensures c.in_ok-nested.ensures.found
 
 pub stmt-returns-in-Empty-clause-found : goal.stmt-returns-in-Empty-clause-found
 stmt-returns-in-Empty-clause-found t c =
@@ -68,37 +63,43 @@ stmt-returns-in-Empty-clause-found t c =
 pub stmt-returns-in-None-clause-found : goal.stmt-returns-in-None-clause-found
 stmt-returns-in-None-clause-found t c =
     let s = c.in-If in
-    let whole : c.args.one.now ≡ If s.place s.condition s.body None = s.is ∙ ap (λ o. If s.place s.condition s.body o) c.in-None.is in
-    tree_found c.args.env.now (kind_seen c.args.answer) c.args.loops _ _ (ap stmt_tree whole ∙ if_is s.place s.condition s.body)
-    (then c.in_ok-test-in-If.ensures c.in_ok-nested-in-If.ensures.found)
+    let whole : c.args.one.now ≡ If s.place s.test s.body None = s.is ∙ ap (λ o. If s.place s.test s.body o) c.in-None.is in
+    tree_found c.args.env.now (kind_seen c.args.answer) c.args.loops _ _ (ap stmt_tree whole ∙ if_is s.place s.test s.body)
+    (then c.in_ok-condition-in-If.ensures c.in_ok-nested-in-If.ensures.found)
 
 pub stmt-returns-in-Some-clause-found : goal.stmt-returns-in-Some-clause-found
 stmt-returns-in-Some-clause-found t c =
     let s = c.in-If in
-    let whole : c.args.one.now ≡ If s.place s.condition s.body (Some c.in-Some.other) =
-    s.is ∙ ap (λ o. If s.place s.condition s.body o) c.in-Some.is in
+    let whole : c.args.one.now ≡ If s.place s.test s.body (Some c.in-Some.other) =
+    s.is ∙ ap (λ o. If s.place s.test s.body o) c.in-Some.is in
     tree_ends c.nested-in-Some.result c.args.env.now (kind_seen c.args.answer) c.args.loops _ _ _ _
-    (ap stmt_tree whole ∙ if_else s.place s.condition s.body c.in-Some.other)
-    (ends c.nested-in-Some.result _ _ c.in_ok-test-in-If.ensures (ends c.nested-in-Some.result _ _ c.in_ok-nested-in-If.ensures.found
+    (ap stmt_tree whole ∙ if_else s.place s.test s.body c.in-Some.other)
+    (ends c.nested-in-Some.result _ _ c.in_ok-condition-in-If.ensures (ends c.nested-in-Some.result _ _ c.in_ok-nested-in-If.ensures.found
     (ends_same c.nested-in-Some.result _ _ _ _ c.nested-in-Some.ensures.found
     (ap (λ (e : Env). stmt (entered e) (kind_seen c.args.answer) c.args.loops
     (stmt_tree c.in-Some.other.value)) c.in_ok-nested-in-If.ensures.env))))
 
-pub stmt-returns-in_ok-test-in-While-clause-found : goal.stmt-returns-in_ok-test-in-While-clause-found
-stmt-returns-in_ok-test-in-While-clause-found t c =
+pub stmt-returns-in-For-clause-found : goal.stmt-returns-in-For-clause-found
+stmt-returns-in-For-clause-found t c =
+    let s = c.in-For in
+    tree_ends c.for_loop.result c.args.env.now (kind_seen c.args.answer) c.args.loops _ _ _ _
+    (ap stmt_tree s.is ∙ for_is s.place s.first s.test s.step s.body) (c.for_loop.ensures.found c.args.loops s.place)
+
+pub stmt-returns-in_ok-condition-in-While-clause-found : goal.stmt-returns-in_ok-condition-in-While-clause-found
+stmt-returns-in_ok-condition-in-While-clause-found t c =
     let s = c.in-While in
     tree_ends c.nested-in-While.result c.args.env.now (kind_seen c.args.answer) c.args.loops _ _ _ _
-    (ap stmt_tree s.is ∙ while_is s.place s.condition s.body)
-    (ends c.nested-in-While.result _ _ c.in_ok-test-in-While.ensures c.nested-in-While.ensures.found)
+    (ap stmt_tree s.is ∙ while_is s.place s.test s.body)
+    (ends c.nested-in-While.result _ _ c.in_ok-condition-in-While.ensures c.nested-in-While.ensures.found)
 
 pub stmt-returns-in_ok-nested-in-DoWhile-clause-found : goal.stmt-returns-in_ok-nested-in-DoWhile-clause-found
 stmt-returns-in_ok-nested-in-DoWhile-clause-found t c =
     let s = c.in-DoWhile in
-    tree_ends c.test-in-DoWhile.result c.args.env.now (kind_seen c.args.answer) c.args.loops _ _ _ _
-    (ap stmt_tree s.is ∙ do_while_is s.place s.body s.condition)
-    (ends c.test-in-DoWhile.result _ _ c.in_ok-nested-in-DoWhile.ensures.found
-    (ends_same c.test-in-DoWhile.result _ _ _ _ c.test-in-DoWhile.ensures
-    (ap (λ (e : Env). test e (expr_tree s.condition)) c.in_ok-nested-in-DoWhile.ensures.env)))
+    tree_ends c.condition-in-DoWhile.result c.args.env.now (kind_seen c.args.answer) c.args.loops _ _ _ _
+    (ap stmt_tree s.is ∙ do_while_is s.place s.body s.test)
+    (ends c.condition-in-DoWhile.result _ _ c.in_ok-nested-in-DoWhile.ensures.found
+    (ends_same c.condition-in-DoWhile.result _ _ _ _ c.condition-in-DoWhile.ensures
+    (ap (λ (e : Env). test e (expr_tree s.test)) c.in_ok-nested-in-DoWhile.ensures.env)))
 
 pub stmts-loop-one-preserved : goal.stmts-loop-one-preserved
 stmts-loop-one-preserved t c =
