@@ -15,7 +15,7 @@ use Rattle.c_lower_rules.specs.Temporaries.{Temp, Taken, is_free, behind_temp, t
 use Rattle.c_lower_rules.specs.Contexts.{Context}
 use Rattle.c_lower_rules.specs.Values.{Value as ValueCode, Tested, Making, is_pointer, not_zero, at_hand, made_value, made, put_truth}
 use Rattle.c_lower_rules.specs.Values.{truth}
-use Rattle.c_lower_emit.specs.declared.drafts.Label.TheVariants.{At, Next}
+use Rattle.c_lower_emit.specs.declared.drafts.Label.TheVariants.{At}
 use Rattle.c_lower_emit.specs.declared.drafts.Ways.{Ways}
 use Rattle.c_lower_emit.specs.declared.uses.Use.{Use}
 use Rattle.c_lower_emit.specs.declared.uses.Use.TheVariants.{Value, Test as AsTest}
@@ -70,7 +70,7 @@ pub value_pushed : (first line : ℕ) (kind : Ty) (command : Cmd) (o taken new :
     → taken ≡ record o { temps = (take_temp kind o.temps).temps } → (length o.temps < 4294967296 → place ≡ (take_temp kind o.temps).place)
     → slot ≡ min (first + place) 4294967295 → (length taken.nodes < 4294967296 → here ≡ length taken.nodes)
     → behind ≡ min (here + 1) 4294967295
-    → put ≡ put_to command slot → new ≡ with_draft line put (At behind) Next taken
+    → put ≡ put_to command slot → new ≡ with_draft line put (At behind) (At behind) taken
     → HasRoom first 1 o → IsMadeValue first line kind command o new (Slot slot)
 value_pushed first line kind cmd o taken new place slot here behind put takes at sat there sat' puts pushes room =
     let nodes = room.nodes in
@@ -80,9 +80,10 @@ value_pushed first line kind cmd o taken new place slot here behind put takes at
     record {
       operand = ap Slot is;
       out =
-          pushes ∙ ap (λ x. with_draft line put (At behind) Next x) takes
-          ∙ ap (λ x. with_draft line x (At behind) Next (record o { temps = (take_temp kind o.temps).temps })) (puts ∙ ap (put_to cmd) is)
-          ∙ ap (λ x. with_draft line (put_to cmd (first + (take_temp kind o.temps).place)) (At x) Next
+          pushes ∙ ap (λ x. with_draft line put (At behind) (At behind) x) takes
+          ∙ ap (λ x. with_draft line x (At behind) (At behind) (record o { temps = (take_temp kind o.temps).temps }))
+          (puts ∙ ap (put_to cmd) is)
+          ∙ ap (λ x. with_draft line (put_to cmd (first + (take_temp kind o.temps).place)) (At x) (At x)
           (record o { temps = (take_temp kind o.temps).temps })) next;
     }
 
@@ -101,14 +102,18 @@ value_made c kind making cmd before mid new operand value start room =
     × (operand ≡ Slot (c.first_temp + (take_temp kind ts).place))) k.before.grows.temps (
       subst (λ o. EmitsStraight (straight (m.code ⊳ command c.line (m.make slot))) (take_temp kind mid.temps).temps before o) (sym v.out)
           (record {
-            drafts = k.before.drafts ++ record { line = c.line; cmd = put_to cmd slot; next = At (length mid.nodes + 1); other = Next }
-                ∷ [];
+            drafts = k.before.drafts ++ record {
+              line = c.line;
+              cmd = put_to cmd slot;
+              next = At (length mid.nodes + 1);
+              other = At (length mid.nodes + 1);
+            } ∷ [];
             grows =
                 grows_then before mid _ k.before.grows
                 (record { nodes = refl; size = refl; temps = refl; grown = take_grows kind mid.temps });
             laid = λ p.
                 laid_both p k.before.drafts _ _ _ (k.before.laid p)
-                (ap (λ n. node c.line n ∷ []) (k.is slot (length mid.nodes + 1) p.next ∙ ap (m.make slot) place));
+                (ap (λ n. node c.line n ∷ []) (k.is slot (length mid.nodes + 1) (length mid.nodes + 1) ∙ ap (m.make slot) place));
             loops = k.before.loops;
           }),
       v.operand,

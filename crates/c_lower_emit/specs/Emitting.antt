@@ -12,7 +12,7 @@ use Rattle.c_lower_rules.specs.Contexts.{Context}
 use Rattle.c_lower_rules.specs.Values.{Tested, Lowering, Making, truth}
 use Rattle.c_lower_emit.specs.declared.drafts.Draft.{Draft}
 use Rattle.c_lower_emit.specs.declared.drafts.Label.{Label}
-use Rattle.c_lower_emit.specs.declared.drafts.Label.TheVariants.{At, Next}
+use Rattle.c_lower_emit.specs.declared.drafts.Label.TheVariants.{At}
 use Rattle.c_lower_emit.specs.declared.drafts.Ways.{Ways}
 use Rattle.c_lower_emit.specs.declared.uses.Spot.{Spot}
 use Rattle.c_lower_emit.specs.declared.uses.Use.{Use}
@@ -112,8 +112,8 @@ EmitsTested tested first old new = HasRoom first tested.test.size old → EmitsT
 -- a temporary of the type was taken for the value of the command, which goes on behind it
 pub record IsMadeValue (first line : ℕ) (kind : Ty) (command : Cmd) (old new : Out) (found : Operand) : Type 0 where
   pub operand : found ≡ Slot (first + (take_temp kind old.temps).place)
-  pub out : new ≡ with_draft line (put_to command (first + (take_temp kind old.temps).place)) (At (length old.nodes + 1)) Next
-      (record old { temps = (take_temp kind old.temps).temps })
+  pub out : new ≡ with_draft line (put_to command (first + (take_temp kind old.temps).place)) (At (length old.nodes + 1))
+      (At (length old.nodes + 1)) (record old { temps = (take_temp kind old.temps).temps })
 
 -- where the value of a test is wanted, the temporary for that is taken first
 abbrev pub BeginsTruth : Use → ℕ → Out → Out → ℕ → Type 0

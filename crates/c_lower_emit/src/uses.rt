@@ -128,7 +128,9 @@ impl<'a> Output<'a> {
         let place = self.take(kind)?;
         let slot = spot.first_temp.saturating_add(place);
         let behind = self.here().saturating_add(1);
-        self.push(spot.line, put_to(cmd, slot), Label::At(behind), Label::Next)?;
+        // only a test has a second way on: no exit is left there that each sign before the value would look at
+        let next = Label::At(behind);
+        self.push(spot.line, put_to(cmd, slot), next, next)?;
         Ok(Operand::Slot(slot))
     }
 
