@@ -1,58 +1,28 @@
 //! Things by their names. Each map by name of the checker and of lowering is one of these: a tree in the order of numbers that are made of
 //! the names, their digests, so that long names which are alike but for their ends are told apart at once. Whoever writes the C file can
 //! choose names that have one digest: all but the first of those are in a second tree, in the order of their bytes.
-ghost use Rattle.std.specs.Prelude.{◌≡◌, ℕ, List, [], ◌∷◌, None, IfOk, OnOk, OnErr};
+ghost use Rattle.std.specs.Prelude.{◌≡◌, ℕ, List, None, IfOk, OnOk, OnErr};
 ghost use Rattle.std.specs.BTreeMap.{get_by};
 ghost use Rattle.std.specs.Cmp.Lexicographic.{slice_cmp};
 ghost use Rattle.std.specs.Option.{option_copied};
 ghost use Rattle.std.specs.Ordering.{nat_cmp};
 ghost use Rattle.std.specs.Str.{bytes_eq};
-ghost use Rattle.c_types_names.specs.NameMap.{digest, digest_from, is_first, named, or_first, or_last};
+ghost use Rattle.c_types_names.specs.NameMap.{digest, is_first, named, or_first, or_last};
 
 use c_tree::Name;
 use std::alloc::{AllocError, Global};
 use std::collections::BTreeMap;
 
-/// The factor of a digest: 2^64 over the golden ratio, made odd (Knuth, The Art of Computer Programming, volume 3, 6.4).
-const FACTOR: u64 = 11400714819323198485;
-
-/// The square of the factor, in 64 bits.
-const FACTOR_SQUARED: u64 = 16088033396387240377;
-
-/// The fourth power of the factor, in 64 bits.
-const FACTOR_TO_THE_FOURTH: u64 = 15655466665053923249;
-
-/// A digest, led on by a byte.
-fn with_byte(number: u64, byte: u8) -> u64
-    ensures { result ≡ digest_from number (byte ∷ []) }
-{
-    number.wrapping_mul(FACTOR).wrapping_add(u64::from(byte))
-}
-
-/// A digest, led on by four bytes: those behind them wait for one multiplication, and not for four.
-fn with_four(number: u64, one: u8, two: u8, three: u8, four: u8) -> u64
-    ensures { result ≡ digest_from number (one ∷ two ∷ three ∷ four ∷ []) }
-{
-    let front = with_byte(u64::from(one), two);
-    let back = with_byte(u64::from(three), four);
-    let bytes = front.wrapping_mul(FACTOR_SQUARED).wrapping_add(back);
-    number
-        .wrapping_mul(FACTOR_TO_THE_FOURTH)
-        .wrapping_add(bytes)
-}
-
-/// The digest of a name: a polynomial of its bytes, in 64 bits.
+/// The digest of a name: a polynomial of its bytes, in 64 bits, whose factor is 2^64 over the golden ratio, made odd (Knuth, The Art of
+/// Computer Programming, volume 3, 6.4).
 fn digest(bytes: &[u8]) -> u64
     ensures { result ≡ digest bytes.now }
 {
     let mut number: u64 = 0;
-    let mut rest = bytes;
-    while let [one, two, three, four, more @ ..] = rest {
-        number = with_four(number, *one, *two, *three, *four);
-        rest = more;
-    }
-    for byte in rest {
-        number = with_byte(number, *byte);
+    for byte in bytes {
+        number = number
+            .wrapping_mul(11400714819323198485)
+            .wrapping_add(u64::from(*byte));
     }
     number
 }
