@@ -1,5 +1,5 @@
 //! Procedures in flow form.
-ghost use Rattle.std.specs.Prelude.{◌≡◌, ◌<◌, ◌≤◌, ◌+◌, IfOk, length};
+ghost use Rattle.std.specs.Prelude.{◌≡◌, ◌≤◌, ◌+◌, IfOk, length};
 ghost use Rattle.c_types_rules.specs.Items.{listed};
 ghost use Rattle.c_lower_rules.specs.Statements.{stmts_kinds};
 ghost use Rattle.c_lower_rules.specs.Programs.{result_type, flow_of, proc_of};

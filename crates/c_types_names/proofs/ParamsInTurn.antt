@@ -14,7 +14,8 @@ each_param (params.Void place) = refl
 each_param (params.Listed list) = refl
 
 -- and its types
-pub each_kind : (tables : Tables) (all : Params) → param_kinds tables (params_tree all) ≡ map (param_kind tables) (map param_tree (param_items all))
+pub each_kind : (tables : Tables) (all : Params)
+    → param_kinds tables (params_tree all) ≡ map (param_kind tables) (map param_tree (param_items all))
 each_kind tables params.Empty = refl
 each_kind tables (params.Void place) = refl
 each_kind tables (params.Listed list) = refl

@@ -11,7 +11,8 @@ pub returns-in_ok-old-clause-thing : goal.returns-in_ok-old-clause-thing
 returns-in_ok-old-clause-thing g c = λ n.
     let old = c.args.self.now in
     let bytes = c.as_bytes-bytes.result.now in
-    let other : is_first (get_by (nat_cmp (digest bytes)) old.firsts) bytes (get_by (λ k. slice_cmp nat_cmp bytes k.now) old.others) ≡ false =
+    let other : is_first (get_by (nat_cmp (digest bytes)) old.firsts) bytes (get_by (λ k. slice_cmp nat_cmp bytes k.now) old.others)
+    ≡ false =
     ap
     (λ number. is_first (get_by (nat_cmp number) old.firsts) bytes (get_by (λ k. slice_cmp nat_cmp bytes k.now) old.others))
     (sym c.digest-number.ensures)
