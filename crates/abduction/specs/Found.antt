@@ -5,8 +5,8 @@ use Rattle.shape_data.specs.declared.program.StructDef.{StructDef}
 use Rattle.shape_data.specs.declared.symbolic.Exp.{Exp}
 use Rattle.shape_data.specs.declared.symbolic.SymHeap.{SymHeap}
 use Rattle.shape_data.specs.Meaning.{Holds}
-use Rattle.shape_laws.specs.Symbolic.{beside}
-use Rattle.sym_laws.specs.Each.{EachInHeap}
+use Rattle.sym_parts.specs.Shapes.Symbolic.{beside}
+use Rattle.sym_parts.specs.Laws.Each.{EachInHeap}
 use Rattle.sym_matching.specs.declared.matching.Abd.{Abd}
 use Rattle.sym_matching.specs.declared.matching.Abd.TheVariants.{Found, NoMatch}
 use Rattle.sym_matching.specs.Laws.{FitsAtom, GivesBeside}

@@ -2,7 +2,7 @@
 ghost use Rattle.std.specs.Prelude.{◌≡◌, ◌≤◌, [], IfOk};
 ghost use Rattle.sym_matching.specs.Matches.{biabduce as biabduce_of, biabduce_avoiding as biabduce_avoiding_of};
 ghost use Rattle.sym_matching.specs.Rooms.{IsWithinSizes};
-ghost use Rattle.sym_renaming.specs.Sizes.{AreSmall, IsSmallBinding};
+ghost use Rattle.sym_matching.specs.Renaming.Sizes.{AreSmall, IsSmallBinding};
 ghost use Rattle.abduction.specs.Found.{IsLogical, SplitsBeside};
 
 use matching::find;

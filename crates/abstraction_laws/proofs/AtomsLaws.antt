@@ -10,7 +10,7 @@ use Rattle.shape_data.specs.declared.symbolic.Exp.{Exp}
 use Rattle.shape_data.specs.declared.symbolic.Exp.TheVariants.{Var, Const}
 use Rattle.shape_data.specs.declared.symbolic.SymHeap.{SymHeap}
 use Rattle.shape_data.specs.declared.symbolic.SymState.{SymState}
-use Rattle.sym_laws.specs.Mapped.{on_atom, on_state}
+use Rattle.sym_parts.specs.Laws.Mapped.{on_atom, on_state}
 use Rattle.sym_pure.specs.Equations.{read_through}
 use Rattle.sym_pure.proofs.PartsLaws.{form_has_no_more_atoms}
 use Rattle.sym_canon.specs.declared.parts.Pair.{Pair}

@@ -13,8 +13,8 @@ use Rattle.shape_data.specs.declared.symbolic.Atom.TheVariants.{Points, Seg, Jun
 use Rattle.shape_data.specs.declared.symbolic.Exp.{Exp}
 use Rattle.shape_data.specs.declared.symbolic.Fact.{Fact}
 use Rattle.shape_data.specs.declared.symbolic.SymHeap.{SymHeap}
-use Rattle.sym_laws.specs.Expressions.{same_exp}
-use Rattle.sym_laws.specs.Junks.{is_other}
+use Rattle.sym_parts.specs.Laws.Expressions.{same_exp}
+use Rattle.sym_parts.specs.Laws.Junks.{is_other}
 use Rattle.sym_canon.specs.declared.parts.Pair.{Pair}
 use Rattle.sym_pure.proofs.PartsLaws.{remove-shorter}
 use Rattle.abstraction_laws.specs.Joining.{IsJoin, Join, end_by, find_join, join_first, segment_by, segment_of, segment_to, start_of}

@@ -20,7 +20,7 @@ use Rattle.shape_data.specs.declared.symbolic.Fact.TheVariants.{Eq, Ne}
 use Rattle.shape_data.specs.declared.symbolic.SymState.{SymState}
 use Rattle.shape_data.specs.Heap.{struct_named}
 use Rattle.shape_data.specs.Meaning.{value, AreTrueFacts, HoldsAtom, HoldsAtoms, IsTrueFact}
-use Rattle.sym_laws.specs.Each.{EachInAtom, EachInFact, EachInState}
+use Rattle.sym_parts.specs.Laws.Each.{EachInAtom, EachInFact, EachInState}
 use Rattle.abstraction_laws.specs.Forgetting.{above, first_new, forget_atoms, forget_cell, forget_fields, forget_slots, forget_value}
 use Rattle.abstraction_laws.specs.Forgetting.{is_constant, is_forgotten, is_int}
 use Rattle.abstraction_laws.specs.Laws.{ForgetWeakens}

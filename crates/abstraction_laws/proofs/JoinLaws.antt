@@ -14,11 +14,11 @@ use Rattle.shape_data.specs.declared.symbolic.Atom.{Atom}
 use Rattle.shape_data.specs.declared.symbolic.Atom.TheVariants.{Points, Seg, Junk}
 use Rattle.shape_data.specs.declared.symbolic.Exp.{Exp}
 use Rattle.shape_data.specs.Meaning.{HoldsAtoms}
-use Rattle.shape_laws.proofs.Atoms.{HoldsAtoms-remove}
-use Rattle.sym_laws.specs.Expressions.{same_exp}
-use Rattle.sym_laws.proofs.ExpressionLemmas.{same_exp-equal}
-use Rattle.sym_laws.proofs.OrderLemmas.{HoldsAtoms-swap}
-use Rattle.sym_laws.proofs.SegmentLemmas.{cell_is_segment, segments_join}
+use Rattle.sym_parts.proofs.ShapesLemmas.Atoms.{HoldsAtoms-remove}
+use Rattle.sym_parts.specs.Laws.Expressions.{same_exp}
+use Rattle.sym_parts.proofs.LawsLemmas.ExpressionLemmas.{same_exp-equal}
+use Rattle.sym_parts.proofs.LawsLemmas.OrderLemmas.{HoldsAtoms-swap}
+use Rattle.sym_parts.proofs.LawsLemmas.SegmentLemmas.{cell_is_segment, segments_join}
 use Rattle.sym_pure.proofs.EmptyingLaws.{position-found}
 use Rattle.abstraction_laws.specs.Joining.{IsJoin, Join, end_by, find_join, first_join, is_joint, join_at, join_first, join_from, join_into}
 use Rattle.abstraction_laws.specs.Joining.{segment_by, segment_of, segment_to, start_of, start_of_some, with_join}

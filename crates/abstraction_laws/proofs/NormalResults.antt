@@ -27,7 +27,7 @@ use Rattle.sym_canon.specs.declared.parts.Variables.TheVariants.{Existential}
 use Rattle.sym_canon.specs.Canonical.{as_state, canon_post, canon_state, sight_state, with_atoms_placed, without_locals}
 use Rattle.sym_canon.specs.FactOrder.{sorted_facts}
 use Rattle.sym_canon.specs.Numbering.{with_number}
-use Rattle.sym_laws.specs.Mapped.{on_atom, on_fact}
+use Rattle.sym_parts.specs.Laws.Mapped.{on_atom, on_fact}
 use Rattle.sym_forms.specs.Forms.{of_form}
 use Rattle.sym_forms.specs.PairForms.{pair_form}
 use Rattle.sym_forms.proofs.FormNormalLaws.{canon_state_is_normal}

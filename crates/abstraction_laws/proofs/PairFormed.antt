@@ -21,9 +21,9 @@ use Rattle.shape_data.specs.declared.symbolic.SymHeap.{SymHeap}
 use Rattle.shape_data.specs.declared.symbolic.SymState.{SymState}
 use Rattle.shape_data.specs.Heap.{struct_named}
 use Rattle.shape_data.specs.WellFormed.{AreStructs, IsAtom, IsExp, IsFact, IsState, IsSymHeap, Limits, widest}
-use Rattle.sym_laws.specs.Each.{EachInFact}
-use Rattle.sym_laws.specs.Expressions.{is_among}
-use Rattle.sym_laws.specs.Mapped.{on_atom, on_fact, on_heap, on_state}
+use Rattle.sym_parts.specs.Laws.Each.{EachInFact}
+use Rattle.sym_parts.specs.Laws.Expressions.{is_among}
+use Rattle.sym_parts.specs.Laws.Mapped.{on_atom, on_fact, on_heap, on_state}
 use Rattle.sym_pure.specs.Equations.{read_through}
 use Rattle.sym_pure.proofs.PartsLaws.{filter-fewer}
 use Rattle.sym_pure.proofs.ReadThrough.{read_through-each}

@@ -17,8 +17,8 @@ use Rattle.shape_data.specs.declared.symbolic.Exp.TheVariants.{Var, Const}
 use Rattle.shape_data.specs.declared.symbolic.SymHeap.{SymHeap}
 use Rattle.shape_data.specs.declared.symbolic.SymState.{SymState}
 use Rattle.shape_data.specs.Heap.{struct_named}
-use Rattle.sym_laws.specs.Each.{EachInAtom, EachInFact, EachInState}
-use Rattle.sym_laws.specs.Expressions.{same_exp}
+use Rattle.sym_parts.specs.Laws.Each.{EachInAtom, EachInFact, EachInState}
+use Rattle.sym_parts.specs.Laws.Expressions.{same_exp}
 use Rattle.sym_pure.proofs.EachLaws.{All-get}
 use Rattle.sym_canon.specs.declared.parts.Pair.{Pair}
 use Rattle.sym_forms.specs.Sizes.{fields_in, fields_of}

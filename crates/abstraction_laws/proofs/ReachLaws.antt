@@ -10,8 +10,8 @@ use Rattle.shape_data.specs.declared.symbolic.Atom.TheVariants.{Junk}
 use Rattle.shape_data.specs.declared.symbolic.Exp.{Exp}
 use Rattle.shape_data.specs.declared.symbolic.Fact.{Fact}
 use Rattle.shape_data.specs.Meaning.{AreTrueFacts, HoldsAtoms}
-use Rattle.sym_laws.proofs.JunkLemmas.{junk_forgets, junk_may_be_empty}
-use Rattle.sym_laws.proofs.OrderLemmas.{same-middle}
+use Rattle.sym_parts.proofs.LawsLemmas.JunkLemmas.{junk_forgets, junk_may_be_empty}
+use Rattle.sym_parts.proofs.LawsLemmas.OrderLemmas.{same-middle}
 use Rattle.abstraction_laws.specs.Reaching.{is_kept, keep_seen, keep_reached, seen_from}
 
 -- the facts that pass a test are true where all are

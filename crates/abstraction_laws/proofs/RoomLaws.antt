@@ -15,7 +15,7 @@ use Rattle.shape_data.specs.declared.symbolic.Fact.TheVariants.{Eq, Ne}
 use Rattle.shape_data.specs.declared.symbolic.SymState.{SymState}
 use Rattle.shape_data.specs.Heap.{struct_named}
 use Rattle.shape_data.specs.WellFormed.{AreStructs, IsAtom, IsExp, IsFact, IsState, IsStruct, Limits, widest}
-use Rattle.sym_laws.specs.Each.{EachInAtom, EachInFact, EachInState}
+use Rattle.sym_parts.specs.Laws.Each.{EachInAtom, EachInFact, EachInState}
 use Rattle.sym_forms.specs.Sizes.{fields_of}
 use Rattle.abstraction_laws.specs.Forgetting.{first_new}
 use Rattle.abstraction_laws.specs.Occurrences.{exps_of_state}

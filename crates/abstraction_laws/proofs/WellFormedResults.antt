@@ -23,7 +23,7 @@ use Rattle.shape_data.specs.declared.symbolic.SymHeap.{SymHeap}
 use Rattle.shape_data.specs.declared.symbolic.SymState.{SymState}
 use Rattle.shape_data.specs.Heap.{struct_named}
 use Rattle.shape_data.specs.WellFormed.{AreStructs, IsAtom, IsExp, IsFact, IsField, IsPost, IsState, widest}
-use Rattle.sym_laws.specs.Expressions.{same_exp}
+use Rattle.sym_parts.specs.Laws.Expressions.{same_exp}
 use Rattle.sym_pure.specs.Laws.{HasNoMoreParts}
 use Rattle.sym_pure.proofs.EmptyingLaws.{position-found}
 use Rattle.sym_pure.proofs.WellFormedLaws.{form_is_well_formed}

@@ -13,7 +13,7 @@ use Rattle.shape_data.specs.declared.symbolic.Exp.{Exp}
 use Rattle.shape_data.specs.declared.symbolic.Exp.TheVariants.{Var, Const}
 use Rattle.shape_data.specs.declared.symbolic.SymState.{SymState}
 use Rattle.shape_data.specs.Heap.{struct_named}
-use Rattle.sym_laws.specs.Fresh.{is_one_of}
+use Rattle.sym_parts.specs.Laws.Fresh.{is_one_of}
 use Rattle.sym_forms.specs.Sizes.{fields_of}
 use Rattle.abstraction_laws.specs.Occurrences.{exps_of_state}
 

@@ -5,7 +5,7 @@ use Rattle.shape_data.specs.declared.symbolic.Exp.{Exp}
 use Rattle.shape_data.specs.declared.symbolic.Exp.TheVariants.{Var, Const}
 use Rattle.shape_data.specs.declared.symbolic.Fact.{Fact}
 use Rattle.shape_data.specs.declared.symbolic.Fact.TheVariants.{Eq, Ne}
-use Rattle.sym_laws.specs.Expressions.{is_among}
+use Rattle.sym_parts.specs.Laws.Expressions.{is_among}
 use Rattle.abstraction_laws.specs.Occurrences.{exps_of_atoms}
 
 -- the expression is a variable from a number on

@@ -13,9 +13,9 @@ use Rattle.shape_data.specs.declared.symbolic.Fact.{Fact}
 use Rattle.shape_data.specs.declared.symbolic.Fact.TheVariants.{Eq, Ne}
 use Rattle.shape_data.specs.declared.symbolic.SymHeap.{SymHeap}
 use Rattle.shape_data.specs.declared.symbolic.SymState.{SymState}
-use Rattle.shape_laws.specs.Symbolic.{emp}
-use Rattle.sym_laws.specs.Expressions.{is_among}
-use Rattle.sym_laws.specs.Mapped.{on_state}
+use Rattle.sym_parts.specs.Shapes.Symbolic.{emp}
+use Rattle.sym_parts.specs.Laws.Expressions.{is_among}
+use Rattle.sym_parts.specs.Laws.Mapped.{on_state}
 use Rattle.sym_canon.specs.declared.parts.Pair.{Pair}
 use Rattle.sym_canon.specs.Canonical.{canon_pair, without_locals}
 use Rattle.sym_forms.specs.PairForms.{pair_form, without_facts}

@@ -5,7 +5,7 @@ use Rattle.shape_data.specs.declared.symbolic.Atom.{Atom}
 use Rattle.shape_data.specs.declared.symbolic.Atom.TheVariants.{Points, Seg, Junk}
 use Rattle.shape_data.specs.declared.symbolic.Exp.{Exp}
 use Rattle.shape_data.specs.declared.symbolic.Exp.TheVariants.{Var, Const}
-use Rattle.sym_laws.specs.Expressions.{is_among}
+use Rattle.sym_parts.specs.Laws.Expressions.{is_among}
 use Rattle.sym_canon.specs.Placing.{all_lead_to}
 
 -- the expression is reached: it is a constant, a logical variable, or one of those seen

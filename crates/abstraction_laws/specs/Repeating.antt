@@ -4,8 +4,8 @@ use Rattle.shape_data.specs.declared.symbolic.Atom.{Atom}
 use Rattle.shape_data.specs.declared.symbolic.Exp.{Exp}
 use Rattle.shape_data.specs.declared.symbolic.Exp.TheVariants.{Var}
 use Rattle.shape_data.specs.declared.symbolic.SymHeap.{SymHeap}
-use Rattle.sym_laws.specs.Expressions.{is_among}
-use Rattle.sym_laws.specs.Junks.{is_other}
+use Rattle.sym_parts.specs.Laws.Expressions.{is_among}
+use Rattle.sym_parts.specs.Laws.Junks.{is_other}
 use Rattle.abstraction_laws.specs.Joining.{join_first}
 use Rattle.abstraction_laws.specs.Losing.{lose}
 use Rattle.abstraction_laws.specs.Reaching.{keep_reached}

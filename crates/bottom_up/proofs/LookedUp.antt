@@ -7,8 +7,8 @@ use Rattle.component_keys.specs.Tests.{key_test}
 use Rattle.component_keys.proofs.Basics.{found}
 use Rattle.claim_core.specs.Views.{Solution}
 use Rattle.claim_laws.proofs.Invariant.{all_at}
-use Rattle.certificate_laws.specs.Inductive.{Inductive}
-use Rattle.certificate_laws.specs.Limits.{analysable}
+use Rattle.solve_laws.specs.Certificates.Inductive.{Inductive}
+use Rattle.solve_laws.specs.Certificates.Limits.{analysable}
 use Rattle.solve_laws.specs.Solving.{solve}
 use Rattle.loaded_answers.specs.Lookup.{lookup}
 use Rattle.bottom_up.specs.Laws.{AreRight, IsRight, LookedUpAreRight}

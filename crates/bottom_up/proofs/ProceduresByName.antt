@@ -2,7 +2,7 @@
 use Rattle.std.proofs.Common.{◌≡◌, ◌≢◌, ℕ, ◌<◌, true, List, [], length, slice_get, get_or, filter_map, Some, refl, sym, ap, ◌∙◌, subst}
 use Rattle.std.proofs.Common.{find, option_map, unwrap_or, bytes_eq, arith}
 use Rattle.std.proofs.lemmas.Option.{slice_get-map, get_or_from_slice_get, slice_get_within}
-use Rattle.shape_types.specs.Exact.{IsExactTest, number_same, row_same}
+use Rattle.shape_data.specs.Exact.{IsExactTest, number_same, row_same}
 use Rattle.shape_data.specs.declared.answer.Answer.{Answer}
 use Rattle.shape_data.specs.declared.answer.Key.{Key}
 use Rattle.shape_data.specs.declared.answer.ProcSummary.{ProcSummary}

@@ -8,7 +8,7 @@ use Rattle.shape_data.specs.declared.program.Flow.{Flow}
 use Rattle.shape_data.specs.declared.program.Proc.{Proc}
 use Rattle.shape_data.specs.declared.program.Program.{Program}
 use Rattle.shape_data.specs.WellFormed.{HasReason, IsProgram}
-use Rattle.shape_laws.proofs.ContainingShapes.{summary-carries}
+use Rattle.sym_parts.proofs.ShapesLemmas.ContainingShapes.{summary-carries}
 use Rattle.component_keys.specs.Keys.{Component, Outer, program_components, specs_in}
 use Rattle.component_keys.proofs.Basics.{mapped_some, some_same}
 use Rattle.claim_laws.proofs.Invariant.{all_at}
@@ -17,8 +17,8 @@ use Rattle.sound_laws.specs.Answers.{AreValidIn, StandAt}
 use Rattle.sound_laws.specs.BottomUp.{IsAnswered, IsAnsweredBefore}
 use Rattle.sound_laws.specs.Procedures.{HasFlow}
 use Rattle.sound_laws.proofs.ProcedureLemmas.{has_own_flows, procedure_is_found}
-use Rattle.certificate_laws.specs.Laws.{AllAreValid, AreInductive, IsInductiveAt}
-use Rattle.certificate_laws.specs.Limits.{analysable}
+use Rattle.solve_laws.specs.Certificates.Laws.{AllAreValid, AreInductive, IsInductiveAt}
+use Rattle.solve_laws.specs.Certificates.Limits.{analysable}
 use Rattle.claim_core.specs.Views.{Solution}
 use Rattle.bottom_up.specs.BottomUp.{answers_in, callee_by, callee_from, known_by, summaries_for, summary_named}
 use Rattle.bottom_up.specs.Laws.{AreReported, AreRight, IsReported}

@@ -8,8 +8,8 @@ use Rattle.shape_data.specs.declared.program.Proc.{Proc}
 use Rattle.shape_data.specs.declared.program.Program.{Program}
 use Rattle.shape_data.specs.Valid.{Valid}
 use Rattle.shape_data.specs.WellFormed.{HasReason, IsAnswer, IsKey, IsProgram, IsSummary}
-use Rattle.certificate_laws.specs.Inductive.{Inductive}
-use Rattle.certificate_laws.specs.Limits.{analysable}
+use Rattle.solve_laws.specs.Certificates.Inductive.{Inductive}
+use Rattle.solve_laws.specs.Certificates.Limits.{analysable}
 use Rattle.claim_core.specs.Views.{Solution}
 use Rattle.solve_laws.specs.Solving.{solve}
 use Rattle.loaded_answers.specs.Lookup.{lookup}

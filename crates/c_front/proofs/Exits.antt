@@ -1,12 +1,12 @@
 -- How reading ends.
 use Rattle.std.proofs.Common.{inr, ◌≡◌, ℕ, ◌≤◌, List, refl, subst, sym, ap, ◌∙◌}
 use Rattle.std.specs.Prelude.{Result, Ok, Err, IfOk, IfErr, IsErrAnd}
-use Rattle.c_tokens.specs.declared.token.Token.{Token}
-use Rattle.c_tokens.specs.Grammar.{HasTokens, IsTokenFault}
-use Rattle.c_tokens.specs.Laws.{HaveOneReading, HaveNotBoth}
-use Rattle.c_tokens.specs.TokenLists.{IsTokenList}
-use Rattle.c_tokens.specs.declared.fault.ReadFault.{ReadFault}
-use Rattle.c_tokens.specs.declared.fault.ReadFault.TheVariants.{Refused, OutOfMemory}
+use Rattle.c_grammar.specs.declared.tokens.token.Token.{Token}
+use Rattle.c_grammar.specs.Tokens.Grammar.{HasTokens, IsTokenFault}
+use Rattle.c_grammar.specs.Tokens.Laws.{HaveOneReading, HaveNotBoth}
+use Rattle.c_grammar.specs.Tokens.TokenLists.{IsTokenList}
+use Rattle.c_grammar.specs.declared.tokens.fault.ReadFault.{ReadFault}
+use Rattle.c_grammar.specs.declared.tokens.fault.ReadFault.TheVariants.{Refused, OutOfMemory}
 use Rattle.c_grammar.specs.Laws.{HaveOneTree, HaveRoundTrip}
 use Rattle.c_grammar.specs.Nesting.{file_nesting}
 use Rattle.c_grammar.specs.Placeless.{placeless}

@@ -1,10 +1,10 @@
 -- Which file a text is, and why it is none.
 use Rattle.std.specs.Prelude.{◌≡◌, ℕ, ◌≤◌, ◌⊎◌, Result, List, IfOk, IfErr}
-use Rattle.c_tokens.specs.declared.places.Refusal.{Refusal}
-use Rattle.c_tokens.specs.declared.token.Token.{Token}
-use Rattle.c_tokens.specs.Grammar.{HasTokens, Refuses}
-use Rattle.c_tokens.specs.declared.fault.ReadFault.{ReadFault}
-use Rattle.c_tokens.specs.declared.fault.ReadFault.TheVariants.{Refused, OutOfMemory}
+use Rattle.c_grammar.specs.declared.tokens.places.Refusal.{Refusal}
+use Rattle.c_grammar.specs.declared.tokens.token.Token.{Token}
+use Rattle.c_grammar.specs.Tokens.Grammar.{HasTokens, Refuses}
+use Rattle.c_grammar.specs.declared.tokens.fault.ReadFault.{ReadFault}
+use Rattle.c_grammar.specs.declared.tokens.fault.ReadFault.TheVariants.{Refused, OutOfMemory}
 use Rattle.c_grammar.specs.Nesting.{file_nesting}
 use Rattle.c_grammar.specs.Placeless.{placeless}
 use Rattle.c_grammar.specs.Refusals.{MOST_LEVELS, RefusedAt}

@@ -4,6 +4,6 @@
 
 mod reading;
 
+pub use c_grammar::tokens::ReadFault;
 pub use c_print::print;
-pub use c_tokens::ReadFault;
 pub use reading::read_unit;

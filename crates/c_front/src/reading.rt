@@ -1,8 +1,8 @@
 //! Reading: tokens, and then syntax.
 ghost use Rattle.std.specs.Prelude.{◌≡◌, ◌<◌, ◌≤◌, List, length, IfOk, IfErr};
-ghost use Rattle.c_tokens.specs.declared.fault.ReadFault.TheVariants.{OutOfMemory};
-ghost use Rattle.c_tokens.specs.declared.token.Token.{Token as TokenValue};
-ghost use Rattle.c_tokens.specs.TokenLists.{IsTokenList};
+ghost use Rattle.c_grammar.specs.declared.tokens.fault.ReadFault.TheVariants.{OutOfMemory};
+ghost use Rattle.c_grammar.specs.declared.tokens.token.Token.{Token as TokenValue};
+ghost use Rattle.c_grammar.specs.Tokens.TokenLists.{IsTokenList};
 ghost use Rattle.c_grammar.specs.Nesting.{file_nesting};
 ghost use Rattle.c_grammar.specs.Printing.{printed_text};
 ghost use Rattle.c_grammar.specs.Refusals.{MOST_LEVELS};
@@ -13,9 +13,9 @@ ghost use Rattle.c_tree.specs.Syntax.{unit_tree};
 ghost use Rattle.c_front.specs.Units.{IsUnitOf, IsReadFault, ReadsBack};
 
 use c_grammar::laws::{one_tree, round_trip};
+use c_grammar::tokens::laws::{one_reading, tokens_or_refusal};
+use c_grammar::tokens::{ReadFault, tokens};
 use c_parse::parse;
-use c_tokens::laws::{one_reading, tokens_or_refusal};
-use c_tokens::{ReadFault, tokens};
 use c_tree::Unit;
 use std::alloc::Global;
 

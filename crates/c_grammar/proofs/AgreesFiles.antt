@@ -3,7 +3,7 @@ use Rattle.std.proofs.Common.{◌≡◌, ℕ, zero, suc, Bool, true, false, cond
 use Rattle.std.specs.Prelude.{Option, Some, None, Result, Ok}
 use Rattle.grammar_laws.specs.Form.{Word as AWord, Both, Either, Many, is_in, begins_in, starts}
 use Rattle.grammar_laws.specs.Reading.{Read, Done, Stop, go_on, reads}
-use Rattle.c_tokens.specs.declared.places.Place.{Place}
+use Rattle.c_grammar.specs.declared.tokens.places.Place.{Place}
 use Rattle.c_grammar.specs.Classes
 use Rattle.c_grammar.specs.declared.class.Class.{Class}
 use Rattle.c_grammar.specs.declared.class.Class.TheVariants as class

@@ -4,7 +4,7 @@ use Rattle.std.specs.Prelude.{◌==◌, ◌||◌, Option, Some, None, Ok}
 use Rattle.std.proofs.lemmas.Bool.{eq-eqb}
 use Rattle.grammar_laws.specs.Form.{Form, Word as AWord, Both, Many, Nearest, is_in, begins_in, starts}
 use Rattle.grammar_laws.specs.Reading.{Read, Done, Stop, go_on, repeat, reads}
-use Rattle.c_tokens.specs.declared.places.Place.{Place}
+use Rattle.c_grammar.specs.declared.tokens.places.Place.{Place}
 use Rattle.c_grammar.specs.Classes
 use Rattle.c_grammar.specs.declared.class.Class.{Class}
 use Rattle.c_grammar.specs.declared.class.Class.TheVariants as class

@@ -3,11 +3,11 @@ use Rattle.std.proofs.Common.{◌≡◌, inl, inr, ℕ, zero, suc, ◌+◌, fals
 use Rattle.std.specs.Prelude.{max, if◌then◌else◌, codes, Option, Some, None, map}
 use Rattle.std.specs.Str.{bytes_eq}
 use Rattle.std.specs.Str.Parse.{digits_value}
-use Rattle.c_tokens.specs.declared.places.Place.{Place}
-use Rattle.c_tokens.specs.declared.token.Token.{Token}
-use Rattle.c_tokens.specs.declared.token.TokenKind.{TokenKind}
-use Rattle.c_tokens.specs.declared.token.TokenKind.TheVariants as kind
-use Rattle.c_tokens.specs.Laws.{Spelling, spelling}
+use Rattle.c_grammar.specs.declared.tokens.places.Place.{Place}
+use Rattle.c_grammar.specs.declared.tokens.token.Token.{Token}
+use Rattle.c_grammar.specs.declared.tokens.token.TokenKind.{TokenKind}
+use Rattle.c_grammar.specs.declared.tokens.token.TokenKind.TheVariants as kind
+use Rattle.c_grammar.specs.Tokens.Laws.{Spelling, spelling}
 use Rattle.c_grammar.specs.declared.class.Class.TheVariants as class
 use Rattle.c_grammar.specs.Classes
 use Rattle.c_grammar.specs.Classes.{class_in, signs, number_of}

@@ -21,10 +21,11 @@ pub mod RoundTrip
 pub mod Spelled
 pub mod SpelledFiles
 pub mod Synced
-pub mod Tokens
+pub mod TokenWords
 pub mod UniqueChains
 pub mod UniqueExprs
 pub mod UniqueFiles
 pub mod UniqueSimples
 pub mod UniqueStmts
 pub mod Within
+pub mod TokensLemmas

@@ -1,7 +1,7 @@
 -- Words are refused at one place, with one code, and not where a file within the levels spells them.
 use Rattle.std.proofs.Common.{◌≡◌, ◌⊎◌, inl, inr, ℕ, ◌≤◌, List, [], ◌∷◌, ◌++◌, refl, sym, ap, ◌∙◌, subst, append_assoc}
 use Rattle.std.specs.Prelude.{Result, Ok, Err}
-use Rattle.c_tokens.specs.declared.places.Refusal.{Refusal}
+use Rattle.c_grammar.specs.declared.tokens.places.Refusal.{Refusal}
 use Rattle.c_grammar.specs.Laws.{HaveOneRefusal, HaveNotBoth, HaveEither}
 use Rattle.c_grammar.specs.Nesting.{file_nesting}
 use Rattle.c_grammar.specs.Readers.{Halt, read_file, refusal_of}
@@ -9,7 +9,7 @@ use Rattle.c_grammar.specs.Refusals.{MOST_LEVELS, Begin, BeginWithin, IsRefused,
 use Rattle.c_grammar.specs.Spelling.{Spells}
 use Rattle.c_grammar.specs.Trees.{File}
 use Rattle.c_grammar.specs.Words.{Word, words_of}
-use Rattle.c_grammar.proofs.Tokens.{file_spells, stop_is_refused}
+use Rattle.c_grammar.proofs.TokenWords.{file_spells, stop_is_refused}
 
 -- what begins a file begins it also where it is cut behind its first word
 shorter : (front : List Word) (first : Word) (more : List Word) → BeginWithin MOST_LEVELS (front ++ first ∷ more)

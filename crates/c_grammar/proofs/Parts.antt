@@ -2,7 +2,7 @@
 use Rattle.std.proofs.Common.{◌≡◌, ◌⊎◌, inl, inr, ℕ, suc, false, List, [], ◌∷◌, ◌++◌, length, refl, sym, ap, ◌∙◌, subst, append_assoc}
 use Rattle.grammar_laws.specs.Form.{Facts, Form, Word as AWord, Nothing, Both, Either, Many, Nearest, Known, begins_in, joined, Repeats}
 use Rattle.grammar_laws.specs.Form.{Derives}
-use Rattle.c_tokens.specs.declared.places.Place.{Place}
+use Rattle.c_grammar.specs.declared.tokens.places.Place.{Place}
 use Rattle.c_grammar.specs.Words.{Word, classes}
 use Rattle.c_grammar.specs.Matching.{IsForm}
 use Rattle.c_grammar.specs.Spelling.{word, word_at}

@@ -5,18 +5,18 @@ use Rattle.std.specs.Prelude.{Option, Some, None, codes}
 use Rattle.std.specs.Fmt.{decimal}
 use Rattle.std.specs.Str.{bytes_eq}
 use Rattle.std.specs.Str.Parse.{digits_value}
-use Rattle.c_tokens.specs.declared.places.Place.{Place}
+use Rattle.c_grammar.specs.declared.tokens.places.Place.{Place}
 use Rattle.std.specs.List.{AllByRecursion}
 use Rattle.std.proofs.lemmas.Fmt.{decimal_is_IsNumeral}
 use Rattle.std.proofs.lemmas.Slice.Eq.{bytes_eq-Decides}
-use Rattle.c_tokens.specs.declared.token.Token.{Token}
-use Rattle.c_tokens.specs.declared.token.TokenKind.{TokenKind}
-use Rattle.c_tokens.specs.declared.token.TokenKind.TheVariants as kind
-use Rattle.c_tokens.specs.Lexemes.{IsToken}
-use Rattle.c_tokens.specs.TokenLists.{IsTokenList}
-use Rattle.c_tokens.specs.Grammar.{HasTokens}
-use Rattle.c_tokens.specs.Laws.{Spelling, spelling, end_spelling, spaced}
-use Rattle.c_tokens.proofs.TextLaws.{words_read_back}
+use Rattle.c_grammar.specs.declared.tokens.token.Token.{Token}
+use Rattle.c_grammar.specs.declared.tokens.token.TokenKind.{TokenKind}
+use Rattle.c_grammar.specs.declared.tokens.token.TokenKind.TheVariants as kind
+use Rattle.c_grammar.specs.Tokens.Lexemes.{IsToken}
+use Rattle.c_grammar.specs.Tokens.TokenLists.{IsTokenList}
+use Rattle.c_grammar.specs.Tokens.Grammar.{HasTokens}
+use Rattle.c_grammar.specs.Tokens.Laws.{Spelling, spelling, end_spelling, spaced}
+use Rattle.c_grammar.proofs.TokensLemmas.TextLaws.{words_read_back}
 use Rattle.c_grammar.specs.declared.class.Class.{Class}
 use Rattle.c_grammar.specs.declared.class.Class.TheVariants as class
 use Rattle.c_grammar.specs.Classes

@@ -6,7 +6,7 @@ use Rattle.std.proofs.lemmas.Bool.{eq-eqb}
 use Rattle.grammar_laws.specs.Form.{Form, Word as AWord, Nothing, Both, begins_in, is_in, starts, continues, IsGood}
 use Rattle.grammar_laws.proofs.Derived.{begins}
 use Rattle.grammar_laws.proofs.Classes.{begins_not_left, begins_not_right, begins_without}
-use Rattle.c_tokens.specs.declared.places.Place.{Place}
+use Rattle.c_grammar.specs.declared.tokens.places.Place.{Place}
 use Rattle.c_grammar.specs.Classes
 use Rattle.c_grammar.specs.Words.{Word, classes}
 use Rattle.c_grammar.specs.Forms

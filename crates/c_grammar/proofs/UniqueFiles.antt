@@ -3,7 +3,7 @@ use Rattle.std.proofs.Common.{◌≡◌, ℕ, zero, suc, ◌≤◌, ◌<◌, fal
 use Rattle.std.specs.Prelude.{Option, Some, None, ◌==◌}
 use Rattle.grammar_laws.specs.Form.{Form, Word as AWord, Both, Many, continues, IsGood}
 use Rattle.grammar_laws.proofs.Classes.{begins_not_left}
-use Rattle.c_tokens.specs.declared.places.Place.{Place}
+use Rattle.c_grammar.specs.declared.tokens.places.Place.{Place}
 use Rattle.c_grammar.specs.Classes
 use Rattle.c_grammar.specs.Words.{Word, classes}
 use Rattle.c_grammar.specs.Forms

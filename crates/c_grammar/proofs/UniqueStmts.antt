@@ -6,7 +6,7 @@ use Rattle.grammar_laws.specs.Form.{Form, Word as AWord, Both, Many, is_in, star
 use Rattle.grammar_laws.proofs.Derived.{begins}
 use Rattle.grammar_laws.proofs.Taken.{took_some}
 use Rattle.grammar_laws.proofs.Classes.{begins_not_left, begins_without}
-use Rattle.c_tokens.specs.declared.places.Place.{Place}
+use Rattle.c_grammar.specs.declared.tokens.places.Place.{Place}
 use Rattle.c_grammar.specs.Classes
 use Rattle.c_grammar.specs.Words.{Word, classes}
 use Rattle.c_grammar.specs.Forms

@@ -1,5 +1,5 @@
 -- Where a tree begins: the place of its first token.
-use Rattle.c_tokens.specs.declared.places.Place.{Place}
+use Rattle.c_grammar.specs.declared.tokens.places.Place.{Place}
 use Rattle.c_grammar.specs.Trees.{Expr, Head, Local}
 use Rattle.c_grammar.specs.Readers.{place_of_specifier}
 

@@ -1,10 +1,10 @@
 -- What the laws of the grammar say.
 use Rattle.std.specs.Prelude.{◌≡◌, ℕ, ◌≤◌, ◌⊎◌, List, [], ◌∷◌, None}
-use Rattle.c_tokens.specs.declared.places.Place.{Place}
-use Rattle.c_tokens.specs.declared.places.Refusal.{Refusal}
-use Rattle.c_tokens.specs.declared.token.Token.{Token}
-use Rattle.c_tokens.specs.Grammar.{HasTokens}
-use Rattle.c_tokens.specs.TokenLists.{IsTokenList}
+use Rattle.c_grammar.specs.declared.tokens.places.Place.{Place}
+use Rattle.c_grammar.specs.declared.tokens.places.Refusal.{Refusal}
+use Rattle.c_grammar.specs.declared.tokens.token.Token.{Token}
+use Rattle.c_grammar.specs.Tokens.Grammar.{HasTokens}
+use Rattle.c_grammar.specs.Tokens.TokenLists.{IsTokenList}
 use Rattle.c_grammar.specs.Nesting.{file_nesting}
 use Rattle.c_grammar.specs.Placeless.{placeless}
 use Rattle.c_grammar.specs.Printing.{printed_text}

@@ -11,3 +11,4 @@ pub mod Placeless
 pub mod Laws
 pub mod Readers
 pub mod FirstPlaces
+pub mod Tokens

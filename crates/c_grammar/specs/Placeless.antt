@@ -1,6 +1,6 @@
 -- A syntax tree without its places: each is 0:0. Two trees are equal up to places where these are equal.
 use Rattle.std.specs.Prelude.{Option, Some, None, map}
-use Rattle.c_tokens.specs.declared.places.Place.{Place}
+use Rattle.c_grammar.specs.declared.tokens.places.Place.{Place}
 use Rattle.c_grammar.specs.Trees.{Name, Specifier, Declarator, Fields, Param, Params, Head, Expr, Links, Args, Simple, Initialized, Local}
 use Rattle.c_grammar.specs.Trees.{ForInit, Stmt, Stmts, Item, File}
 

@@ -1,6 +1,6 @@
 -- Where words are refused that no file spells.
 use Rattle.std.specs.Prelude.{◌≡◌, ℕ, ◌≤◌, ◌⊎◌, List, [], ◌∷◌, ◌++◌}
-use Rattle.c_tokens.specs.declared.places.Refusal.{Refusal}
+use Rattle.c_grammar.specs.declared.tokens.places.Refusal.{Refusal}
 use Rattle.c_grammar.specs.Nesting.{file_nesting}
 use Rattle.c_grammar.specs.Spelling.{Spells}
 use Rattle.c_grammar.specs.Trees.{File}

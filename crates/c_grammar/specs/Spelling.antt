@@ -2,7 +2,7 @@
 -- tree; `◌⨾◌` is one rule behind another, so each clause reads as a line of the grammar.
 use Rattle.std.specs.Prelude.{◌≡◌, ◌≢◌, ℕ, zero, suc, Bool, true, false, ◌+◌, ◌≤◌, ◌⊎◌, Option, Some, None, List, [], ◌∷◌}
 use Rattle.std.specs.Str.Parse.{digits_value}
-use Rattle.c_tokens.specs.declared.places.Place.{Place}
+use Rattle.c_grammar.specs.declared.tokens.places.Place.{Place}
 use Rattle.c_grammar.specs.Classes
 use Rattle.c_grammar.specs.Words.{Word}
 use Rattle.c_grammar.specs.Trees.{Name, Specifier, Declarator, Fields, Param, Params, Head, BinaryOp, PrefixOp, Expr, Links, Args, AssignOp}

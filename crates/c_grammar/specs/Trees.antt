@@ -1,7 +1,7 @@
 -- Syntax trees of the C subset (C11 6.5 to 6.9). A node has the place of its first word where that is not the place of
 -- a node within it.
 use Rattle.std.specs.Prelude.{ℕ, List, Option}
-use Rattle.c_tokens.specs.declared.places.Place.{Place}
+use Rattle.c_grammar.specs.declared.tokens.places.Place.{Place}
 
 pub record Name : Type 0 where
   pub place : Place

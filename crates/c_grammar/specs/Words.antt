@@ -1,10 +1,10 @@
 -- The words of a list of tokens.
 use Rattle.std.specs.Prelude.{◌≡◌, ◌≢◌, ℕ, Bool, true, false, ◌&&◌, ◌||◌, List, [], ◌∷◌, if◌then◌else◌, codes}
 use Rattle.std.specs.Str.{bytes_eq}
-use Rattle.c_tokens.specs.declared.places.Place.{Place}
-use Rattle.c_tokens.specs.declared.token.Token.{Token}
-use Rattle.c_tokens.specs.declared.token.TokenKind.{TokenKind}
-use Rattle.c_tokens.specs.declared.token.TokenKind.TheVariants as kind
+use Rattle.c_grammar.specs.declared.tokens.places.Place.{Place}
+use Rattle.c_grammar.specs.declared.tokens.token.Token.{Token}
+use Rattle.c_grammar.specs.declared.tokens.token.TokenKind.{TokenKind}
+use Rattle.c_grammar.specs.declared.tokens.token.TokenKind.TheVariants as kind
 use Rattle.c_grammar.specs.declared.class.Class.{Class}
 use Rattle.c_grammar.specs.declared.class.Class.TheVariants as class
 use Rattle.c_grammar.specs.Classes

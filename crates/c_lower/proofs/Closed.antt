@@ -6,7 +6,7 @@ use Rattle.shape_data.specs.declared.program.Operand.{Operand}
 use Rattle.shape_data.specs.declared.program.Operand.TheVariants.{Slot}
 use Rattle.shape_data.specs.declared.program.Ty.{Ty}
 use Rattle.shape_data.specs.declared.program.Ty.TheVariants.{Int, Ptr, Void}
-use Rattle.c_tokens.specs.declared.places.Place.{Place}
+use Rattle.c_grammar.specs.declared.tokens.places.Place.{Place}
 use Rattle.c_lower_rules.specs.Code.{Code, command, no_nodes, ◌⨾◌, ◌⊳◌, straight}
 use Rattle.c_lower_rules.specs.Contexts.{Context, at_place}
 use Rattle.c_lower_rules.specs.Temporaries.{Temp, released, released_one, take_temp}

@@ -1,8 +1,8 @@
 -- Refusals at one place, of which the first has the least code.
 use Rattle.std.specs.Prelude.{not, nat_lt}
 use Rattle.std.proofs.Common.{◌≡◌, ℕ, ◌≤◌, Bool, true, false, Option, Some, None, ◌++◌, refl, sym, ap, ◌∙◌, arith}
-use Rattle.c_tokens.specs.declared.places.Place.{Place}
-use Rattle.c_tokens.specs.Places.{refusal}
+use Rattle.c_grammar.specs.declared.tokens.places.Place.{Place}
+use Rattle.c_grammar.specs.Tokens.Places.{refusal}
 use Rattle.c_types_rules.specs.declared.at.At.{At}
 use Rattle.c_types_rules.specs.Types.{unless}
 use Rattle.c_types_rules.specs.Programs.{stands_before, is_no_later, first_by, in_unit}

@@ -1,7 +1,7 @@
 -- What was found in the part of a program that was read, and what a further part adds.
 use Rattle.std.specs.Prelude.{◌≡◌, ℕ, None, List, [], ◌++◌}
 use Rattle.shape_data.specs.declared.program.Proc.{Proc}
-use Rattle.c_tokens.specs.declared.places.Refusal.{Refusal}
+use Rattle.c_grammar.specs.declared.tokens.places.Refusal.{Refusal}
 use Rattle.c_grammar.specs.Trees.{Item, File}
 use Rattle.c_types_rules.specs.Tables.{Tables}
 use Rattle.c_lower_rules.specs.Programs.{item_refusals, items_refusals, item_procs, items_procs, files_refusals, files_procs}

@@ -1,7 +1,7 @@
 -- What is refused in a procedure of so many nodes, parameters, locals and temporaries.
 use Rattle.std.specs.Prelude.{◌+◌, nat_le, Bool, ◌&&◌, List, ◌++◌}
-use Rattle.c_tokens.specs.declared.places.Place.{Place}
-use Rattle.c_tokens.specs.declared.places.Refusal.{Refusal}
+use Rattle.c_grammar.specs.declared.tokens.places.Place.{Place}
+use Rattle.c_grammar.specs.declared.tokens.places.Refusal.{Refusal}
 use Rattle.c_types_rules.specs.Types.{unless}
 use Rattle.c_lower_rules.specs.Programs.{MOST_NODES, MOST_LOCALS, MOST_TEMPORARIES, MOST_PARAMETERS, NODES, SLOTS, PARAMETERS}
 use Rattle.c_lower.specs.declared.sizes.Sizes.{Sizes}

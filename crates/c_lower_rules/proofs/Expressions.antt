@@ -1,7 +1,7 @@
 -- Expressions and simple statements: their numbers and lines.
 use Rattle.std.proofs.Common.{ℕ, ◌+◌, List}
 use Rattle.std.specs.Prelude.{Option, Some, None}
-use Rattle.c_tokens.specs.declared.places.Place.{Place}
+use Rattle.c_grammar.specs.declared.tokens.places.Place.{Place}
 use Rattle.c_grammar.specs.Classes
 use Rattle.c_grammar.specs.Words.{Word}
 use Rattle.c_grammar.specs.Trees.{Specifier, Expr, Links, Args, Simple}

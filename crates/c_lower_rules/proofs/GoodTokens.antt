@@ -3,13 +3,13 @@ use Rattle.std.proofs.Common.{◌≡◌, ℕ, ◌+◌, ◌<◌, ◌≤◌, Bool,
 use Rattle.std.specs.Prelude.{◌==◌, codes}
 use Rattle.std.specs.List.{AllByRecursion}
 use Rattle.std.proofs.lemmas.List.{length-append}
-use Rattle.c_tokens.specs.declared.places.Place.{Place}
-use Rattle.c_tokens.specs.declared.token.Token.{Token}
-use Rattle.c_tokens.specs.declared.token.TokenKind.TheVariants.{End}
-use Rattle.c_tokens.specs.Places.{after, place_after}
-use Rattle.c_tokens.specs.Grammar.{token_at, Position, start, behind_piece, IsPiece, Reads, HasTokens}
-use Rattle.c_tokens.proofs.TokenLemmas.{token_lexeme}
-use Rattle.c_tokens.proofs.Texts.{lexeme_some}
+use Rattle.c_grammar.specs.declared.tokens.places.Place.{Place}
+use Rattle.c_grammar.specs.declared.tokens.token.Token.{Token}
+use Rattle.c_grammar.specs.declared.tokens.token.TokenKind.TheVariants.{End}
+use Rattle.c_grammar.specs.Tokens.Places.{after, place_after}
+use Rattle.c_grammar.specs.Tokens.Grammar.{token_at, Position, start, behind_piece, IsPiece, Reads, HasTokens}
+use Rattle.c_grammar.proofs.TokensLemmas.TokenLemmas.{token_lexeme}
+use Rattle.c_grammar.proofs.TokensLemmas.Texts.{lexeme_some}
 use Rattle.c_types_rules.proofs.KnownTables.{all_append}
 
 -- a token's line is no later than this one

@@ -8,13 +8,13 @@ use Rattle.std.proofs.lemmas.Bool.{eq-eqb}
 use Rattle.std.proofs.lemmas.Fmt.{decimal_is_IsNumeral}
 use Rattle.shape_data.specs.Names.{IsCName}
 use Rattle.shape_data.specs.WellFormed.{IsCountable}
-use Rattle.c_tokens.specs.declared.token.Token.{Token}
-use Rattle.c_tokens.specs.declared.token.TokenKind.{TokenKind}
-use Rattle.c_tokens.specs.declared.token.TokenKind.TheVariants as kind
-use Rattle.c_tokens.specs.Grammar.{HasTokens}
-use Rattle.c_tokens.specs.Lexemes.{IsToken}
-use Rattle.c_tokens.specs.TokenLists.{IsTokenList}
-use Rattle.c_tokens.proofs.TextLaws.{listed}
+use Rattle.c_grammar.specs.declared.tokens.token.Token.{Token}
+use Rattle.c_grammar.specs.declared.tokens.token.TokenKind.{TokenKind}
+use Rattle.c_grammar.specs.declared.tokens.token.TokenKind.TheVariants as kind
+use Rattle.c_grammar.specs.Tokens.Grammar.{HasTokens}
+use Rattle.c_grammar.specs.Tokens.Lexemes.{IsToken}
+use Rattle.c_grammar.specs.Tokens.TokenLists.{IsTokenList}
+use Rattle.c_grammar.proofs.TokensLemmas.TextLaws.{listed}
 use Rattle.c_grammar.specs.declared.class.Class.TheVariants as class
 use Rattle.c_grammar.specs.Classes
 use Rattle.c_grammar.specs.Classes.{number_of, Entry, class_in, keys, signs}

@@ -6,7 +6,7 @@ use Rattle.std.specs.List.{AllByRecursion}
 use Rattle.std.specs.Str.{bytes_eq}
 use Rattle.std.proofs.lemmas.List.{append_assoc, append-nil, length-map}
 use Rattle.std.proofs.lemmas.Slice.Eq.{bytes_eq-Decides}
-use Rattle.c_tokens.specs.declared.places.Place.{Place}
+use Rattle.c_grammar.specs.declared.tokens.places.Place.{Place}
 use Rattle.c_grammar.specs.Trees.{Params, Head, Stmts, Item, File}
 use Rattle.c_types_rules.specs.Types.{Kind, may_agree}
 use Rattle.c_types_rules.specs.Tables.{Procedure, Tables, declares, joined, declared_by, no_tables, items_of, procedure_in, param_kind}

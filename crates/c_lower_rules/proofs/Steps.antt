@@ -3,7 +3,7 @@ use Rattle.std.proofs.Common.{◌≡◌, inl, inr, ℕ, ◌+◌, ◌*◌, ◌<�
 use Rattle.std.specs.Prelude.{Some, None, IfSome}
 use Rattle.std.specs.List.{AllByRecursion}
 use Rattle.shape_data.specs.Names.{IsCName}
-use Rattle.c_tokens.specs.declared.places.Place.{Place}
+use Rattle.c_grammar.specs.declared.tokens.places.Place.{Place}
 use Rattle.c_grammar.specs.Classes
 use Rattle.c_grammar.specs.Words.{Word}
 use Rattle.c_grammar.specs.Trees.{Name}

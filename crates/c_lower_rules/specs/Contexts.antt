@@ -3,7 +3,7 @@ use Rattle.std.specs.Prelude.{ℕ, ◌-◌, List, [], ◌∷◌, map, codes, if�
 use Rattle.std.specs.Str.{bytes_eq}
 use Rattle.shape_data.specs.declared.program.Ty.{Ty}
 use Rattle.shape_data.specs.declared.program.Ty.TheVariants.{Ptr}
-use Rattle.c_tokens.specs.declared.places.Place.{Place}
+use Rattle.c_grammar.specs.declared.tokens.places.Place.{Place}
 use Rattle.c_grammar.specs.Trees.{Name}
 use Rattle.c_types_rules.specs.Scopes.{Env, entered}
 

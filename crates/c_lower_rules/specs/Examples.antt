@@ -3,7 +3,7 @@
 use Rattle.std.specs.Prelude.{ℕ, Option, Some, None, List, [], ◌∷◌, codes}
 use Rattle.shape_data.specs.declared.program.Cmd.{Cmd}
 use Rattle.shape_data.specs.declared.program.Node.{Node}
-use Rattle.c_tokens.specs.declared.places.Place.{Place}
+use Rattle.c_grammar.specs.declared.tokens.places.Place.{Place}
 use Rattle.c_grammar.specs.Trees.{Specifier, Params, Expr, AssignOp, Simple, Local, Stmt, Stmts, Head}
 use Rattle.c_types_rules.specs.Examples.{at, named, variable, node, plain_name, pointer_name}
 use Rattle.c_types_rules.specs.Tables.{declared_by}

@@ -1,7 +1,7 @@
 -- What every file that was parsed has.
 use Rattle.std.specs.Prelude.{ℕ, ◌<◌, List, length}
-use Rattle.c_tokens.specs.declared.token.Token.{Token}
-use Rattle.c_tokens.specs.Grammar.{HasTokens}
+use Rattle.c_grammar.specs.declared.tokens.token.Token.{Token}
+use Rattle.c_grammar.specs.Tokens.Grammar.{HasTokens}
 use Rattle.c_grammar.specs.Words.{words_of}
 use Rattle.c_grammar.specs.Spelling.{Spells}
 use Rattle.c_grammar.specs.Trees.{File}

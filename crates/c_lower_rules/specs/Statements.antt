@@ -7,7 +7,7 @@ use Rattle.shape_data.specs.declared.program.Operand.{Operand}
 use Rattle.shape_data.specs.declared.program.Operand.TheVariants.{Slot, Num}
 use Rattle.shape_data.specs.declared.program.Ty.{Ty}
 use Rattle.shape_data.specs.declared.program.Ty.TheVariants.{Int}
-use Rattle.c_tokens.specs.declared.places.Place.{Place}
+use Rattle.c_grammar.specs.declared.tokens.places.Place.{Place}
 use Rattle.c_grammar.specs.Trees.{Name, Specifier, Expr, AssignOp, StepOp, Simple, Initialized, Local, ForInit, Stmt, Stmts}
 use Rattle.c_grammar.specs.FirstPlaces.{place_of_expr, place_of_local}
 use Rattle.c_types_rules.specs.Tables.{Tables, object_kind}

@@ -3,7 +3,7 @@
 use Rattle.std.specs.Prelude.{◌<◌, IfSome, All}
 use Rattle.shape_data.specs.Names.{IsCName}
 use Rattle.shape_data.specs.WellFormed.{IsCountable}
-use Rattle.c_tokens.specs.declared.places.Place.{Place}
+use Rattle.c_grammar.specs.declared.tokens.places.Place.{Place}
 use Rattle.c_grammar.specs.Trees.{Name, Head, Expr, Simple, Stmt, Stmts, Item, File}
 use Rattle.c_grammar.specs.FirstPlaces.{place_of_expr, place_of_local, place_of_head}
 use Rattle.c_types_rules.specs.Tables.{tag_or}

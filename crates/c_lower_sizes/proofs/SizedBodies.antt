@@ -6,7 +6,7 @@ use Rattle.shape_data.specs.declared.program.Operand.TheVariants.{Slot, Num}
 use Rattle.shape_data.specs.declared.program.TestOp.TheVariants as op
 use Rattle.shape_data.specs.declared.program.Ty.{Ty}
 use Rattle.shape_data.specs.declared.program.Ty.TheVariants.{Int, Ptr, Void}
-use Rattle.c_tokens.specs.declared.places.Place.{Place}
+use Rattle.c_grammar.specs.declared.tokens.places.Place.{Place}
 use Rattle.c_grammar.specs.Trees.{Specifier, Expr, Simple, Initialized, Local, ForInit, Stmt, Stmts}
 use Rattle.c_grammar.specs.FirstPlaces.{place_of_local}
 use Rattle.c_lower_rules.specs.Code.{onto, Code, nothing, choose, branch, begun_at}

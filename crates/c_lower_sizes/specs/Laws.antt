@@ -1,6 +1,6 @@
 -- What the laws of sizes say: of any body, state and tables, whatever the types are.
 use Rattle.std.specs.Prelude.{◌≡◌, ℕ, ◌+◌, ◌≤◌, Some, [], ◌∷◌, length, codes}
-use Rattle.c_tokens.specs.declared.places.Place.{Place}
+use Rattle.c_grammar.specs.declared.tokens.places.Place.{Place}
 use Rattle.c_grammar.specs.Trees.{BinaryOp, Expr, Links, AssignOp, StepOp, Simple, ForInit, Stmt, Stmts, Head}
 use Rattle.c_types_rules.specs.Examples.{at, named, variable, number, two}
 use Rattle.c_types_rules.specs.Tables.{Tables}

@@ -1,6 +1,6 @@
 -- Statements of one part, and branches.
 use Rattle.std.proofs.Common.{◌≡◌, ℕ, ◌+◌, ◌<◌, ◌≤◌, List, length, refl, sym, ap, ◌∙◌, subst, arith}
-use Rattle.c_tokens.specs.declared.places.Place.{Place}
+use Rattle.c_grammar.specs.declared.tokens.places.Place.{Place}
 use Rattle.c_grammar.specs.Trees.{Expr, Stmt}
 use Rattle.c_lower_rules.specs.Code.{Exits, Code, Test, jump, nothing, choose}
 use Rattle.c_lower_rules.specs.Contexts.{Context}

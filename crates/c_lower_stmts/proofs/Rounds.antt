@@ -1,7 +1,7 @@
 -- Loops.
 use Rattle.std.proofs.Common.{◌≡◌, ℕ, ◌+◌, ◌<◌, ◌≤◌, List, length, refl, sym, ap, ◌∙◌, subst, arith}
 use Rattle.std.specs.Prelude.{Option}
-use Rattle.c_tokens.specs.declared.places.Place.{Place}
+use Rattle.c_grammar.specs.declared.tokens.places.Place.{Place}
 use Rattle.c_grammar.specs.Trees.{Expr, Simple, ForInit, Stmt}
 use Rattle.c_lower_rules.specs.Code.{Code, Test, nothing, ◌⨾◌, repeat, repeat_first}
 use Rattle.c_lower_rules.specs.Contexts.{Context, visible, within_scope}

@@ -1,6 +1,6 @@
 //! Statements (C11 6.8). The calls nest as deep as the blocks, branches and loops do.
 ghost use Rattle.std.specs.Prelude.{◌≡◌, ℕ, OnOk, IfOk, option_map};
-ghost use Rattle.c_tokens.specs.declared.places.Place.{Place};
+ghost use Rattle.c_grammar.specs.declared.tokens.places.Place.{Place};
 ghost use Rattle.c_grammar.specs.Trees as tree;
 ghost use Rattle.c_tree.specs.Syntax.{expr_tree, for_step_tree, init_tree, stmt_tree, stmts_tree};
 ghost use Rattle.c_lower_rules.specs.Statements.{inside, stmt, stmts};

@@ -2,7 +2,7 @@
 use Rattle.std.proofs.Common.{◌≡◌, ℕ, Bool, true, false, List, refl, sym, ap, ◌∙◌}
 use Rattle.std.specs.Prelude.{Ok}
 use Rattle.std.proofs.lemmas.Bool.{eqb-true}
-use Rattle.c_tokens.specs.declared.fault.ReadFault.{ReadFault}
+use Rattle.c_grammar.specs.declared.tokens.fault.ReadFault.{ReadFault}
 use Rattle.c_grammar.specs.declared.class.Class.{Class}
 use Rattle.c_grammar.specs.declared.class.Class.TheVariants as class
 use Rattle.c_grammar.specs.Trees.{Name, Expr, Stmt}

@@ -1,16 +1,16 @@
 -- What reading a whole file says of the words of a list of tokens.
 use Rattle.std.proofs.Common.{◌≡◌, ◌≤◌, List, refl, sym, subst}
-use Rattle.c_tokens.specs.declared.token.Token.{Token}
-use Rattle.c_tokens.specs.TokenLists.{IsTokenList}
-use Rattle.c_tokens.specs.declared.fault.ReadFault.{ReadFault}
-use Rattle.c_tokens.specs.declared.fault.ReadFault.TheVariants.{Refused, OutOfMemory}
+use Rattle.c_grammar.specs.declared.tokens.token.Token.{Token}
+use Rattle.c_grammar.specs.Tokens.TokenLists.{IsTokenList}
+use Rattle.c_grammar.specs.declared.tokens.fault.ReadFault.{ReadFault}
+use Rattle.c_grammar.specs.declared.tokens.fault.ReadFault.TheVariants.{Refused, OutOfMemory}
 use Rattle.c_grammar.specs.Nesting.{file_nesting}
 use Rattle.c_grammar.specs.Readers.{read_file}
 use Rattle.c_grammar.specs.Refusals.{MOST_LEVELS, RefusedAt}
 use Rattle.c_grammar.specs.Spelling.{Spells}
 use Rattle.c_grammar.specs.Trees.{File}
 use Rattle.c_grammar.specs.Words.{words_of}
-use Rattle.c_grammar.proofs.Tokens.{stop_is_refused, spelled_is_read}
+use Rattle.c_grammar.proofs.TokenWords.{stop_is_refused, spelled_is_read}
 use Rattle.c_parse_exprs.specs.Reads.{Halts}
 use Rattle.c_parse.specs.Faults.{IsSyntaxFault}
 

@@ -1,6 +1,6 @@
 -- Which clause of the readers each value stands for.
 use Rattle.std.specs.Prelude.{ℕ, Bool, true, false, Option, option_map, List, length, Ok}
-use Rattle.c_tokens.specs.declared.places.Place.{Place}
+use Rattle.c_grammar.specs.declared.tokens.places.Place.{Place}
 use Rattle.c_grammar.specs.declared.class.Class.{Class}
 use Rattle.c_grammar.specs.declared.class.Class.TheVariants as class
 use Rattle.c_grammar.specs.Words.{Word}

@@ -1,7 +1,7 @@
 -- What a fault of the parser says.
 use Rattle.std.specs.Prelude.{List}
-use Rattle.c_tokens.specs.declared.fault.ReadFault.{ReadFault}
-use Rattle.c_tokens.specs.declared.fault.ReadFault.TheVariants.{Refused, OutOfMemory}
+use Rattle.c_grammar.specs.declared.tokens.fault.ReadFault.{ReadFault}
+use Rattle.c_grammar.specs.declared.tokens.fault.ReadFault.TheVariants.{Refused, OutOfMemory}
 use Rattle.c_grammar.specs.Words.{Word}
 use Rattle.c_grammar.specs.Refusals.{RefusedAt}
 

@@ -1,6 +1,6 @@
 -- Statements that have a statement within them, by what stands before that statement and what stands behind it.
 use Rattle.std.specs.Prelude.{ℕ, List, Ok}
-use Rattle.c_tokens.specs.declared.places.Place.{Place}
+use Rattle.c_grammar.specs.declared.tokens.places.Place.{Place}
 use Rattle.c_grammar.specs.declared.class.Class.{Class}
 use Rattle.c_grammar.specs.declared.class.Class.TheVariants as class
 use Rattle.c_grammar.specs.Words.{Word}

@@ -1,7 +1,7 @@
 //! The parser's one public call.
 ghost use Rattle.std.specs.Prelude.{◌≡◌, ◌≤◌, IfOk, IfErr, Ok};
-ghost use Rattle.c_tokens.specs.TokenLists.{IsTokenList};
-ghost use Rattle.c_tokens.specs.declared.fault.ReadFault.TheVariants.{OutOfMemory};
+ghost use Rattle.c_grammar.specs.Tokens.TokenLists.{IsTokenList};
+ghost use Rattle.c_grammar.specs.declared.tokens.fault.ReadFault.TheVariants.{OutOfMemory};
 ghost use Rattle.c_grammar.specs.Nesting.{file_nesting};
 ghost use Rattle.c_grammar.specs.Readers as readers;
 ghost use Rattle.c_grammar.specs.Refusals.{MOST_LEVELS};
@@ -13,8 +13,8 @@ ghost use Rattle.c_parse_exprs.specs.Reads.{Halts};
 ghost use Rattle.c_parse.specs.Faults.{IsSyntaxFault};
 
 use crate::items::read_items;
+use c_grammar::tokens::Token;
 use c_parse_exprs::{Class, SyntaxFault, Words, classes};
-use c_tokens::Token;
 use c_tree::Unit;
 use std::alloc::Global;
 

@@ -7,13 +7,13 @@ use Rattle.std.specs.Str.{bytes_eq}
 use Rattle.std.specs.Str.Parse.{AllDigits, digits_value}
 use Rattle.std.proofs.lemmas.Bool.{eqb-true}
 use Rattle.std.proofs.lemmas.Fmt.{length-decimal-le, digits_decimal, digits_value-decimal}
-use Rattle.c_tokens.proofs.Digits.{own}
-use Rattle.c_tokens.specs.declared.token.TokenKind.{TokenKind}
+use Rattle.c_grammar.proofs.TokensLemmas.Digits.{own}
+use Rattle.c_grammar.specs.declared.tokens.token.TokenKind.{TokenKind}
 use Rattle.c_grammar.specs.Classes.{Entry, class_in, keys, signs, number_of, numbered}
-use Rattle.c_tokens.specs.declared.token.Token.{Token}
-use Rattle.c_tokens.specs.declared.token.TokenKind.TheVariants as kind
-use Rattle.c_tokens.specs.TokenLists.{IsTokenList}
-use Rattle.c_tokens.specs.Lexemes.{IsToken}
+use Rattle.c_grammar.specs.declared.tokens.token.Token.{Token}
+use Rattle.c_grammar.specs.declared.tokens.token.TokenKind.TheVariants as kind
+use Rattle.c_grammar.specs.Tokens.TokenLists.{IsTokenList}
+use Rattle.c_grammar.specs.Tokens.Lexemes.{IsToken}
 use Rattle.c_grammar.specs.declared.class.Class.{Class}
 use Rattle.c_grammar.specs.declared.class.Class.TheVariants as class
 use Rattle.c_grammar.specs.Words.{Word, words_of, class_of, begins_cast}

@@ -2,8 +2,8 @@
 use Rattle.std.proofs.Common.{◌≡◌, false, List, refl, sym, ap, ◌∙◌, subst}
 use Rattle.std.specs.Prelude.{Result, Ok, Err}
 use Rattle.std.specs.Result.{IsErrAnd}
-use Rattle.c_tokens.specs.declared.fault.ReadFault.{ReadFault}
-use Rattle.c_tokens.specs.declared.fault.ReadFault.TheVariants.{Refused, OutOfMemory}
+use Rattle.c_grammar.specs.declared.tokens.fault.ReadFault.{ReadFault}
+use Rattle.c_grammar.specs.declared.tokens.fault.ReadFault.TheVariants.{Refused, OutOfMemory}
 use Rattle.c_grammar.specs.Words.{Word}
 use Rattle.c_grammar.specs.Readers.{Halt, Got, ◌>>=◌, refusal_of, class_at, is_class, is_open, take, take_open, read_name}
 use Rattle.c_grammar.specs.declared.class.Class.{Class}

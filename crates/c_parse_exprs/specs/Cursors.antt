@@ -1,8 +1,8 @@
 -- The words that are left of a list of tokens, as the tokens and their classes.
 use Rattle.std.specs.Prelude.{◌≡◌, ℕ, List, [], ◌∷◌}
-use Rattle.c_tokens.specs.declared.token.Token.{Token}
-use Rattle.c_tokens.specs.declared.token.TokenKind.TheVariants.{Number}
-use Rattle.c_tokens.specs.Lexemes.{IsToken}
+use Rattle.c_grammar.specs.declared.tokens.token.Token.{Token}
+use Rattle.c_grammar.specs.declared.tokens.token.TokenKind.TheVariants.{Number}
+use Rattle.c_grammar.specs.Tokens.Lexemes.{IsToken}
 use Rattle.c_grammar.specs.declared.class.Class.{Class}
 use Rattle.c_grammar.specs.declared.class.Class.TheVariants as class
 use Rattle.c_grammar.specs.Words.{class_of}

@@ -1,9 +1,9 @@
 -- What a function of the parser gives: what the reader of the grammar gives, unless memory ends.
 use Rattle.std.specs.Prelude.{◌≡◌, ℕ, true, false, List, Result, Ok, Err}
-use Rattle.c_tokens.specs.declared.places.Refusal.{Refusal}
-use Rattle.c_tokens.specs.declared.places.Place.{Place}
-use Rattle.c_tokens.specs.declared.fault.ReadFault.{ReadFault}
-use Rattle.c_tokens.specs.declared.fault.ReadFault.TheVariants.{Refused}
+use Rattle.c_grammar.specs.declared.tokens.places.Refusal.{Refusal}
+use Rattle.c_grammar.specs.declared.tokens.places.Place.{Place}
+use Rattle.c_grammar.specs.declared.tokens.fault.ReadFault.{ReadFault}
+use Rattle.c_grammar.specs.declared.tokens.fault.ReadFault.TheVariants.{Refused}
 use Rattle.c_grammar.specs.Trees.{Name}
 use Rattle.c_grammar.specs.Words.{Word}
 use Rattle.c_grammar.specs.Readers.{Halt, Got, refusal_of}

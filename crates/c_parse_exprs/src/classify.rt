@@ -7,7 +7,7 @@ ghost use Rattle.c_grammar.specs.Words.{class_of, sign_class, begins_cast, begin
 ghost use Rattle.c_parse_exprs.specs.Cursors.{classes_of};
 
 use c_grammar::Class;
-use c_tokens::{Token, TokenKind};
+use c_grammar::tokens::{Token, TokenKind};
 use std::alloc::{AllocError, Global};
 
 /// Whether the texts are the same.

@@ -1,7 +1,7 @@
 //! A cursor over words, and the smallest readers.
 ghost use Rattle.std.specs.Prelude.{◌≡◌, ◌<◌, ◌≤◌, ◌+◌, length, IfOk, IsTrue, true, if◌then◌else◌};
 ghost use Rattle.std.specs.Str.Parse.{digits_value};
-ghost use Rattle.c_tokens.specs.TokenLists.{IsTokenList};
+ghost use Rattle.c_grammar.specs.Tokens.TokenLists.{IsTokenList};
 ghost use Rattle.c_grammar.specs.declared.class.Class.TheVariants as class;
 ghost use Rattle.c_grammar.specs.Words.{words_of};
 ghost use Rattle.c_grammar.specs.Readers as readers;
@@ -11,7 +11,7 @@ ghost use Rattle.c_parse_exprs.specs.Reads.{Reads, Takes, name_of, wrong_at, too
 
 use crate::fault::SyntaxFault;
 use c_grammar::Class;
-use c_tokens::{Place, Token, digits_value};
+use c_grammar::tokens::{Place, Token, digits_value};
 use shape_data::name::Name;
 use std::alloc::Global;
 use std::marker::Model;

@@ -1,6 +1,6 @@
 -- The trees of statements that are words alone, and what an `if` is printed as.
 use Rattle.std.proofs.Common.{◌≡◌, Option, Some, None, codes, refl, sym, ap, ◌∙◌}
-use Rattle.c_tokens.specs.declared.places.Place.{Place}
+use Rattle.c_grammar.specs.declared.tokens.places.Place.{Place}
 use Rattle.c_grammar.specs.Trees as tree
 use Rattle.c_grammar.specs.Printing.{Texts, print_stmt}
 use Rattle.c_tree.specs.Syntax.{stmt_tree, if_of, stmt_level, block_level, BlockTree}

@@ -1,6 +1,6 @@
 -- The tree of an `if`, with an `else` or without.
 use Rattle.std.proofs.Common.{◌≡◌, Option, None, Some, Box, Global, option_map, sym, ap, ◌∙◌}
-use Rattle.c_tokens.specs.declared.places.Place.{Place}
+use Rattle.c_grammar.specs.declared.tokens.places.Place.{Place}
 use Rattle.c_grammar.specs.Trees as tree
 use Rattle.c_tree.specs.Syntax.{stmt_tree, else_tree, expr_tree, if_of, stmt_level, block_level, BlockTree}
 use Rattle.c_tree.specs.declared.exprs.Expr.{Expr}

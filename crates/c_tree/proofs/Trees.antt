@@ -1,6 +1,6 @@
 -- The trees of expressions and statements, variant by variant.
 use Rattle.std.proofs.Common.{◌≡◌, Option, None, Box, Vec, Global, map, option_map, sym, ap, ◌∙◌}
-use Rattle.c_tokens.specs.declared.places.Place.{Place}
+use Rattle.c_grammar.specs.declared.tokens.places.Place.{Place}
 use Rattle.c_grammar.specs.Trees as tree
 use Rattle.c_tree.specs.declared.names.Ident.{Ident}
 use Rattle.c_tree.specs.declared.non_empty.NonEmpty.{NonEmpty}

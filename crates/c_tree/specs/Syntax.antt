@@ -1,7 +1,7 @@
 -- Which syntax tree of the grammar each value of the crate's types stands for.
 use Rattle.std.specs.Prelude.{Option, Some, None, Box, List, [], ◌∷◌, map, option_map}
 use Rattle.std.specs.Global.{Global}
-use Rattle.c_tokens.specs.declared.places.Place.{Place}
+use Rattle.c_grammar.specs.declared.tokens.places.Place.{Place}
 use Rattle.c_grammar.specs.Trees as tree
 use Rattle.c_tree.specs.declared.names.Ident.{Ident}
 use Rattle.c_tree.specs.declared.names.TypeSpecifier.{TypeSpecifier}

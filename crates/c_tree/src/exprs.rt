@@ -1,7 +1,7 @@
 //! Expressions (C11 6.5).
 use crate::names::{Ident, TypeSpecifier};
 use crate::non_empty::NonEmpty;
-use c_tokens::Place;
+use c_grammar::tokens::Place;
 
 /// An operator between two operands (C11 6.5.5 to 6.5.14).
 #[derive(Clone, Copy, PartialEq, Eq, Debug)]

@@ -1,7 +1,7 @@
 //! What a file declares (C11 6.9).
 use crate::names::{FieldDecl, Head, Ident};
 use crate::stmts::Block;
-use c_tokens::Place;
+use c_grammar::tokens::Place;
 
 /// A declaration or a definition of the file (C11 6.9).
 #[derive(Drop)]

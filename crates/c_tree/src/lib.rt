@@ -9,7 +9,7 @@ pub mod non_empty;
 pub mod places;
 pub mod stmts;
 
-pub use c_tokens::Place;
+pub use c_grammar::tokens::Place;
 pub use exprs::{BinaryOp, Expr, Link, MallocTypes, PrefixOp};
 pub use items::{Item, Unit};
 pub use names::{Declarator, FieldDecl, Head, Ident, Param, Params, TypeSpecifier};

@@ -4,7 +4,7 @@ ghost use Rattle.c_tree.specs.NonEmpty.{left};
 ghost use Rattle.c_tree.specs.Params.{param_items};
 
 use crate::non_empty::{Iter, NonEmpty};
-use c_tokens::Place;
+use c_grammar::tokens::Place;
 use shape_data::Name;
 
 /// A name, where it stands (C11 6.4.2.1).

@@ -6,7 +6,7 @@ ghost use Rattle.c_tree.specs.Syntax.{specifier_tree, expr_tree};
 
 use crate::exprs::Expr;
 use crate::names::TypeSpecifier;
-use c_tokens::Place;
+use c_grammar::tokens::Place;
 
 /// Where the specifier begins.
 pub fn place_of_specifier(specifier: &TypeSpecifier) -> Place

@@ -2,7 +2,7 @@
 use crate::exprs::Expr;
 use crate::names::{Declarator, Ident, TypeSpecifier};
 use crate::non_empty::NonEmpty;
-use c_tokens::Place;
+use c_grammar::tokens::Place;
 
 /// An operator that assigns (C11 6.5.16).
 #[derive(Clone, Copy, PartialEq, Eq, Debug)]

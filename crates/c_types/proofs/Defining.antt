@@ -1,6 +1,6 @@
 -- What is found in items.
 use Rattle.std.proofs.Common.{◌≡◌, Result, Ok, Err, OnOk, List, [], ◌++◌, append_assoc, ap, ◌∙◌}
-use Rattle.c_tokens.specs.declared.places.Refusal.{Refusal}
+use Rattle.c_grammar.specs.declared.tokens.places.Refusal.{Refusal}
 use Rattle.c_grammar.specs.Trees.{Head, Stmts}
 use Rattle.c_types_rules.specs.Types.{Kind}
 use Rattle.c_types_rules.specs.Scopes.{Env}

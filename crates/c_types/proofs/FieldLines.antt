@@ -1,7 +1,7 @@
 -- Declarations of fields, one by one.
 use Rattle.std.proofs.Common.{◌≡◌, Option, Some, None, List, [], map, option_map, append_assoc, refl, ap}
 use Rattle.std.proofs.lemmas.List.{append-nil}
-use Rattle.c_tokens.specs.declared.places.Refusal.{Refusal}
+use Rattle.c_grammar.specs.declared.tokens.places.Refusal.{Refusal}
 use Rattle.c_grammar.specs.Trees.{Name, Fields}
 use Rattle.c_types_rules.specs.Types.{unless, DIFFERS}
 use Rattle.c_types_rules.specs.Tables.{Tables, Structure, FieldKind, field_kinds}

@@ -1,6 +1,6 @@
 -- The first refusal, found one by one.
 use Rattle.std.proofs.Common.{◌≡◌, Bool, true, false, Option, Some, None, List, [], ◌∷◌, ◌++◌, map, refl, sym, ap, ◌∙◌}
-use Rattle.c_tokens.specs.declared.places.Refusal.{Refusal}
+use Rattle.c_grammar.specs.declared.tokens.places.Refusal.{Refusal}
 use Rattle.c_types_rules.specs.declared.at.At.{At}
 use Rattle.c_types_rules.specs.Programs.{is_no_later, first_by, earlier, first_of, in_unit}
 use Rattle.c_types_rules.proofs.First.{either, no_later}

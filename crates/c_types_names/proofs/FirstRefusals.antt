@@ -1,6 +1,6 @@
 -- Refusals found in one part and then in another.
 use Rattle.std.proofs.Common.{◌≡◌, List, [], ◌∷◌, ◌++◌, refl, sym, ap, ◌∙◌}
-use Rattle.c_tokens.specs.declared.places.Refusal.{Refusal}
+use Rattle.c_grammar.specs.declared.tokens.places.Refusal.{Refusal}
 use Rattle.c_types_names.specs.declared.first_refusal.FirstRefusal.{FirstRefusal}
 use Rattle.c_types_names.specs.FirstRefusal.{with_refusal, with_refusals}
 

@@ -1,6 +1,6 @@
 -- The first refusal of those that were found so far.
 use Rattle.std.specs.Prelude.{Option, Some, None, List, [], ◌∷◌}
-use Rattle.c_tokens.specs.declared.places.Refusal.{Refusal}
+use Rattle.c_grammar.specs.declared.tokens.places.Refusal.{Refusal}
 use Rattle.c_types_rules.specs.declared.at.At.{At}
 use Rattle.c_types_rules.specs.Programs.{is_no_later, first_by, in_unit}
 use Rattle.c_types_names.specs.declared.first_refusal.FirstRefusal.{FirstRefusal}

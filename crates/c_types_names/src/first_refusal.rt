@@ -4,7 +4,7 @@ ghost use Rattle.c_types_rules.specs.Programs.{stands_before, is_no_later, first
 ghost use Rattle.c_types_rules.specs.Types.{unless as unless_of};
 ghost use Rattle.c_types_names.specs.FirstRefusal.{with_refusals, with_refusal};
 
-use c_tokens::{Place, Refusal};
+use c_grammar::tokens::{Place, Refusal};
 use c_types_rules::At;
 
 /// The first of the refusals that were found so far, and the number of the file that is looked at.

@@ -4,9 +4,9 @@ use Rattle.std.specs.Prelude.{◌&&◌, not, Option, Some, None, IfSome}
 use Rattle.std.specs.List.{AllByRecursion}
 use Rattle.std.specs.Str.{bytes_eq}
 use Rattle.shape_data.specs.declared.program.Ty.TheVariants.{Int, Ptr}
-use Rattle.c_tokens.specs.declared.places.Place.{Place}
-use Rattle.c_tokens.specs.declared.places.Refusal.{Refusal}
-use Rattle.c_tokens.specs.Places.{refusal}
+use Rattle.c_grammar.specs.declared.tokens.places.Place.{Place}
+use Rattle.c_grammar.specs.declared.tokens.places.Refusal.{Refusal}
+use Rattle.c_grammar.specs.Tokens.Places.{refusal}
 use Rattle.c_grammar.specs.Trees.{Name, BinaryOp, PrefixOp, Expr, Links, Args}
 use Rattle.c_grammar.specs.FirstPlaces.{place_of_expr}
 use Rattle.c_types_rules.specs.Types.{Kind, IsKnown, may_be_int, UNDECLARED}

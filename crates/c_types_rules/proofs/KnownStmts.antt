@@ -1,8 +1,8 @@
 -- Where the tables and the variables are sound and nothing is refused in a statement, the types of the expressions in it are known.
 use Rattle.std.proofs.Common.{◌≡◌, Bool, true, false, List, [], ◌∷◌}
 use Rattle.std.specs.Prelude.{not, Option, Some, None, if◌then◌else◌}
-use Rattle.c_tokens.specs.declared.places.Place.{Place}
-use Rattle.c_tokens.specs.declared.places.Refusal.{Refusal}
+use Rattle.c_grammar.specs.declared.tokens.places.Place.{Place}
+use Rattle.c_grammar.specs.declared.tokens.places.Refusal.{Refusal}
 use Rattle.c_grammar.specs.Readers.{place_of_specifier}
 use Rattle.c_grammar.specs.Trees.{Specifier, Expr, Simple, Initialized, Local, ForInit, Stmt, Stmts}
 use Rattle.c_types_rules.specs.Types.{Kind, IsKnown}

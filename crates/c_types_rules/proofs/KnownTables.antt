@@ -6,7 +6,7 @@ use Rattle.std.specs.List.{AllByRecursion}
 use Rattle.std.specs.Str.{bytes_eq}
 use Rattle.std.proofs.lemmas.Slice.Eq.{bytes_eq-Decides}
 use Rattle.shape_data.specs.declared.program.Ty.TheVariants.{Ptr}
-use Rattle.c_tokens.specs.declared.places.Place.{Place}
+use Rattle.c_grammar.specs.declared.tokens.places.Place.{Place}
 use Rattle.c_grammar.specs.Trees.{Specifier, Declarator, Fields, Head, Item}
 use Rattle.c_types_rules.specs.Types.{Kind, IsKnown, unless}
 use Rattle.c_types_rules.specs.Tables.{Structure, Alias, Procedure, Tables, FieldKind, tag_or, declared_by, structure_in, alias_in}

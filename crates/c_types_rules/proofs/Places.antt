@@ -1,7 +1,7 @@
 -- Where trees begin: each spells words that begin at its first place.
 use Rattle.std.proofs.Common.{◌≡◌, ℕ, List, [], ◌∷◌}
 use Rattle.std.specs.Prelude.{Option, Some, None}
-use Rattle.c_tokens.specs.declared.places.Place.{Place}
+use Rattle.c_grammar.specs.declared.tokens.places.Place.{Place}
 use Rattle.c_grammar.specs.Words.{Word}
 use Rattle.c_grammar.specs.Trees.{Name, Specifier, Expr, Links}
 use Rattle.c_grammar.specs.Spelling.{word_at, name, number, specifier, malloc, expr_at}

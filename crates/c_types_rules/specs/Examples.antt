@@ -1,6 +1,6 @@
 -- Small programs, as trees; the numbers in places are lines and columns that the examples choose.
 use Rattle.std.specs.Prelude.{ℕ, Option, Some, List, [], ◌∷◌, codes}
-use Rattle.c_tokens.specs.declared.places.Place.{Place}
+use Rattle.c_grammar.specs.declared.tokens.places.Place.{Place}
 use Rattle.c_grammar.specs.Trees.{Name, Specifier, Declarator, Params, BinaryOp, Expr, Links, Stmt, Stmts, Item, File}
 use Rattle.c_types_rules.specs.declared.at.At.{At}
 

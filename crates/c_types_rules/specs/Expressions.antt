@@ -2,9 +2,9 @@
 -- account of a type that is not known.
 use Rattle.std.specs.Prelude.{ℕ, zero, suc, Bool, true, false, ◌&&◌, ◌||◌, not, Option, Some, None, List, [], ◌∷◌, ◌++◌, if◌then◌else◌}
 use Rattle.shape_data.specs.declared.program.Ty.TheVariants.{Int, Ptr, Void}
-use Rattle.c_tokens.specs.declared.places.Place.{Place}
-use Rattle.c_tokens.specs.declared.places.Refusal.{Refusal}
-use Rattle.c_tokens.specs.Places.{refusal}
+use Rattle.c_grammar.specs.declared.tokens.places.Place.{Place}
+use Rattle.c_grammar.specs.declared.tokens.places.Refusal.{Refusal}
+use Rattle.c_grammar.specs.Tokens.Places.{refusal}
 use Rattle.c_grammar.specs.Trees.{Name, Specifier, BinaryOp, PrefixOp, Expr, Links, Args}
 use Rattle.c_grammar.specs.FirstPlaces.{place_of_expr}
 use Rattle.c_types_rules.specs.Types.{Kind, may_agree, may_be_int, may_be_scalar, may_be_compared, unless, UNDECLARED, CLASH, ARGUMENTS}

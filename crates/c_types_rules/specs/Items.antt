@@ -1,7 +1,7 @@
 -- The typing rules of items.
 use Rattle.std.specs.Prelude.{Bool, true, false, ◌&&◌, not, Option, Some, None, List, [], ◌∷◌, ◌++◌, map, if◌then◌else◌}
 use Rattle.std.specs.Str.{bytes_eq}
-use Rattle.c_tokens.specs.declared.places.Refusal.{Refusal}
+use Rattle.c_grammar.specs.declared.tokens.places.Refusal.{Refusal}
 use Rattle.c_grammar.specs.Trees.{Name, Specifier, Declarator, Fields, Param, Params, Head, Stmts, Item}
 use Rattle.c_grammar.specs.Readers.{place_of_specifier}
 use Rattle.c_grammar.specs.FirstPlaces.{place_of_head}

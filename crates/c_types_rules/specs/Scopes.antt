@@ -1,7 +1,7 @@
 -- Which variables stand at a place of a procedure's body, and which names of types they hide there (C11 6.2.1).
 use Rattle.std.specs.Prelude.{ℕ, Bool, true, false, ◌&&◌, not, Option, Some, None, List, [], ◌∷◌, ◌++◌, if◌then◌else◌}
 use Rattle.std.specs.Str.{bytes_eq}
-use Rattle.c_tokens.specs.declared.places.Refusal.{Refusal}
+use Rattle.c_grammar.specs.declared.tokens.places.Refusal.{Refusal}
 use Rattle.c_grammar.specs.Trees.{Specifier}
 use Rattle.c_grammar.specs.Readers.{place_of_specifier}
 use Rattle.c_types_rules.specs.Types.{Kind, unless, LEFT_OUT}

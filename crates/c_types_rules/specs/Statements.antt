@@ -1,8 +1,8 @@
 -- The typing rules of statements: what is refused in them, and the types of their expressions in the order of the text.
 use Rattle.std.specs.Prelude.{Bool, true, false, ◌&&◌, ◌||◌, not, Option, Some, None, List, [], ◌∷◌, ◌++◌, if◌then◌else◌}
 use Rattle.shape_data.specs.declared.program.Ty.TheVariants.{Void}
-use Rattle.c_tokens.specs.declared.places.Place.{Place}
-use Rattle.c_tokens.specs.declared.places.Refusal.{Refusal}
+use Rattle.c_grammar.specs.declared.tokens.places.Place.{Place}
+use Rattle.c_grammar.specs.declared.tokens.places.Refusal.{Refusal}
 use Rattle.c_grammar.specs.Trees.{Name, Specifier, Expr, Args, AssignOp, Simple, Initialized, Local, ForInit, Stmt, Stmts}
 use Rattle.c_grammar.specs.Readers.{place_of_specifier}
 use Rattle.c_grammar.specs.FirstPlaces.{place_of_expr}

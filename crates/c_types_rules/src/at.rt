@@ -1,5 +1,5 @@
 //! Places in a program of several files.
-use c_tokens::Refusal;
+use c_grammar::tokens::Refusal;
 
 /// A refusal in one of several files. The unit is the file's number, from 0.
 #[derive(Clone, Copy, Debug)]

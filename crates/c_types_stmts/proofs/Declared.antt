@@ -1,6 +1,6 @@
 -- What is found in a local, by what the code looked up.
 use Rattle.std.proofs.Common.{◌≡◌, Bool, not, Result, OnOk, ap, ◌∙◌}
-use Rattle.c_tokens.specs.declared.places.Place.{Place}
+use Rattle.c_grammar.specs.declared.tokens.places.Place.{Place}
 use Rattle.c_grammar.specs.Readers.{place_of_specifier}
 use Rattle.c_grammar.specs.Trees.{Specifier, Initialized}
 use Rattle.c_types_rules.specs.Types.{Kind, unless, SECOND, LEFT_OUT}

@@ -1,6 +1,6 @@
 -- What is found in statements, by their trees.
 use Rattle.std.proofs.Common.{◌≡◌, Bool, true, Option, Result, OnOk, sym, ap, ◌∙◌}
-use Rattle.c_tokens.specs.declared.places.Place.{Place}
+use Rattle.c_grammar.specs.declared.tokens.places.Place.{Place}
 use Rattle.c_grammar.specs.Trees.{Expr, Simple, ForInit, Stmt}
 use Rattle.c_types_rules.specs.Types.{Kind}
 use Rattle.c_types_rules.specs.Scopes.{Env, entered}

@@ -4,7 +4,7 @@ ghost use Rattle.c_types_rules.specs.Statements as rule;
 ghost use Rattle.c_types_rules.specs.Expressions.{kind_of, fits};
 ghost use Rattle.c_types_rules.specs.Scopes.{entered};
 ghost use Rattle.c_grammar.specs.Trees.{Stmt as StmtTree};
-ghost use Rattle.c_tokens.specs.declared.places.Place.{Place as PlaceTree};
+ghost use Rattle.c_grammar.specs.declared.tokens.places.Place.{Place as PlaceTree};
 ghost use Rattle.c_tree.specs.Syntax.{expr_tree, init_tree, for_step_tree, stmt_tree, stmts_tree, block_tree};
 ghost use Rattle.c_types_names.specs.Seen.{kind_seen};
 ghost use Rattle.c_types_stmts.specs.Adding.{Adds};

@@ -8,9 +8,9 @@ use Rattle.shape_data.specs.declared.symbolic.Spec.{Spec}
 use Rattle.shape_data.specs.declared.symbolic.SymState.{SymState}
 use Rattle.subtraction.specs.Conditions.{IsPostWithinSizes, IsStateWithinSizes}
 use Rattle.subtraction.proofs.StateConditions.{post_within, state_within}
-use Rattle.certificate_laws.specs.Coming.{Task}
-use Rattle.certificate_laws.specs.Conditions.{IsGivenState, IsTask, IsTaskCert, IsTaskPost, IsTaskSpec, IsTaskState}
-use Rattle.certificate_laws.proofs.GivenLaws.{exits-wide, node-given, posts-wide, state-wide}
+use Rattle.solve_laws.specs.Certificates.Coming.{Task}
+use Rattle.solve_laws.specs.Certificates.Conditions.{IsGivenState, IsTask, IsTaskCert, IsTaskPost, IsTaskSpec, IsTaskState}
+use Rattle.solve_laws.proofs.CertificatesLemmas.GivenLaws.{exits-wide, node-given, posts-wide, state-wide}
 
 module _ (task : Task) (good : IsTask task) where
   pub state-sizes : (state : SymState) → IsTaskState task state → IsStateWithinSizes state

@@ -2,7 +2,7 @@
 use Rattle.std.specs.Prelude.{ℕ, zero, suc, List, [], ◌∷◌, ◌++◌}
 use Rattle.shape_data.specs.declared.symbolic.Exp.{Exp}
 use Rattle.shape_data.specs.declared.symbolic.Exp.TheVariants.{Var}
-use Rattle.certificate_laws.specs.Coming as coming
+use Rattle.solve_laws.specs.Certificates.Coming as coming
 use Rattle.certificate_steps.specs.declared.coming.Task.{Task}
 
 -- the definitions' task

@@ -4,7 +4,7 @@ ghost use Rattle.std.specs.Prelude.{◌≡◌, ◌-◌, ◌++◌, ◌≤◌, pos
 ghost use Rattle.shape_data.specs.declared.symbolic.Exp.TheVariants.{Const};
 ghost use Rattle.shape_data.specs.WellFormed.{IsSymHeap, widest};
 ghost use Rattle.sound_laws.specs.Certificates.{start_state as start_state_of};
-ghost use Rattle.certificate_laws.specs.Coming.{
+ghost use Rattle.solve_laws.specs.Certificates.Coming.{
   at_exit as at_exit_of,
   at_node as at_node_of,
   normal_post as normal_post_of,
@@ -12,8 +12,8 @@ ghost use Rattle.certificate_laws.specs.Coming.{
   start_at_node as start_at_node_of,
   start_form as start_form_of,
 };
-ghost use Rattle.certificate_laws.specs.Gaps.{line_at as line_at_node};
-ghost use Rattle.certificate_laws.specs.Conditions.{IsTask, IsTaskPost, IsTaskState};
+ghost use Rattle.solve_laws.specs.Certificates.Gaps.{line_at as line_at_node};
+ghost use Rattle.solve_laws.specs.Certificates.Conditions.{IsTask, IsTaskPost, IsTaskState};
 ghost use Rattle.certificate_steps.specs.InTask.{task_in, variables_below};
 
 use exec_laws::Table;

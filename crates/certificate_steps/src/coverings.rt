@@ -1,7 +1,7 @@
 //! Whether one of a list of states, or of posts, covers another.
 ghost use Rattle.std.specs.Prelude.{◌≡◌, All, IfOk};
 ghost use Rattle.subtraction.specs.Conditions.{IsPostWithinSizes, IsStateWithinSizes};
-ghost use Rattle.certificate_laws.specs.Coverings.{
+ghost use Rattle.solve_laws.specs.Certificates.Coverings.{
   covers_post as covers_post_of,
   covers_state as covers_state_of,
   is_covered as is_covered_by,

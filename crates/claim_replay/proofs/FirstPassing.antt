@@ -7,7 +7,7 @@ use Rattle.std.proofs.lemmas.Bool.Decides.{Decides-ltb}
 use Rattle.std.proofs.lemmas.Option.{slice_get_past}
 use Rattle.std.specs.List.{list_any, position_or_len}
 use Rattle.std.specs.Prelude.{position}
-use Rattle.shape_types.specs.Exact.{IsExactTest}
+use Rattle.shape_data.specs.Exact.{IsExactTest}
 use Rattle.call_components.specs.Tables.{at_place}
 use Rattle.component_keys.proofs.Whole.{same_answers}
 

@@ -11,9 +11,9 @@ use Rattle.shape_data.specs.declared.program.StructDef.{StructDef}
 use Rattle.shape_data.specs.declared.symbolic.Cert.{Cert}
 use Rattle.shape_data.specs.declared.symbolic.Spec.{Spec}
 use Rattle.exec_laws.specs.declared.parts.Table.{Table}
-use Rattle.certificate_laws.specs.Coming.{Task}
-use Rattle.certificate_laws.specs.Sameness.{same_heap, same_post}
-use Rattle.certificate_laws.proofs.SamenessLaws.{same_heap-Decides, same_post-Decides}
+use Rattle.solve_laws.specs.Certificates.Coming.{Task}
+use Rattle.solve_laws.specs.Certificates.Sameness.{same_heap, same_post}
+use Rattle.solve_laws.proofs.CertificatesLemmas.SamenessLaws.{same_heap-Decides, same_post-Decides}
 use Rattle.solve_laws.specs.declared.parts.Attempt.{Attempt}
 use Rattle.solve_laws.specs.declared.parts.Trial.{Trial}
 use Rattle.solve_laws.specs.Solving.{attempt_again, attempts_again}

@@ -1,3 +1,4 @@
 pub mod FormedLaws
 pub mod LoopLaws
 pub mod Turns
+pub mod JobLemmas

@@ -12,7 +12,7 @@ use Rattle.shape_data.specs.declared.program.Flow.{Flow}
 use Rattle.shape_data.specs.declared.symbolic.Cert.{Cert}
 use Rattle.shape_data.specs.declared.symbolic.Spec.{Spec}
 use Rattle.exec_laws.specs.declared.parts.Table.{Table}
-use Rattle.certificate_laws.specs.Coming.{Task}
+use Rattle.solve_laws.specs.Certificates.Coming.{Task}
 use Rattle.solve_laws.specs.declared.parts.Attempt.{Attempt}
 use Rattle.solve_laws.specs.declared.parts.Trial.{Trial}
 use Rattle.solve_laws.specs.Attempts.{summaries_of, summary_of}

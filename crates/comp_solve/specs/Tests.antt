@@ -1,7 +1,7 @@
 -- How what stands is tested again.
 use Rattle.shape_data.specs.declared.symbolic.Cert.{Cert}
 use Rattle.shape_data.specs.declared.symbolic.Spec.{Spec}
-use Rattle.certificate_laws.specs.Coming as coming
+use Rattle.solve_laws.specs.Certificates.Coming as coming
 use Rattle.solve_laws.specs.declared.parts.Trial.{Trial}
 use Rattle.solve_laws.specs.Solving.{annotated_again, checked_again}
 use Rattle.comp_solve.specs.declared.passes.Test.{Test}

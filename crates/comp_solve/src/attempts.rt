@@ -1,8 +1,8 @@
 //! The candidates of a procedure, each annotated.
 ghost use Rattle.std.specs.Prelude.{◌≡◌, length, map, All, IfOk};
 ghost use Rattle.shape_data.specs.WellFormed.{IsSymHeap};
-ghost use Rattle.certificate_laws.specs.Conditions.{IsTask};
-ghost use Rattle.certificate_laws.specs.Limits.{analysable};
+ghost use Rattle.solve_laws.specs.Certificates.Conditions.{IsTask};
+ghost use Rattle.solve_laws.specs.Certificates.Limits.{analysable};
 ghost use Rattle.certificate_steps.specs.InTask.{task_in};
 ghost use Rattle.solve_laws.specs.Attempts.{attempt as attempt_of, trial_of as trial_of_pre, try as try_of};
 ghost use Rattle.solve_laws.specs.Solving.{attempts_under as attempts_under_of};

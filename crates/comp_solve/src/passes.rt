@@ -2,8 +2,8 @@
 //! inductive.
 ghost use Rattle.std.specs.Prelude.{◌≡◌, IfOk, map};
 ghost use Rattle.shape_data.specs.WellFormed.{IsKey};
-ghost use Rattle.certificate_laws.specs.Conditions.{IsTask, IsTaskCert, IsTaskSpec};
-ghost use Rattle.certificate_laws.specs.Limits.{analysable};
+ghost use Rattle.solve_laws.specs.Certificates.Conditions.{IsTask, IsTaskCert, IsTaskSpec};
+ghost use Rattle.solve_laws.specs.Certificates.Limits.{analysable};
 ghost use Rattle.certificate_steps.specs.InTask.{task_in};
 ghost use Rattle.comp_solve.specs.Tests.{test_of};
 ghost use Rattle.solve_laws.specs.Attempts.{count_of as count_of_all};

@@ -1,7 +1,7 @@
 //! Rounds: candidates and annotations with the specs of the round before, until those of two rounds are equal.
 ghost use Rattle.std.specs.Prelude.{◌≡◌, length, IfOk, IfSome};
 ghost use Rattle.shape_data.specs.WellFormed.{IsKey};
-ghost use Rattle.certificate_laws.specs.Limits.{analysable};
+ghost use Rattle.solve_laws.specs.Certificates.Limits.{analysable};
 ghost use Rattle.solve_laws.specs.Laws.{FitKey};
 ghost use Rattle.solve_laws.specs.Solving.{no_specs as no_specs_of, round as round_of, rounds as rounds_of};
 ghost use Rattle.solve_laws.specs.Standing.{AreFormed};

@@ -1,8 +1,8 @@
 //! Solving a key: alone, or together in rounds.
 ghost use Rattle.std.specs.Prelude.{◌≡◌, All, IfOk, IfSome};
 ghost use Rattle.shape_data.specs.WellFormed.{HasReason, IsAnswer, IsKey};
-ghost use Rattle.certificate_laws.specs.Inductive.{Inductive};
-ghost use Rattle.certificate_laws.specs.Limits.{analysable};
+ghost use Rattle.solve_laws.specs.Certificates.Inductive.{Inductive};
+ghost use Rattle.solve_laws.specs.Certificates.Limits.{analysable};
 ghost use Rattle.solve_laws.specs.Solving.{
   after_rounds as after_rounds_of,
   solve as solve_of,

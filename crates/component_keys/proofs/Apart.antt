@@ -2,7 +2,7 @@
 use Rattle.std.proofs.Common.{◌≡◌, ℕ, zero, suc, true, false, not, List, [], ◌∷◌, ◌++◌, length, slice_get, Some, None, Option, refl, sym}
 use Rattle.std.proofs.Common.{ap, ◌∙◌, ⊎_elim, filter_map, find, option_map}
 use Rattle.std.specs.List.{list_any, cons_option}
-use Rattle.shape_types.specs.Exact.{IsExactTest, row_same, number_same}
+use Rattle.shape_data.specs.Exact.{IsExactTest, row_same, number_same}
 use Rattle.shape_data.specs.declared.program.Flow.{Flow}
 use Rattle.shape_data.specs.declared.program.Program.{Program}
 use Rattle.component_keys.specs.Components.{same_names, names_at, is_next, with_next, listed_after, components, classes, by_name}

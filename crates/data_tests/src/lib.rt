@@ -2,8 +2,8 @@
 #![tactic(auto)]
 
 #[cfg(test)]
+mod exact_tests;
+#[cfg(test)]
 mod flow_json_tests;
 #[cfg(test)]
 mod shape_data_tests;
-#[cfg(test)]
-mod shape_types_tests;

@@ -4,12 +4,12 @@ use flow_json::objects::member;
 use flow_json::values::items;
 use flow_json::{Form, Unread, read_list};
 use serde_json::Value;
+use shape_data::answer::{Answer, Callee, Fault, Key, ProcSummary, Reason};
+use shape_data::name::Name;
+use shape_data::program::{Flow, Proc, Program};
+use shape_data::row::Row;
+use shape_data::symbolic::{Atom, Cert, Exp, Fact, Post, Spec, SymHeap, SymState};
 use shape_data::{well_formed_answer, well_formed_key, well_formed_program};
-use shape_types::answer::{Answer, Callee, Fault, Key, ProcSummary, Reason};
-use shape_types::name::Name;
-use shape_types::program::{Flow, Proc, Program};
-use shape_types::row::Row;
-use shape_types::symbolic::{Atom, Cert, Exp, Fact, Post, Spec, SymHeap, SymState};
 use std::alloc::{AllocError, Global};
 use std::test::Fail;
 

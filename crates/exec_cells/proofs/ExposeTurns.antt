@@ -11,7 +11,7 @@ use Rattle.shape_data.specs.declared.symbolic.Exp.TheVariants.{Var}
 use Rattle.shape_data.specs.Heap.{struct_named}
 use Rattle.sym_canon.specs.declared.parts.Pair.{Pair}
 use Rattle.sym_canon.specs.Placing.{is_cell_at, is_segment_from}
-use Rattle.sym_renaming.specs.Calls.{variables_from}
+use Rattle.sym_matching.specs.Renaming.Calls.{variables_from}
 use Rattle.exec_laws.specs.declared.parts.Exposed.{Exposed}
 use Rattle.exec_laws.specs.Exposing.{cases_of_segment, empty_case, expose_within, lacking, unfolded_case, without_atom}
 use Rattle.exec_laws.specs.Pairs.{Setting, atoms_of, in_slot}

@@ -9,9 +9,9 @@ use Rattle.shape_data.specs.declared.symbolic.Atom.{Atom}
 use Rattle.shape_data.specs.declared.symbolic.Fact.{Fact}
 use Rattle.shape_data.specs.declared.symbolic.SymHeap.{SymHeap}
 use Rattle.shape_data.specs.declared.symbolic.SymState.{SymState}
-use Rattle.sym_laws.specs.Each.{EachInAtom, EachInFact, EachInHeap, EachInState}
-use Rattle.sym_laws.specs.Mapped.{on_state}
-use Rattle.sym_laws.proofs.EachLemmas.{each-on_atoms, each-on_exps, each-on_facts}
+use Rattle.sym_parts.specs.Laws.Each.{EachInAtom, EachInFact, EachInHeap, EachInState}
+use Rattle.sym_parts.specs.Laws.Mapped.{on_state}
+use Rattle.sym_parts.proofs.LawsLemmas.EachLemmas.{each-on_atoms, each-on_exps, each-on_facts}
 use Rattle.sym_canon.specs.Canonical.{without_locals}
 use Rattle.sym_canon.specs.declared.parts.Pair.{Pair}
 use Rattle.sym_pure.specs.declared.parts.Normal.{Normal}

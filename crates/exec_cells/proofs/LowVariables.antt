@@ -10,7 +10,7 @@ use Rattle.shape_data.specs.declared.symbolic.Exp.TheVariants.{Var, Const}
 use Rattle.shape_data.specs.declared.symbolic.Fact.{Fact}
 use Rattle.shape_data.specs.declared.symbolic.Fact.TheVariants.{Eq, Ne}
 use Rattle.shape_data.specs.declared.symbolic.SymHeap.{SymHeap}
-use Rattle.sym_laws.specs.Each.{EachInAtom, EachInFact, EachInHeap}
+use Rattle.sym_parts.specs.Laws.Each.{EachInAtom, EachInFact, EachInHeap}
 use Rattle.sym_canon.specs.declared.parts.Pair.{Pair}
 use Rattle.sym_canon.specs.Numbering.{sides}
 use Rattle.sym_canon.specs.Placing.{exps_of}

@@ -3,7 +3,7 @@ use Rattle.std.specs.Prelude.{◌≡◌, Bool, true, nat_lt}
 use Rattle.shape_data.specs.declared.symbolic.Exp.{Exp}
 use Rattle.shape_data.specs.declared.symbolic.Exp.TheVariants.{Var, Const}
 use Rattle.shape_data.specs.declared.symbolic.Fact.{Fact}
-use Rattle.sym_laws.specs.Each.{EachInFact, EachInHeap, EachInState}
+use Rattle.sym_parts.specs.Laws.Each.{EachInFact, EachInHeap, EachInState}
 use Rattle.sym_canon.specs.declared.parts.Pair.{Pair}
 
 -- the variable of an expression is below 2^31

@@ -35,14 +35,14 @@ use crate::pairs::{in_slot, new_existentials, where_true, with_slot};
 use crate::setting::Setting;
 use crate::values::{on_alone, operand};
 use exec_laws::{Case, Exposed};
-use matching_steps::new_variables::as_exps;
-use matching_steps::steps::{exp_at, is_same_name};
 use shape_data::answer::Fault;
 use shape_data::program::{Operand, StructDef};
 use shape_data::symbolic::{Atom, Exp, Fact};
 use shape_data::{Name, Row, copy_of, struct_of};
 use std::alloc::{AllocError, Global};
 use sym_canon::{Pair, place_of_cell};
+use sym_matching::renaming::new_variables::as_exps;
+use sym_matching::rule_steps::steps::{exp_at, is_same_name};
 use sym_parts::is_same_exp;
 use sym_pure::differs;
 

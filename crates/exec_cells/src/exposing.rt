@@ -6,7 +6,7 @@ ghost use Rattle.shape_data.specs.declared.symbolic.Fact.TheVariants.{Eq};
 ghost use Rattle.shape_data.specs.Heap.{struct_named};
 ghost use Rattle.sym_canon.specs.declared.parts.Pair.{Pair as AnyPair};
 ghost use Rattle.sym_canon.specs.Placing.{is_cell_at as is_cell_at_of, is_segment_from as is_segment_from_of};
-ghost use Rattle.sym_renaming.specs.Calls.{variables_from};
+ghost use Rattle.sym_matching.specs.Renaming.Calls.{variables_from};
 ghost use Rattle.exec_laws.specs.declared.parts.Exposed.{Exposed as AnyExposed};
 ghost use Rattle.exec_laws.specs.Exposing.{
   cases_of_segment,
@@ -31,15 +31,15 @@ ghost use Rattle.exec_cells.specs.Turns.{IsLowTurn, cases_after, listed, turn_of
 use crate::pairs::{formed, in_slot, new_existentials, new_logical, where_true};
 use crate::setting::Setting;
 use exec_laws::{Exposed, Mode};
-use matching_steps::missing::contradicts;
-use matching_steps::new_variables::as_exps;
-use matching_steps::reading::is_logical_variable;
 use shape_data::answer::Fault;
 use shape_data::program::StructDef;
 use shape_data::symbolic::{Atom, Exp, Fact};
 use shape_data::{Name, Row, copy_of, struct_of};
 use std::alloc::{AllocError, Global};
 use sym_canon::{Pair, is_cell_at, is_segment_from};
+use sym_matching::renaming::new_variables::as_exps;
+use sym_matching::rule_steps::missing::contradicts;
+use sym_matching::rule_steps::reading::is_logical_variable;
 use sym_parts::is_same_exp;
 use sym_pure::differs;
 

@@ -21,15 +21,15 @@ ghost use Rattle.exec_cells.specs.Sizes.{IsLowFact, IsLowPair};
 
 use crate::setting::Setting;
 use exec_laws::Mode;
-use matching_steps::new_variables::fresh_variables;
-use matching_steps::reading::is_logical;
-use matching_steps::steps::exp_at;
-use matching_steps::variables::{add_heap, add_state};
 use shape_data::Row;
 use shape_data::symbolic::{Exp, FIRST_EXISTENTIAL, Fact};
 use std::alloc::{AllocError, Global};
 use sym_canon::{Pair, canon_pair, canon_state};
 use sym_forms::pair_form;
+use sym_matching::renaming::new_variables::fresh_variables;
+use sym_matching::renaming::variables::{add_heap, add_state};
+use sym_matching::rule_steps::reading::is_logical;
+use sym_matching::rule_steps::steps::exp_at;
 use sym_pure::{Normal, normal};
 
 /// What a slot holds.

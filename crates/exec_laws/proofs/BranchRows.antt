@@ -19,8 +19,8 @@ use Rattle.shape_data.specs.declared.symbolic.Fact.{Fact}
 use Rattle.shape_data.specs.declared.symbolic.Fact.TheVariants.{Eq, Ne}
 use Rattle.shape_data.specs.Machine.{operand_value, test_passes}
 use Rattle.shape_data.specs.Meaning.{value, IsTrueFact}
-use Rattle.sym_laws.specs.Expressions.{same_exp}
-use Rattle.sym_laws.proofs.ExpressionLemmas.{same_exp-equal}
+use Rattle.sym_parts.specs.Laws.Expressions.{same_exp}
+use Rattle.sym_parts.proofs.LawsLemmas.ExpressionLemmas.{same_exp-equal}
 use Rattle.sym_canon.specs.declared.parts.Pair.{Pair}
 use Rattle.sym_pure.specs.Sources.{differs}
 use Rattle.sym_pure.proofs.SourcesLaws.{differs_is_sound}

@@ -17,7 +17,7 @@ use Rattle.shape_data.specs.declared.symbolic.Fact.{Fact}
 use Rattle.shape_data.specs.declared.symbolic.Post.{Post}
 use Rattle.shape_data.specs.declared.symbolic.Spec.{Spec}
 use Rattle.shape_data.specs.WellFormed.{AreStructs, IsAtom, IsCallee, IsExp, IsFact, IsPost, IsSpec, IsSymHeap, widest}
-use Rattle.shape_laws.specs.Symbolic.{beside}
+use Rattle.sym_parts.specs.Shapes.Symbolic.{beside}
 use Rattle.sym_canon.specs.declared.parts.Pair.{Pair}
 use Rattle.sym_canon.specs.Numbering.{sides}
 use Rattle.sym_matching.specs.declared.matching.Abd.{Abd}
@@ -33,11 +33,11 @@ use Rattle.sym_matching.proofs.AnswerLaws.{biabduce_is_well_formed, few_names, s
 use Rattle.sym_matching.proofs.CountLaws.{biabduce_has_sizes, subtract_has_sizes}
 use Rattle.sym_matching.proofs.RoomLaws.{few_each, few_fields}
 use Rattle.sym_matching.proofs.SizeLaws.{well_formed_is_within_sizes}
-use Rattle.sym_renaming.specs.declared.parts.CalledPre.{CalledPre}
-use Rattle.sym_renaming.specs.Calls.{called_with}
-use Rattle.sym_renaming.specs.Sizes.{IsCalledWellFormed, IsPostWellFormed}
-use Rattle.sym_renaming.proofs.CalledLemmas.{called_is_well_formed, post_is_well_formed}
-use Rattle.sym_renaming.proofs.SizeLemmas.{few_binding_variables, few_exps, few_heap_variables}
+use Rattle.sym_matching.specs.declared.renaming.parts.CalledPre.{CalledPre}
+use Rattle.sym_matching.specs.Renaming.Calls.{called_with}
+use Rattle.sym_matching.specs.Renaming.Sizes.{IsCalledWellFormed, IsPostWellFormed}
+use Rattle.sym_matching.proofs.RenamingLemmas.CalledLemmas.{called_is_well_formed, post_is_well_formed}
+use Rattle.sym_matching.proofs.RenamingLemmas.SizeLemmas.{few_binding_variables, few_exps, few_heap_variables}
 use Rattle.exec_laws.specs.declared.parts.Case.{Case}
 use Rattle.exec_laws.specs.declared.parts.Case.TheVariants.{On, Leaves, Drops}
 use Rattle.exec_laws.specs.declared.parts.Mode.{Mode}

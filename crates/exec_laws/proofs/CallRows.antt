@@ -29,8 +29,8 @@ use Rattle.shape_data.specs.Machine.{operand_value}
 use Rattle.shape_data.specs.Meaning.{value, Holds, MeetsOne, MeetsPost}
 use Rattle.shape_data.specs.Structures.{ContainsStructures}
 use Rattle.shape_data.specs.WellFormed.{IsCallee, IsSpec, widest}
-use Rattle.sym_laws.specs.Fresh.{is_one_of}
-use Rattle.sym_laws.specs.Mapped.{on_atom, renamed}
+use Rattle.sym_parts.specs.Laws.Fresh.{is_one_of}
+use Rattle.sym_parts.specs.Laws.Mapped.{on_atom, renamed}
 use Rattle.sym_canon.specs.declared.parts.Pair.{Pair}
 use Rattle.sym_matching.specs.declared.matching.Sub.{Sub}
 use Rattle.sym_matching.specs.declared.matching.Sub.TheVariants as sub
@@ -41,11 +41,11 @@ use Rattle.sym_matching.proofs.GivesLaws.{subtract_gives_beside}
 use Rattle.sym_matching.proofs.KeptLaws.{AgreesOn-logical, IsKept, value-kept, values-alike}
 use Rattle.sym_matching.proofs.SizeLaws.{fitting_carries, well_formed_fits}
 use Rattle.sym_matching.proofs.VariableLaws.{heap-within, locals-kept, state-within}
-use Rattle.sym_renaming.specs.declared.parts.Numbers.{Numbers}
-use Rattle.sym_renaming.specs.Apart.{number_of}
-use Rattle.sym_renaming.specs.Calls.{others_flexible, parameters_bound, pre_apart, pre_numbers}
-use Rattle.sym_renaming.specs.Laws.{IsCalled, standing}
-use Rattle.sym_renaming.proofs.CallLemmas.{match_is_call, post_is_beside_frame}
+use Rattle.sym_matching.specs.declared.renaming.parts.Numbers.{Numbers}
+use Rattle.sym_matching.specs.Renaming.Apart.{number_of}
+use Rattle.sym_matching.specs.Renaming.Calls.{others_flexible, parameters_bound, pre_apart, pre_numbers}
+use Rattle.sym_matching.specs.Renaming.Laws.{IsCalled, standing}
+use Rattle.sym_matching.proofs.RenamingLemmas.CallLemmas.{match_is_call, post_is_beside_frame}
 use Rattle.sound_laws.specs.Commands.{received_locals}
 use Rattle.sound_laws.proofs.LeadingLemmas.{Contains-first, Contains-later}
 use Rattle.exec_laws.specs.declared.parts.Case.{Case}

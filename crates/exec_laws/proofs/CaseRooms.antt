@@ -27,7 +27,7 @@ use Rattle.shape_data.specs.declared.symbolic.Fact.TheVariants.{Eq, Ne}
 use Rattle.shape_data.specs.declared.symbolic.SymHeap.{SymHeap}
 use Rattle.shape_data.specs.Heap.{struct_named}
 use Rattle.shape_data.specs.WellFormed.{AreStructs, IsAtom, IsExp, IsFact, widest}
-use Rattle.sym_laws.specs.Expressions.{same_exp}
+use Rattle.sym_parts.specs.Laws.Expressions.{same_exp}
 use Rattle.sym_pure.proofs.EachLaws.{All-get, All-remove}
 use Rattle.sym_canon.specs.declared.parts.Pair.{Pair}
 use Rattle.sym_canon.specs.Placing.{is_cell_at, is_segment_from}
@@ -38,8 +38,8 @@ use Rattle.sym_matching.specs.Reading.{is_logical_variable}
 use Rattle.sym_matching.specs.Steps.{contradicts}
 use Rattle.sym_matching.proofs.KeptLaws.{All-insert, All-or}
 use Rattle.sym_matching.proofs.NewVariableLaws.{length-fresh_variables}
-use Rattle.sym_renaming.specs.Calls.{variables_from}
-use Rattle.sym_renaming.proofs.SizeLemmas.{few_from}
+use Rattle.sym_matching.specs.Renaming.Calls.{variables_from}
+use Rattle.sym_matching.proofs.RenamingLemmas.SizeLemmas.{few_from}
 use Rattle.exec_laws.specs.declared.parts.Case.{Case}
 use Rattle.exec_laws.specs.declared.parts.Case.TheVariants.{On, Leaves, Drops}
 use Rattle.exec_laws.specs.declared.parts.Exposed.{Exposed}

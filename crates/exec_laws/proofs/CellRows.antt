@@ -31,13 +31,13 @@ use Rattle.shape_data.specs.Heap.{put, struct_named}
 use Rattle.shape_data.specs.Machine.{can_be_new, go_with, new_step}
 use Rattle.shape_data.specs.Meaning.{value, HoldsAtoms}
 use Rattle.shape_data.specs.Structures.{ContainsStructures}
-use Rattle.shape_laws.proofs.Atoms.{HoldsAtoms-remove}
-use Rattle.shape_laws.proofs.FrameSteps.{new_cell_fits}
-use Rattle.sym_laws.specs.Expressions.{same_exp}
-use Rattle.sym_laws.specs.Fresh.{AgreeButFor}
-use Rattle.sym_laws.proofs.ExpressionLemmas.{same_exp-equal}
-use Rattle.sym_laws.proofs.FreshLemmas.{assign, assign-agrees, assign-names}
-use Rattle.sym_laws.proofs.OrderLemmas.{same-middle}
+use Rattle.sym_parts.proofs.ShapesLemmas.Atoms.{HoldsAtoms-remove}
+use Rattle.sym_parts.proofs.ShapesLemmas.FrameSteps.{new_cell_fits}
+use Rattle.sym_parts.specs.Laws.Expressions.{same_exp}
+use Rattle.sym_parts.specs.Laws.Fresh.{AgreeButFor}
+use Rattle.sym_parts.proofs.LawsLemmas.ExpressionLemmas.{same_exp-equal}
+use Rattle.sym_parts.proofs.LawsLemmas.FreshLemmas.{assign, assign-agrees, assign-names}
+use Rattle.sym_parts.proofs.LawsLemmas.OrderLemmas.{same-middle}
 use Rattle.sym_canon.specs.declared.parts.Pair.{Pair}
 use Rattle.sym_canon.specs.Placing.{is_cell_at}
 use Rattle.sym_pure.specs.Sources.{differs}
@@ -61,7 +61,7 @@ use Rattle.exec_laws.proofs.Covering.{cover-each, cover-left, cover-right}
 use Rattle.exec_laws.proofs.ExposingLemmas.{exposed-met}
 use Rattle.exec_laws.proofs.Forms.{IsMet, fact-met, form-goes}
 use Rattle.exec_laws.proofs.NewNames.{old_atoms, old_facts, old_values, still_logical}
-use Rattle.sym_renaming.proofs.NumberLemmas.{fresh_different}
+use Rattle.sym_matching.proofs.RenamingLemmas.NumberLemmas.{fresh_different}
 use Rattle.exec_laws.proofs.Places.{HoldsAtoms-set}
 use Rattle.exec_laws.proofs.ValueRows.{int_tells, operand-met, slot-met}
 

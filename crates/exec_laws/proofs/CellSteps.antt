@@ -25,10 +25,10 @@ use Rattle.shape_data.specs.declared.symbolic.Exp.TheVariants.{Const}
 use Rattle.shape_data.specs.Heap.{cell_at, put, with_field, struct_named, IsSum}
 use Rattle.shape_data.specs.Machine.{at_cell, can_be_new, fit_struct, operand_value, step_cmd}
 use Rattle.shape_data.specs.Meaning.{value, HoldsAtoms}
-use Rattle.shape_laws.proofs.Atoms.{HoldsAtoms-is_heap}
-use Rattle.shape_laws.proofs.FrameSteps.{new_cell_fits}
-use Rattle.shape_laws.proofs.Sums.{IsSum-cell_left, at_first}
-use Rattle.sym_laws.proofs.CellLemmas.{put_is_sum, without_is_rest, written_is_sum}
+use Rattle.sym_parts.proofs.ShapesLemmas.Atoms.{HoldsAtoms-is_heap}
+use Rattle.sym_parts.proofs.ShapesLemmas.FrameSteps.{new_cell_fits}
+use Rattle.sym_parts.proofs.ShapesLemmas.Sums.{IsSum-cell_left, at_first}
+use Rattle.sym_parts.proofs.LawsLemmas.CellLemmas.{put_is_sum, without_is_rest, written_is_sum}
 use Rattle.sound_laws.specs.Commands.{alone}
 
 not_null : (at : ℤ) → pos 0 <ℤ at → int_eq at (pos 0) ≡ false

@@ -15,11 +15,11 @@ use Rattle.shape_data.specs.declared.symbolic.Fact.TheVariants.{Eq}
 use Rattle.shape_data.specs.Heap.{struct_named}
 use Rattle.shape_data.specs.Meaning.{value, HoldsAtoms}
 use Rattle.shape_data.specs.Structures.{ContainsStructures}
-use Rattle.shape_laws.specs.Symbolic.{occurs_in_atom}
-use Rattle.shape_laws.proofs.Atoms.{HoldsAtoms-insert, HoldsAtoms-remove}
-use Rattle.sym_laws.specs.Fresh.{AgreeButFor}
-use Rattle.sym_laws.specs.Segments.{AreFieldNames}
-use Rattle.sym_laws.proofs.SegmentLemmas.{segment_unfolds}
+use Rattle.sym_parts.specs.Shapes.Symbolic.{occurs_in_atom}
+use Rattle.sym_parts.proofs.ShapesLemmas.Atoms.{HoldsAtoms-insert, HoldsAtoms-remove}
+use Rattle.sym_parts.specs.Laws.Fresh.{AgreeButFor}
+use Rattle.sym_parts.specs.Laws.Segments.{AreFieldNames}
+use Rattle.sym_parts.proofs.LawsLemmas.SegmentLemmas.{segment_unfolds}
 use Rattle.sym_canon.specs.declared.parts.Pair.{Pair}
 use Rattle.sym_canon.specs.Placing.{is_cell_at, is_segment_from}
 use Rattle.sym_pure.specs.Sources.{differs}
@@ -35,7 +35,7 @@ use Rattle.exec_laws.specs.Meanings.{IsExposed, SomeOf}
 use Rattle.exec_laws.specs.Pairs.{Setting, atoms_of, formed, in_slot, new_existentials, pair_variables, unless_left_out, with_state_fact}
 use Rattle.exec_laws.proofs.Forms.{IsMet, fact-met, form-goes}
 use Rattle.exec_laws.proofs.NewNames.{new_in_atoms, old_facts, old_values, still_logical}
-use Rattle.sym_renaming.proofs.NumberLemmas.{fresh_different}
+use Rattle.sym_matching.proofs.RenamingLemmas.NumberLemmas.{fresh_different}
 use Rattle.exec_laws.proofs.Places.{none_moved}
 use Rattle.exec_laws.proofs.SomeOf.{some-left, some-right}
 

@@ -6,7 +6,7 @@ use Rattle.shape_data.specs.declared.machine.Cell.{Cell}
 use Rattle.shape_data.specs.declared.program.StructDef.{StructDef}
 use Rattle.shape_data.specs.declared.symbolic.Fact.{Fact}
 use Rattle.shape_data.specs.Meaning.{IsTrueFact, MeetsState}
-use Rattle.shape_laws.proofs.Meets.{AreTrueFacts-append}
+use Rattle.sym_parts.proofs.ShapesLemmas.Meets.{AreTrueFacts-append}
 use Rattle.sym_canon.specs.declared.parts.Pair.{Pair}
 use Rattle.sym_canon.specs.Canonical.{canon_state}
 use Rattle.sym_canon.proofs.CanonLaws.{canon_state_keeps_meaning}

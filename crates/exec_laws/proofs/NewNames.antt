@@ -6,18 +6,18 @@ use Rattle.std.proofs.lemmas.Bool.{ltb-true, or_left, or_right}
 use Rattle.shape_data.specs.declared.machine.Cell.{Cell}
 use Rattle.shape_data.specs.declared.program.StructDef.{StructDef}
 use Rattle.shape_data.specs.Meaning.{value, AgreesOnLogical, AreTrueFacts, HoldsAtoms}
-use Rattle.shape_laws.specs.Symbolic.{is_variable, occurs_in_atom, occurs_in_fact}
-use Rattle.shape_laws.proofs.Agree.{AreTrueFacts-agree, values-agree}
-use Rattle.sym_laws.specs.Each.{EachInHeap}
-use Rattle.sym_laws.specs.Fresh.{is_one_of, AgreeButFor, AreNewIn}
-use Rattle.sym_laws.proofs.FreshLemmas.{new-agrees, HoldsAtoms-new}
+use Rattle.sym_parts.specs.Shapes.Symbolic.{is_variable, occurs_in_atom, occurs_in_fact}
+use Rattle.sym_parts.proofs.ShapesLemmas.Agree.{AreTrueFacts-agree, values-agree}
+use Rattle.sym_parts.specs.Laws.Each.{EachInHeap}
+use Rattle.sym_parts.specs.Laws.Fresh.{is_one_of, AgreeButFor, AreNewIn}
+use Rattle.sym_parts.proofs.LawsLemmas.FreshLemmas.{new-agrees, HoldsAtoms-new}
 use Rattle.sym_canon.specs.declared.parts.Pair.{Pair}
 use Rattle.sym_matching.specs.Laws.{is_kept}
 use Rattle.sym_matching.specs.Variables.{with_exps, with_state}
 use Rattle.sym_matching.proofs.GivesLaws.{exps_occur, occurs-kept}
 use Rattle.sym_matching.proofs.KeptLaws.{IsKept}
 use Rattle.sym_matching.proofs.VariableLaws.{heap-kept, heap-within, locals-kept}
-use Rattle.sym_renaming.proofs.NumberLemmas.{fresh_new}
+use Rattle.sym_matching.proofs.RenamingLemmas.NumberLemmas.{fresh_new}
 use Rattle.exec_laws.specs.Pairs.{new_existentials, pair_variables}
 
 unless_true : (a b : Bool) → (a ≡ true → b ≡ true) → b ≡ false → a ≡ false

@@ -7,7 +7,7 @@ use Rattle.shape_data.specs.declared.machine.Cell.{Cell}
 use Rattle.shape_data.specs.declared.program.StructDef.{StructDef}
 use Rattle.shape_data.specs.declared.symbolic.Atom.{Atom}
 use Rattle.shape_data.specs.Meaning.{HoldsAtoms}
-use Rattle.shape_laws.proofs.Sums.{IsSum-rebuild}
+use Rattle.sym_parts.proofs.ShapesLemmas.Sums.{IsSum-rebuild}
 
 neither : (a b : Bool) → (a || b) ≡ false → (a ≡ false) × (b ≡ false)
 neither true b h = cc

@@ -19,8 +19,8 @@ use Rattle.shape_data.specs.declared.symbolic.Fact.TheVariants.{Eq, Ne}
 use Rattle.shape_data.specs.declared.symbolic.SymHeap.{SymHeap}
 use Rattle.shape_data.specs.Heap.{struct_named}
 use Rattle.shape_data.specs.WellFormed.{AreStructs, IsAtom, IsExp, IsFact, IsState, IsStruct, widest}
-use Rattle.sym_laws.specs.Each.{EachInFact}
-use Rattle.sym_laws.specs.Mapped.{on_atom, on_state}
+use Rattle.sym_parts.specs.Laws.Each.{EachInFact}
+use Rattle.sym_parts.specs.Laws.Mapped.{on_atom, on_state}
 use Rattle.sym_canon.specs.Canonical.{without_locals}
 use Rattle.sym_canon.specs.declared.parts.Pair.{Pair}
 use Rattle.sym_canon.specs.Numbering.{sides}
@@ -33,9 +33,9 @@ use Rattle.sym_pure.proofs.PartsLaws.{FormHasNoMore, filter-fewer, form-fewer}
 use Rattle.sym_pure.proofs.ReadThrough.{read_through-each}
 use Rattle.sym_pure.proofs.WellFormedLaws.{form_is_well_formed, to_each}
 use Rattle.sym_matching.specs.Variables.{with_atoms, with_exps, with_facts, with_heap, with_state}
-use Rattle.sym_renaming.specs.Sizes.{AreSmall}
-use Rattle.sym_renaming.proofs.NumberLemmas.{fresh_small}
-use Rattle.sym_renaming.proofs.SizeLemmas.{few_exps, mapped_state_is_well_formed}
+use Rattle.sym_matching.specs.Renaming.Sizes.{AreSmall}
+use Rattle.sym_matching.proofs.RenamingLemmas.NumberLemmas.{fresh_small}
+use Rattle.sym_matching.proofs.RenamingLemmas.SizeLemmas.{few_exps, mapped_state_is_well_formed}
 use Rattle.sym_forms.specs.Forms.{of_form, of_form_some}
 use Rattle.sym_forms.specs.PairForms.{is_further_equation, pair_of, with_missing}
 use Rattle.exec_laws.specs.declared.parts.Mode.{Mode}

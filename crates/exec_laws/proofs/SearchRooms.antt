@@ -17,7 +17,7 @@ use Rattle.shape_data.specs.declared.symbolic.SymHeap.{SymHeap}
 use Rattle.shape_data.specs.declared.symbolic.SymState.{SymState}
 use Rattle.shape_data.specs.declared.symbolic.Fact.TheVariants.{Ne}
 use Rattle.shape_data.specs.WellFormed.{AreStructs, IsCmd, IsExp, IsFact, IsNode, IsState, IsSymHeap}
-use Rattle.sym_laws.specs.Mapped.{on_atom, on_fact, on_heap, on_state}
+use Rattle.sym_parts.specs.Laws.Mapped.{on_atom, on_fact, on_heap, on_state}
 use Rattle.sym_pure.proofs.EachLaws.{All-get}
 use Rattle.sym_canon.specs.declared.parts.Pair.{Pair}
 use Rattle.sym_canon.specs.declared.parts.Variables.TheVariants.{Existential, Further}
@@ -30,7 +30,7 @@ use Rattle.sym_pure.specs.declared.parts.Normal.TheVariants.{Is, Contradiction}
 use Rattle.sym_pure.specs.Equations.{read_through}
 use Rattle.sym_pure.specs.Normal.{normal}
 use Rattle.sym_pure.proofs.PartsLaws.{FormHasNoMore, form-fewer}
-use Rattle.sym_renaming.proofs.SizeLemmas.{mapped_state_is_well_formed}
+use Rattle.sym_matching.proofs.RenamingLemmas.SizeLemmas.{mapped_state_is_well_formed}
 use Rattle.sym_forms.specs.Forms.{of_form, of_form_some}
 use Rattle.sym_forms.specs.PairForms.{pair_of, with_missing}
 use Rattle.sym_forms.specs.Sizes.{Brings, fields_in, most_exps}

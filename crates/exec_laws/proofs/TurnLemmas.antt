@@ -14,7 +14,7 @@ use Rattle.shape_data.specs.declared.symbolic.Fact.TheVariants.{Eq}
 use Rattle.shape_data.specs.declared.symbolic.SymHeap.{SymHeap}
 use Rattle.shape_data.specs.declared.symbolic.SymState.{SymState}
 use Rattle.shape_data.specs.Heap.{struct_named}
-use Rattle.sym_laws.specs.Mapped.{on_atom, on_state}
+use Rattle.sym_parts.specs.Laws.Mapped.{on_atom, on_state}
 use Rattle.sym_canon.specs.declared.parts.Pair.{Pair}
 use Rattle.sym_canon.specs.Canonical.{without_locals}
 use Rattle.sym_canon.specs.Placing.{is_cell_at, is_segment_from}

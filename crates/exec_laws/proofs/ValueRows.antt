@@ -25,8 +25,8 @@ use Rattle.shape_data.specs.declared.symbolic.Exp.{Exp}
 use Rattle.shape_data.specs.declared.symbolic.Exp.TheVariants.{Var, Const}
 use Rattle.shape_data.specs.Machine.{any_step, arith_value, go_with, is_of_type, operand_value, test_passes}
 use Rattle.shape_data.specs.Meaning.{value}
-use Rattle.sym_laws.specs.Fresh.{AgreeButFor}
-use Rattle.sym_laws.proofs.FreshLemmas.{assign, assign-agrees, assign-names}
+use Rattle.sym_parts.specs.Laws.Fresh.{AgreeButFor}
+use Rattle.sym_parts.proofs.LawsLemmas.FreshLemmas.{assign, assign-agrees, assign-names}
 use Rattle.sym_canon.specs.declared.parts.Pair.{Pair}
 use Rattle.sym_matching.specs.NewVariables.{fresh, fresh_variables}
 use Rattle.sound_laws.specs.Commands.{alone, Lands}
@@ -35,7 +35,7 @@ use Rattle.exec_laws.specs.Pairs.{pair_variables, with_slot}
 use Rattle.exec_laws.specs.Values.{any, arith as arith_cases, copy, leave, operand, with_any, with_result}
 use Rattle.exec_laws.proofs.Forms.{IsMet}
 use Rattle.exec_laws.proofs.NewNames.{old_atoms, old_facts, old_values, still_logical}
-use Rattle.sym_renaming.proofs.NumberLemmas.{fresh_different}
+use Rattle.sym_matching.proofs.RenamingLemmas.NumberLemmas.{fresh_different}
 
 -- two numbers are equal or not
 pub int_tells : (m n : ℤ) → (m ≡ n) ⊎ (m ≢ n)

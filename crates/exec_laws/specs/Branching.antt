@@ -11,7 +11,7 @@ use Rattle.shape_data.specs.declared.symbolic.Fact.{Fact}
 use Rattle.shape_data.specs.declared.symbolic.Fact.TheVariants.{Eq, Ne}
 use Rattle.shape_data.specs.declared.symbolic.SymHeap.{SymHeap}
 use Rattle.shape_data.specs.Machine.{test_passes}
-use Rattle.sym_laws.specs.Expressions.{same_exp}
+use Rattle.sym_parts.specs.Laws.Expressions.{same_exp}
 use Rattle.sym_canon.specs.declared.parts.Pair.{Pair}
 use Rattle.sym_pure.specs.Sources.{differs}
 use Rattle.exec_laws.specs.declared.parts.Case.{Case}

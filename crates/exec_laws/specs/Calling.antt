@@ -17,7 +17,7 @@ use Rattle.shape_data.specs.declared.symbolic.Post.{Post}
 use Rattle.shape_data.specs.declared.symbolic.Spec.{Spec}
 use Rattle.shape_data.specs.declared.symbolic.SymHeap.{SymHeap}
 use Rattle.shape_data.specs.declared.symbolic.SymState.{SymState}
-use Rattle.shape_laws.specs.Symbolic.{beside}
+use Rattle.sym_parts.specs.Shapes.Symbolic.{beside}
 use Rattle.sym_canon.specs.declared.parts.Pair.{Pair}
 use Rattle.sym_matching.specs.declared.matching.Abd.{Abd}
 use Rattle.sym_matching.specs.declared.matching.Abd.TheVariants as abd
@@ -26,9 +26,9 @@ use Rattle.sym_matching.specs.declared.matching.Sub.TheVariants as sub
 use Rattle.sym_matching.specs.Matches.{biabduce_avoiding, subtract_avoiding}
 use Rattle.sym_matching.specs.Steps.{contradicts}
 use Rattle.sym_matching.specs.Variables.{with_heap}
-use Rattle.sym_renaming.specs.declared.parts.CalledPre.{CalledPre}
-use Rattle.sym_renaming.specs.declared.parts.Numbers.{Numbers}
-use Rattle.sym_renaming.specs.Calls.{called_with, post_in_caller}
+use Rattle.sym_matching.specs.declared.renaming.parts.CalledPre.{CalledPre}
+use Rattle.sym_matching.specs.declared.renaming.parts.Numbers.{Numbers}
+use Rattle.sym_matching.specs.Renaming.Calls.{called_with, post_in_caller}
 use Rattle.exec_laws.specs.declared.parts.Case.{Case}
 use Rattle.exec_laws.specs.declared.parts.Case.TheVariants.{On, Drops}
 use Rattle.exec_laws.specs.declared.parts.Mode.{Mode}

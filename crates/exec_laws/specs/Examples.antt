@@ -12,7 +12,7 @@ use Rattle.shape_data.specs.declared.symbolic.Post.{Post}
 use Rattle.shape_data.specs.declared.symbolic.Spec.{Spec}
 use Rattle.shape_data.specs.declared.symbolic.SymHeap.{SymHeap}
 use Rattle.shape_data.specs.declared.symbolic.SymState.{SymState}
-use Rattle.shape_laws.specs.Examples.{node_name, node_struct, on_line}
+use Rattle.sym_parts.specs.Shapes.Examples.{node_name, node_struct, on_line}
 use Rattle.sym_canon.specs.declared.parts.Pair.{Pair}
 use Rattle.exec_laws.specs.declared.parts.Table.{Table}
 

@@ -16,13 +16,13 @@ use Rattle.shape_data.specs.declared.symbolic.Exp.TheVariants.{Var, Const}
 use Rattle.shape_data.specs.declared.symbolic.Fact.TheVariants.{Eq, Ne}
 use Rattle.shape_data.specs.declared.symbolic.SymHeap.{SymHeap}
 use Rattle.shape_data.specs.Heap.{struct_named}
-use Rattle.sym_laws.specs.Expressions.{same_exp}
+use Rattle.sym_parts.specs.Laws.Expressions.{same_exp}
 use Rattle.sym_canon.specs.declared.parts.Pair.{Pair}
 use Rattle.sym_canon.specs.Placing.{is_cell_at, is_segment_from}
 use Rattle.sym_pure.specs.Sources.{differs}
 use Rattle.sym_matching.specs.Reading.{is_logical_variable}
 use Rattle.sym_matching.specs.Steps.{contradicts}
-use Rattle.sym_renaming.specs.Calls.{variables_from}
+use Rattle.sym_matching.specs.Renaming.Calls.{variables_from}
 use Rattle.exec_laws.specs.declared.parts.Exposed.{Exposed}
 use Rattle.exec_laws.specs.declared.parts.Exposed.TheVariants.{Shown, Lacking}
 use Rattle.exec_laws.specs.declared.parts.Mode.{Mode}

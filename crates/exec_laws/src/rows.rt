@@ -9,7 +9,7 @@ ghost use Rattle.shape_data.specs.declared.program.Operand.TheVariants.{Slot, Nu
 ghost use Rattle.shape_data.specs.declared.program.TestOp.TheVariants as test;
 ghost use Rattle.shape_data.specs.declared.symbolic.Exp.TheVariants.{Var, Const};
 ghost use Rattle.shape_data.specs.declared.symbolic.Fact.TheVariants.{Eq, Ne};
-ghost use Rattle.shape_laws.specs.Examples.{node_name};
+ghost use Rattle.sym_parts.specs.Shapes.Examples.{node_name};
 ghost use Rattle.sym_matching.specs.Examples.{cell, heap, list, null, state};
 ghost use Rattle.exec_laws.specs.declared.parts.Case.TheVariants.{On, Drops};
 ghost use Rattle.exec_laws.specs.declared.parts.Step.TheVariants as step;

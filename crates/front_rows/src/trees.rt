@@ -1,9 +1,9 @@
 //! Rows of parsing.
 use crate::rows::{both_sides, text_behind};
 use crate::show::show_unit;
+use c_grammar::tokens::{TokenFault, tokens};
 use c_parse::parse;
 use c_parse_exprs::SyntaxFault;
-use c_tokens::{TokenFault, tokens};
 use std::alloc::Global;
 use worked_rows::Fault;
 

@@ -1,7 +1,7 @@
 //! Texts, with their tokens or the first refusal, by C11 6.4 and 6.10.
 ghost use Rattle.std.specs.Prelude.{◌<◌, length};
 
-use c_tokens::{TokenFault, TokenKind, tokens};
+use c_grammar::tokens::{TokenFault, TokenKind, tokens};
 use std::alloc::{AllocError, Global};
 use std::process::Abort;
 use std::test::Fail;

@@ -15,7 +15,7 @@ use Rattle.std.proofs.lemmas.List.Sorted.{searchable_from_sorted}
 use Rattle.std.proofs.lemmas.Option.{get_or_from_slice_get, slice_get_within}
 use Rattle.shape_data.specs.declared.machine.Cell.{Cell}
 use Rattle.shape_data.specs.Heap.{cell_at, put, with_field, without, AreRising}
-use Rattle.shape_laws.proofs.StepsStacks.{within-some}
+use Rattle.sym_parts.proofs.ShapesLemmas.StepsStacks.{within-some}
 use Rattle.heap_run.specs.Places.{IsGap, IsPlace}
 
 int_eq_itself : (z : ℤ) → int_eq z z ≡ true

@@ -9,7 +9,7 @@ use Rattle.shape_data.specs.declared.program.Proc.{Proc}
 use Rattle.shape_data.specs.declared.program.Program.{Program}
 use Rattle.shape_data.specs.Machine.{top_of, below_top, step, step_cmd}
 use Rattle.shape_data.specs.WellFormed.{HasLines, IsCmd, IsConfig, IsFlow, IsFrame, IsNode, IsProgram, ReturnsInto}
-use Rattle.shape_laws.proofs.StepsStacks.{All-at, AreFrames-split, last_of}
+use Rattle.sym_parts.proofs.ShapesLemmas.StepsStacks.{All-at, AreFrames-split, last_of}
 
 pub top_of-push : (frames : List Frame) (frame : Frame) → top_of (frames ++ frame ∷ []) ≡ Some frame
 top_of-push [] frame = refl

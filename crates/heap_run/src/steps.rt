@@ -6,7 +6,7 @@ ghost use Rattle.std.specs.Option.{IsSomeAnd};
 ghost use Rattle.shape_data.specs.Heap.{IsHeap};
 ghost use Rattle.shape_data.specs.Machine.{run as run_of, start as start_of, step as step_of};
 ghost use Rattle.shape_data.specs.WellFormed.{IsConfig, IsProgram};
-ghost use Rattle.shape_laws.specs.Steps.{IsRunOf, IsStepOf};
+ghost use Rattle.sym_parts.specs.Shapes.Steps.{IsRunOf, IsStepOf};
 
 use crate::commands::Machine;
 use crate::frames::new_frame;

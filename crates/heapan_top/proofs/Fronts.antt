@@ -14,7 +14,7 @@ use Rattle.io_ports.proofs.ToldBytes.{after_held-append}
 use Rattle.shape_data.specs.WellFormed.{storable}
 use Rattle.shape_data.specs.declared.answer.Kept.{Kept}
 use Rattle.claim_core.specs.Views.{Solution, solution_of}
-use Rattle.certificate_laws.specs.Limits.{AnswerWidens, StorableIsAnalysable, analysable}
+use Rattle.solve_laws.specs.Certificates.Limits.{AnswerWidens, StorableIsAnalysable, analysable}
 use Rattle.bottom_up.specs.Laws.{IsRight}
 use Rattle.session_replies.specs.Solving.{IsStoredEntry}
 use Rattle.store_json.specs.declared.reading.Unread.{Unread}

@@ -11,13 +11,13 @@ ghost use Rattle.heapan_top.specs.Laws.{
   SomeReply,
 };
 
-use certificate_laws::limits::limits_widen;
 use project_form::laws::limits_are_kept;
 use session_lines::laws::one_first;
 use session_replies::laws::{
     answers_keep_limits, honest_answers, one_answer, one_feed, one_saving, reported_is_valid,
     some_answer, some_feed, some_saving,
 };
+use solve_laws::certificates::limits::limits_widen;
 use summary_store::laws::{loaded_are_inductive, one_loading, some_loading};
 
 /// A stream has at most one text of replies, and one end.

@@ -7,11 +7,11 @@ use Rattle.std.proofs.lemmas.Cmp.{nat_list_cmp_total}
 use Rattle.std.proofs.lemmas.List.Elements.{All-nil, All-cons, All-weaker}
 use Rattle.std.proofs.lemmas.List.Kept.{AllPairs-cons}
 use Rattle.std.proofs.lemmas.Option.{slice_get-get_or, get_or_from_slice_get, slice_get_within}
-use Rattle.shape_types.specs.Exact.{IsExactTest, row_same, number_same}
+use Rattle.shape_data.specs.Exact.{IsExactTest, row_same, number_same}
 use Rattle.shape_data.specs.declared.answer.ProcSummary.{ProcSummary}
 use Rattle.shape_data.specs.declared.program.Flow.{Flow}
 use Rattle.shape_data.specs.WellFormed.{AreInNameOrder, IsCallee, IsFlow, IsSpec, IsSummary}
-use Rattle.shape_laws.proofs.ContainingShapes.{spec-carries}
+use Rattle.sym_parts.proofs.ShapesLemmas.ContainingShapes.{spec-carries}
 use Rattle.component_keys.proofs.Basics.{found, some_same}
 use Rattle.call_components.proofs.Graphs.{differ_at}
 use Rattle.claim_laws.proofs.Invariant.{all_at}

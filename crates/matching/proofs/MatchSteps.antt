@@ -12,7 +12,7 @@ use Rattle.sym_matching.specs.Rooms.{IsWithinSizes, fields_of_all}
 use Rattle.sym_matching.proofs.AnswerLaws.{few_names}
 use Rattle.sym_matching.proofs.RoomLaws.{few_fields}
 use Rattle.sym_matching.specs.Answers.{names_of_all}
-use Rattle.matching_steps.specs.InSetting.{rules_with}
+use Rattle.sym_matching.specs.RuleSteps.InSetting.{rules_with}
 
 pub start-used : (a : SymHeap) (bound : List (ℕ × Exp)) (used : List ℕ) (next : ℕ) (m : Matching) → m ≡ start_of a bound used next →
     m.used ≡ used

@@ -9,7 +9,7 @@ use Rattle.shape_data.specs.declared.symbolic.Exp.TheVariants.{Var, Const}
 use Rattle.shape_data.specs.declared.symbolic.Fact.{Fact}
 use Rattle.shape_data.specs.declared.symbolic.Fact.TheVariants.{Eq, Ne}
 use Rattle.shape_data.specs.declared.symbolic.SymHeap.{SymHeap}
-use Rattle.sym_laws.specs.Each.{EachInAtom, EachInFact, EachInHeap}
+use Rattle.sym_parts.specs.Laws.Each.{EachInAtom, EachInFact, EachInHeap}
 use Rattle.sym_canon.specs.Numbering.{sides}
 use Rattle.sym_canon.specs.Placing.{exps_of}
 use Rattle.sym_matching.specs.Matches.{argument_variables}
@@ -17,7 +17,7 @@ use Rattle.sym_matching.specs.NewVariables.{HasRoom}
 use Rattle.sym_matching.specs.Rooms.{IsSmall, IsWithinSizes, fields_of_all}
 use Rattle.sym_matching.specs.Variables.{with_atoms, with_binding, with_exps, with_facts, with_heap, with_variable}
 use Rattle.sym_matching.proofs.RoomLaws.{few_fields, room_below}
-use Rattle.sym_renaming.specs.Sizes.{AreSmall, IsSmallBinding}
+use Rattle.sym_matching.specs.Renaming.Sizes.{AreSmall, IsSmallBinding}
 
 abbrev IsLow : ℕ → Type 0
 IsLow x = x < 2147483648

@@ -2,7 +2,7 @@
 use Rattle.std.proofs.Common.{◌≡◌, ◌∙◌, ℕ, zero, suc, ◌+◌, ◌-◌, ◌<◌, ◌≤◌, true, false, List, Some, None, refl, sym, ap, slice_get, length}
 use Rattle.std.proofs.Common.{arith}
 use Rattle.shape_data.specs.declared.symbolic.Exp.{Exp}
-use Rattle.sym_laws.specs.Expressions.{same_exp}
+use Rattle.sym_parts.specs.Laws.Expressions.{same_exp}
 use Rattle.sym_matching.specs.declared.matching.Matching.{Matching}
 use Rattle.sym_matching.specs.declared.matching.Turned.{Turned}
 use Rattle.sym_matching.specs.declared.matching.Turned.TheVariants.{On}

@@ -18,15 +18,15 @@ ghost use Rattle.sym_matching.specs.WantedAtoms.{
   want_atoms as want_atoms_of,
   wanted_from as wanted_from_of,
 };
-ghost use Rattle.matching_steps.specs.InSetting.{rules_in};
+ghost use Rattle.sym_matching.specs.RuleSteps.InSetting.{rules_in};
 
 use crate::segments::want_segment;
 use crate::wanted_cells::want_cell;
-use matching_steps::reading::Setting;
-use matching_steps::steps::{is_unbound_in, read_in};
 use shape_data::symbolic::Atom;
 use shape_data::{Row, copy_of};
 use std::alloc::{AllocError, Global};
+use sym_matching::rule_steps::reading::Setting;
+use sym_matching::rule_steps::steps::{is_unbound_in, read_in};
 use sym_matching::{Matching, Turned, Wanted};
 
 /// The rules for an atom. There is room for a new variable for each of its fields, and for a new logical one for each, or for its

@@ -1,7 +1,7 @@
 //! What a wanted cell is taken from: a cell, or a segment that is unfolded.
 ghost use Rattle.std.specs.Prelude.{◌≡◌, ◌&&◌, ◌<◌, IfOk, IfSome, length, position, slice_get};
 ghost use Rattle.std.specs.Str.{bytes_eq};
-ghost use Rattle.sym_laws.specs.Expressions.{same_exp};
+ghost use Rattle.sym_parts.specs.Laws.Expressions.{same_exp};
 ghost use Rattle.sym_matching.specs.NewVariables.{HasRoom};
 ghost use Rattle.sym_matching.specs.Steps.{whole as whole_of};
 ghost use Rattle.sym_matching.specs.WantedCells.{
@@ -11,14 +11,14 @@ ghost use Rattle.sym_matching.specs.WantedCells.{
   take_fields as take_fields_of,
   take_unfolded as take_unfolded_of,
 };
-ghost use Rattle.matching_steps.specs.InSetting.{rules_in};
+ghost use Rattle.sym_matching.specs.RuleSteps.InSetting.{rules_in};
 
-use matching_steps::new_variables::{as_exps, fresh_variables};
-use matching_steps::reading::{Setting, is_unbound};
-use matching_steps::steps::{bind, is_same_name, owe, put_unfolded, whole};
 use shape_data::symbolic::{Atom, Exp, SymHeap};
 use shape_data::{Name, copy_of};
 use std::alloc::{AllocError, Global};
+use sym_matching::renaming::new_variables::{as_exps, fresh_variables};
+use sym_matching::rule_steps::reading::{Setting, is_unbound};
+use sym_matching::rule_steps::steps::{bind, is_same_name, owe, put_unfolded, whole};
 use sym_matching::{Matching, Turned};
 use sym_parts::is_same_exp;
 use sym_pure::differs;

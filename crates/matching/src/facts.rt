@@ -13,13 +13,13 @@ ghost use Rattle.sym_matching.specs.WantedFacts.{
   want_owed as want_owed_of,
   want_same as want_same_of,
 };
-ghost use Rattle.matching_steps.specs.InSetting.{rules_in};
+ghost use Rattle.sym_matching.specs.RuleSteps.InSetting.{rules_in};
 
-use matching_steps::missing::miss_fact;
-use matching_steps::reading::{Setting, is_logical};
-use matching_steps::steps::{bind, is_unbound_in, read_in, whole};
 use shape_data::symbolic::{Exp, Fact};
 use std::alloc::{AllocError, Global};
+use sym_matching::rule_steps::missing::miss_fact;
+use sym_matching::rule_steps::reading::{Setting, is_logical};
+use sym_matching::rule_steps::steps::{bind, is_unbound_in, read_in, whole};
 use sym_matching::{Matching, Mode, Owed, Turned};
 use sym_parts::is_same_exp;
 use sym_pure::{differs, read_through};

@@ -14,18 +14,18 @@ ghost use Rattle.sym_matching.specs.Rooms.{IsWithinSizes, fields_of_all};
 ghost use Rattle.sym_matching.specs.Steps.{and_then};
 ghost use Rattle.sym_matching.specs.WantedFacts.{want_all_owed as want_all_owed_of, want_facts as want_facts_of};
 ghost use Rattle.sym_matching.specs.declared.matching.Turned.TheVariants.{On};
-ghost use Rattle.sym_renaming.specs.Sizes.{AreSmall, IsSmallBinding};
-ghost use Rattle.matching_steps.specs.InSetting.{rules_in};
+ghost use Rattle.sym_matching.specs.Renaming.Sizes.{AreSmall, IsSmallBinding};
+ghost use Rattle.sym_matching.specs.RuleSteps.InSetting.{rules_in};
 ghost use Rattle.sym_matching.specs.Answers.{names_of_all};
 
 use crate::atoms::{want_atoms, wanted_of};
 use crate::facts::{want_all_owed, want_facts};
-use matching_steps::reading::Setting;
-use matching_steps::steps::all_facts;
-use matching_steps::variables::{add_binding, add_heap};
 use shape_data::symbolic::{Exp, SymHeap};
 use shape_data::{Row, copy_of};
 use std::alloc::{AllocError, Global};
+use sym_matching::renaming::variables::{add_binding, add_heap};
+use sym_matching::rule_steps::reading::Setting;
+use sym_matching::rule_steps::steps::all_facts;
 use sym_matching::{Abd, Matching, Mode, Turned};
 use sym_pure::has_junk;
 

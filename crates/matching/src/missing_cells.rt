@@ -15,16 +15,16 @@ ghost use Rattle.sym_matching.specs.WantedCells.{
   place_to_part as place_to_part_of,
   take_parted as take_parted_of,
 };
-ghost use Rattle.matching_steps.specs.InSetting.{rules_in};
+ghost use Rattle.sym_matching.specs.RuleSteps.InSetting.{rules_in};
 
 use crate::cells::{is_from, take_unfolded};
-use matching_steps::missing::{miss_atom, miss_fact};
-use matching_steps::reading::{Setting, is_logical, is_logical_variable};
-use matching_steps::steps::{bind_new, is_unbound_in, read_in};
 use shape_data::symbolic::{Atom, Exp, Fact};
 use shape_data::{Name, Row, copy_of};
 use std::alloc::{AllocError, Global};
 use sym_canon::{is_cell_at, is_segment_from};
+use sym_matching::rule_steps::missing::{miss_atom, miss_fact};
+use sym_matching::rule_steps::reading::{Setting, is_logical, is_logical_variable};
+use sym_matching::rule_steps::steps::{bind_new, is_unbound_in, read_in};
 use sym_matching::{Matching, Mode, Turned};
 
 /// Whether the atom is the cell at the expression, or a segment from it.

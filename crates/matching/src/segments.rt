@@ -15,15 +15,15 @@ ghost use Rattle.sym_matching.specs.WantedSegments.{
   walk as walk_of,
   want_segment as want_segment_of,
 };
-ghost use Rattle.matching_steps.specs.InSetting.{rules_in};
+ghost use Rattle.sym_matching.specs.RuleSteps.InSetting.{rules_in};
 
 use crate::cells::is_from;
-use matching_steps::missing::miss_atom;
-use matching_steps::reading::{Setting, is_logical, is_logical_variable};
-use matching_steps::steps::{bind, bind_new, exp_at, is_unbound_in, read_in};
 use shape_data::symbolic::{Atom, Exp};
 use shape_data::{Name, copy_of};
 use std::alloc::{AllocError, Global};
+use sym_matching::rule_steps::missing::miss_atom;
+use sym_matching::rule_steps::reading::{Setting, is_logical, is_logical_variable};
+use sym_matching::rule_steps::steps::{bind, bind_new, exp_at, is_unbound_in, read_in};
 use sym_matching::{Matching, Mode, Turned};
 use sym_parts::is_same_exp;
 

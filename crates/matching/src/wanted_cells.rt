@@ -7,15 +7,15 @@ ghost use Rattle.sym_matching.specs.WantedCells.{
   unfold_place as unfold_place_of,
   want_cell as want_cell_of,
 };
-ghost use Rattle.matching_steps.specs.InSetting.{rules_in};
+ghost use Rattle.sym_matching.specs.RuleSteps.InSetting.{rules_in};
 
 use crate::cells::{place_of_segment, take_cell, take_unfolded};
 use crate::missing_cells::want_missing;
-use matching_steps::reading::Setting;
 use shape_data::Name;
 use shape_data::symbolic::Exp;
 use std::alloc::{AllocError, Global};
 use sym_canon::place_of_cell;
+use sym_matching::rule_steps::reading::Setting;
 use sym_matching::{Matching, Turned};
 
 /// A wanted cell, where no cell is at the expression: one out of a segment, or one that is missing.

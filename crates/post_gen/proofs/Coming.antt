@@ -1,8 +1,8 @@
 -- What a loop over things that come keeps.
 use Rattle.std.specs.Prelude.{◌≡◌, ℕ, List}
 use Rattle.std.proofs.Common.{drop}
-use Rattle.annotation_laws.specs.Listing.{Course, Listing, all_come}
-use Rattle.certificate_laws.specs.Coming.{Task}
+use Rattle.solve_laws.specs.Annotation.Listing.{Course, Listing, all_come}
+use Rattle.solve_laws.specs.Certificates.Coming.{Task}
 use Rattle.post_gen.specs.Conditions.{IsListing}
 
 -- what comes of all is what comes of those from the place on, to what is listed by now, which is well formed

@@ -11,11 +11,11 @@ use Rattle.shape_data.specs.declared.program.StructDef.{StructDef}
 use Rattle.shape_data.specs.declared.symbolic.Spec.{Spec}
 use Rattle.shape_data.specs.WellFormed.{FitCalls, IsAnswer, IsFlow, IsKey, IsSpec, IsSummary, IsSymHeap, storable}
 use Rattle.std.proofs.lemmas.Option.{get_or_from_slice_get, slice_get_within}
-use Rattle.shape_laws.proofs.StepsStacks.{All-at}
+use Rattle.sym_parts.proofs.ShapesLemmas.StepsStacks.{All-at}
 use Rattle.exec_laws.specs.declared.parts.Table.{Table}
-use Rattle.certificate_laws.specs.Conditions.{IsTask}
-use Rattle.certificate_laws.specs.Limits.{analysable}
-use Rattle.certificate_laws.proofs.LimitLaws as limits
+use Rattle.solve_laws.specs.Certificates.Conditions.{IsTask}
+use Rattle.solve_laws.specs.Certificates.Limits.{analysable}
+use Rattle.solve_laws.proofs.CertificatesLemmas.LimitLaws as limits
 
 module _ (key : Key) (is : IsKey storable key) (flow : Flow) (first : slice_get key.procs 0 ≡ Some flow) where
   abbrev table : Table

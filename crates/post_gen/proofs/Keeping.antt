@@ -4,8 +4,8 @@ use Rattle.std.proofs.Common.{refl, drop}
 use Rattle.std.proofs.lemmas.List.Elements.{All-cons, All-drop, All-head, All-nil, All-same, All-tail}
 use Rattle.shape_data.specs.declared.symbolic.Post.{Post}
 use Rattle.subtraction.specs.Conditions.{IsPostWithinSizes}
-use Rattle.certificate_laws.specs.Coverings.{is_post_covered}
-use Rattle.annotation_laws.specs.Annotation.{keep_unless, kept}
+use Rattle.solve_laws.specs.Certificates.Coverings.{is_post_covered}
+use Rattle.solve_laws.specs.Annotation.Annotation.{keep_unless, kept}
 
 one-within : (post : Post) (later : List Post) → IsPostWithinSizes post → All IsPostWithinSizes later
     → All IsPostWithinSizes (keep_unless post later)

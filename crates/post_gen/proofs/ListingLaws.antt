@@ -7,11 +7,11 @@ use Rattle.shape_data.specs.declared.program.Node.{Node}
 use Rattle.shape_data.specs.declared.symbolic.Post.{Post}
 use Rattle.shape_data.specs.declared.symbolic.SymState.{SymState}
 use Rattle.subtraction.specs.Conditions.{IsPostWithinSizes, IsStateWithinSizes}
-use Rattle.annotation_laws.specs.Annotation.{empty_listing}
-use Rattle.annotation_laws.specs.Listing.{Listing, listed_at, with_exit, with_state}
-use Rattle.certificate_laws.specs.Coming.{Task}
-use Rattle.certificate_laws.specs.Conditions.{IsGivenPost, IsGivenState, IsTask}
-use Rattle.certificate_laws.proofs.GivenLaws.{post-wide, state-wide}
+use Rattle.solve_laws.specs.Annotation.Annotation.{empty_listing}
+use Rattle.solve_laws.specs.Annotation.Listing.{Listing, listed_at, with_exit, with_state}
+use Rattle.solve_laws.specs.Certificates.Coming.{Task}
+use Rattle.solve_laws.specs.Certificates.Conditions.{IsGivenPost, IsGivenState, IsTask}
+use Rattle.solve_laws.proofs.CertificatesLemmas.GivenLaws.{post-wide, state-wide}
 use Rattle.certificate_steps.proofs.SizeLaws.{post-sizes, state-sizes}
 use Rattle.post_gen.specs.Conditions.{IsListing, IsWaiting}
 

@@ -12,10 +12,10 @@ use Rattle.shape_data.specs.declared.symbolic.Post.{Post}
 use Rattle.shape_data.specs.declared.symbolic.SymHeap.{SymHeap}
 use Rattle.shape_data.specs.declared.symbolic.SymState.{SymState}
 use Rattle.shape_data.specs.WellFormed.{IsAtom, IsExp, IsFact, IsSymHeap, widest}
-use Rattle.annotation_laws.specs.Listing.{parts_of}
-use Rattle.certificate_laws.specs.Coming.{Task}
-use Rattle.certificate_laws.specs.Conditions.{IsGivenPost, IsGivenState, IsTaskPost, IsTaskState}
-use Rattle.certificate_laws.specs.Limits.{analysable}
+use Rattle.solve_laws.specs.Annotation.Listing.{parts_of}
+use Rattle.solve_laws.specs.Certificates.Coming.{Task}
+use Rattle.solve_laws.specs.Certificates.Conditions.{IsGivenPost, IsGivenState, IsTaskPost, IsTaskState}
+use Rattle.solve_laws.specs.Certificates.Limits.{analysable}
 
 module _ (params : ℕ) where
   exp : (one : Exp) → IsExp widest params one → IsExp analysable params one

@@ -4,10 +4,10 @@ use Rattle.std.specs.declared.option.Option.{Option}
 use Rattle.std.proofs.Common.{sym, ap, ◌∙◌}
 use Rattle.std.proofs.lemmas.Result.{IfOk-weaker}
 use Rattle.shape_data.specs.declared.symbolic.SymState.{SymState}
-use Rattle.annotation_laws.specs.declared.parts.Annotated.{Annotated}
-use Rattle.annotation_laws.specs.Annotation.{end_of, turn_of, turns, with_turn}
-use Rattle.annotation_laws.specs.Listing.{Course, Ends, Goes, Listing}
-use Rattle.certificate_laws.specs.Coming.{Task}
+use Rattle.solve_laws.specs.declared.annotation.parts.Annotated.{Annotated}
+use Rattle.solve_laws.specs.Annotation.Annotation.{end_of, turn_of, turns, with_turn}
+use Rattle.solve_laws.specs.Annotation.Listing.{Course, Ends, Goes, Listing}
+use Rattle.solve_laws.specs.Certificates.Coming.{Task}
 use Rattle.post_gen.specs.declared.listing.Ended.{Ended}
 use Rattle.post_gen.specs.Conditions.{IsListing}
 use Rattle.post_gen.specs.InListing.{annotated_of}

@@ -1,9 +1,9 @@
 -- What is listed is well formed, with at most 96 parts in each heap.
 use Rattle.std.specs.Prelude.{◌≡◌, ℕ, ◌<◌, List, length, All}
 use Rattle.shape_data.specs.declared.symbolic.SymState.{SymState}
-use Rattle.annotation_laws.specs.Listing.{Listing}
-use Rattle.certificate_laws.specs.Coming.{Task}
-use Rattle.certificate_laws.specs.Conditions.{IsGivenPost, IsGivenState}
+use Rattle.solve_laws.specs.Annotation.Listing.{Listing}
+use Rattle.solve_laws.specs.Certificates.Coming.{Task}
+use Rattle.solve_laws.specs.Certificates.Conditions.{IsGivenPost, IsGivenState}
 
 -- states go on at nodes of the procedure
 abbrev pub AreWithin : Task → List (ℕ × SymState) → Type 0

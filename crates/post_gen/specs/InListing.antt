@@ -1,11 +1,11 @@
 -- What was listed, and how an annotation ends, as the code has them.
 use Rattle.std.specs.declared.option.Option.{Option}
 use Rattle.std.specs.declared.option.Option.TheVariants.{None, Some}
-use Rattle.annotation_laws.specs.declared.parts.Annotated.{Annotated}
-use Rattle.annotation_laws.specs.declared.parts.Annotated.TheVariants as annotated
-use Rattle.annotation_laws.specs.Annotation.{all_done}
-use Rattle.annotation_laws.specs.Listing as listing
-use Rattle.annotation_laws.specs.Listing.{Course, Ends, Goes}
+use Rattle.solve_laws.specs.declared.annotation.parts.Annotated.{Annotated}
+use Rattle.solve_laws.specs.declared.annotation.parts.Annotated.TheVariants as annotated
+use Rattle.solve_laws.specs.Annotation.Annotation.{all_done}
+use Rattle.solve_laws.specs.Annotation.Listing as listing
+use Rattle.solve_laws.specs.Annotation.Listing.{Course, Ends, Goes}
 use Rattle.post_gen.specs.declared.listing.Ended.{Ended}
 use Rattle.post_gen.specs.declared.listing.Ended.TheVariants as ended
 use Rattle.post_gen.specs.declared.listing.Listing.{Listing}

@@ -2,27 +2,27 @@
 ghost use Rattle.std.specs.Prelude.{◌≡◌, length, All, IfOk, OnOk};
 ghost use Rattle.shape_data.specs.WellFormed.{IsSymHeap};
 ghost use Rattle.subtraction.specs.Conditions.{IsPostWithinSizes};
-ghost use Rattle.annotation_laws.specs.Annotation.{
+ghost use Rattle.solve_laws.specs.Annotation.Annotation.{
   all_done as all_done_of,
   annotate as annotate_of,
   empty_listing as empty_listing_of,
   kept as kept_of,
   started as started_by,
 };
-ghost use Rattle.certificate_laws.specs.Conditions.{IsTask};
-ghost use Rattle.certificate_laws.specs.Limits.{analysable};
+ghost use Rattle.solve_laws.specs.Certificates.Conditions.{IsTask};
+ghost use Rattle.solve_laws.specs.Certificates.Limits.{analysable};
 ghost use Rattle.post_gen.specs.Conditions.{IsListing};
 ghost use Rattle.post_gen.specs.InListing.{annotated_by, annotated_of, course_of, listing_in};
 ghost use Rattle.certificate_steps.specs.InTask.{task_in};
 
 use crate::listing::{Ended, Listing, empty_listing, state_comes};
 use crate::turns::turns;
-use annotation_laws::Annotated;
 use certificate_steps::Task;
 use certificate_steps::coming::start_at_node;
 use certificate_steps::coverings::is_post_covered;
 use shape_data::symbolic::{Cert, Post, SymHeap};
 use shape_data::{Row, copy_of};
+use solve_laws::annotation::Annotated;
 use std::alloc::{AllocError, Global};
 
 /// The most turns.

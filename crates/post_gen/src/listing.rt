@@ -1,8 +1,8 @@
 //! How states and exits are listed: what comes is left out where a listed one covers it, and there is room for a limited number at each
 //! node, and of exits.
 ghost use Rattle.std.specs.Prelude.{◌≡◌, ◌<◌, ◌≤◌, [], length, ltb, map, IfOk, OnOk};
-ghost use Rattle.annotation_laws.specs.Annotation.{empty_listing as empty_listing_of};
-ghost use Rattle.annotation_laws.specs.Listing.{
+ghost use Rattle.solve_laws.specs.Annotation.Annotation.{empty_listing as empty_listing_of};
+ghost use Rattle.solve_laws.specs.Annotation.Listing.{
   MOST_PARTS as most_parts,
   exit_comes as exit_comes_of,
   parts_of,
@@ -10,7 +10,7 @@ ghost use Rattle.annotation_laws.specs.Listing.{
   with_exit,
   with_state,
 };
-ghost use Rattle.certificate_laws.specs.Conditions.{IsTask, IsTaskPost, IsTaskState};
+ghost use Rattle.solve_laws.specs.Certificates.Conditions.{IsTask, IsTaskPost, IsTaskState};
 ghost use Rattle.post_gen.specs.Conditions.{IsListing};
 ghost use Rattle.post_gen.specs.InListing.{course_of, listing_in};
 ghost use Rattle.certificate_steps.specs.InTask.{task_in};

@@ -1,14 +1,14 @@
 //! Turns: the first state of the queue is executed, and what comes of it is abstracted and comes to its node or to the exits.
 ghost use Rattle.std.specs.Prelude.{◌≡◌, ◌<◌, length, All, IfOk, OnOk};
-ghost use Rattle.annotation_laws.specs.Annotation.{
+ghost use Rattle.solve_laws.specs.Annotation.Annotation.{
   after_step as after_step_of,
   post_comes as post_comes_of,
   result_comes as result_comes_of,
   turn_of as turn_by,
   turns as turns_of,
 };
-ghost use Rattle.annotation_laws.specs.Listing.{all_come};
-ghost use Rattle.certificate_laws.specs.Conditions.{AreNexts, GoesOnWithin, IsGivenState, IsGivenStep, IsTask, IsTaskPost, IsTaskState};
+ghost use Rattle.solve_laws.specs.Annotation.Listing.{all_come};
+ghost use Rattle.solve_laws.specs.Certificates.Conditions.{AreNexts, GoesOnWithin, IsGivenState, IsGivenStep, IsTask, IsTaskPost, IsTaskState};
 ghost use Rattle.post_gen.specs.Conditions.{AreWithin, IsListing};
 ghost use Rattle.post_gen.specs.InListing.{annotated_of, course_of, listing_in};
 ghost use Rattle.certificate_steps.specs.InTask.{task_in};

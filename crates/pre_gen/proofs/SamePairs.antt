@@ -3,9 +3,9 @@ use Rattle.std.specs.Prelude.{◌≡◌, Decides}
 use Rattle.std.proofs.Common.{ap}
 use Rattle.std.proofs.lemmas.Bool.Decides.{Decides-and, Decides-like}
 use Rattle.sym_canon.specs.declared.parts.Pair.{Pair}
-use Rattle.certificate_laws.specs.Sameness.{same_heap, same_state}
-use Rattle.certificate_laws.proofs.SamenessLaws.{same_heap-Decides, same_state-Decides}
-use Rattle.candidate_laws.specs.Coming.{same_pair}
+use Rattle.solve_laws.specs.Certificates.Sameness.{same_heap, same_state}
+use Rattle.solve_laws.proofs.CertificatesLemmas.SamenessLaws.{same_heap-Decides, same_state-Decides}
+use Rattle.solve_laws.specs.Candidates.Coming.{same_pair}
 
 pub same_pair-Decides : (a b : Pair) → Decides (same_pair a b) (a ≡ b)
 same_pair-Decides a b =

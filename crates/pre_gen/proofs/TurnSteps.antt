@@ -5,13 +5,13 @@ use Rattle.std.proofs.lemmas.List.Elements.{All-tail}
 use Rattle.shape_data.specs.declared.answer.Fault.TheVariants as fault
 use Rattle.sym_canon.specs.declared.parts.Pair.{Pair}
 use Rattle.exec_laws.specs.declared.parts.Case.{Case}
-use Rattle.certificate_laws.specs.Coming.{Task}
-use Rattle.certificate_laws.specs.Gaps.{line_at}
-use Rattle.candidate_laws.specs.Candidates.{candidates, case_comes, cases_come, found_by, started, turn_of, turns, with_turn, without_turns}
-use Rattle.candidate_laws.specs.Candidates.{MOST_TURNS}
-use Rattle.candidate_laws.specs.Conditions.{IsSearch, IsWaiting}
-use Rattle.candidate_laws.specs.Searching.{Search, drops}
-use Rattle.candidate_laws.proofs.SearchFormed.{popped}
+use Rattle.solve_laws.specs.Certificates.Coming.{Task}
+use Rattle.solve_laws.specs.Certificates.Gaps.{line_at}
+use Rattle.solve_laws.specs.Candidates.Candidates.{candidates, case_comes, cases_come, found_by, started, turn_of, turns, with_turn, without_turns}
+use Rattle.solve_laws.specs.Candidates.Candidates.{MOST_TURNS}
+use Rattle.solve_laws.specs.Candidates.Conditions.{IsSearch, IsWaiting}
+use Rattle.solve_laws.specs.Candidates.Searching.{Search, drops}
+use Rattle.solve_laws.proofs.CandidatesLemmas.SearchFormed.{popped}
 
 -- one case more
 pub one-more : (task : Task) (line : ℕ) (cases : List Case) (case : Case) (search : Search)

@@ -2,7 +2,7 @@
 use Rattle.std.specs.Prelude.{List, [], map}
 use Rattle.shape_data.specs.declared.program.Node.{Node}
 use Rattle.sym_canon.specs.declared.parts.Pair.{Pair}
-use Rattle.candidate_laws.specs.Searching as searching
+use Rattle.solve_laws.specs.Candidates.Searching as searching
 use Rattle.pre_gen.specs.declared.searching.Search.{Search}
 
 -- the definitions' search

@@ -1,19 +1,19 @@
 //! How pairs come to a node: abstracted at the head of a loop. And how the missing heap at an exit becomes a candidate. None is a
 //! contradiction, which is left out.
 ghost use Rattle.std.specs.Prelude.{◌≡◌, ◌<◌, ◌^◌, length, IfOk};
-ghost use Rattle.shape_laws.specs.Symbolic.{emp as emp_heap};
+ghost use Rattle.sym_parts.specs.Shapes.Symbolic.{emp as emp_heap};
 ghost use Rattle.abstraction_laws.specs.Pairs.{beside_nothing as beside_nothing_of};
 ghost use Rattle.abstraction_laws.specs.Rooms.{HaveFewFields};
-ghost use Rattle.certificate_laws.specs.Conditions.{IsTask};
+ghost use Rattle.solve_laws.specs.Certificates.Conditions.{IsTask};
 ghost use Rattle.certificate_steps.specs.InTask.{task_in};
-ghost use Rattle.candidate_laws.specs.Coming.{
+ghost use Rattle.solve_laws.specs.Candidates.Coming.{
   candidate_of as candidate_of_missing,
   in_form as in_form_of,
   pair_at_node as pair_at_node_of,
   start_pair as start_pair_of,
   start_pair_at_node as start_pair_at_node_of,
 };
-ghost use Rattle.candidate_laws.specs.Conditions.{IsPairWithinRoom};
+ghost use Rattle.solve_laws.specs.Candidates.Conditions.{IsPairWithinRoom};
 
 use certificate_steps::Task;
 use certificate_steps::coming::start_form;

@@ -1,6 +1,6 @@
 //! Preconditions that a procedure may have: pairs of a missing heap and a state are executed from the empty missing heap, first in
 //! first out, and the missing heap at each exit is a candidate (bi-abduction: Calcagno, Distefano, O'Hearn and Yang, JACM 58(6), 2011).
-//! It stands on the definitions of `candidate_laws`, and on the code of execution, of abstraction and of the forms. A candidate is not
+//! It stands on the definitions of `solve_laws::candidates`, and on the code of execution, of abstraction and of the forms. A candidate is not
 //! claimed to be safe: each is executed again, without abduction.
 #![tactic(auto)]
 
@@ -8,6 +8,6 @@ mod coming;
 mod searching;
 mod turning;
 
-pub use candidate_laws::laws::candidates_are_well_formed;
-pub use candidate_laws::{Dropped, Found};
+pub use solve_laws::candidates::laws::candidates_are_well_formed;
+pub use solve_laws::candidates::{Dropped, Found};
 pub use turning::candidates;

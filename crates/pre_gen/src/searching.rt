@@ -1,9 +1,9 @@
 //! Where a search stands: how pairs and candidates are listed, and how paths are dropped.
 ghost use Rattle.std.specs.Prelude.{◌≡◌, ◌<◌, length, leb, ltb, OnOk};
 ghost use Rattle.std.specs.List.{list_any};
-ghost use Rattle.certificate_laws.specs.Sameness.{same_heap};
-ghost use Rattle.candidate_laws.specs.Coming.{has_many_parts as has_many_parts_of, parts_of, same_pair};
-ghost use Rattle.candidate_laws.specs.Searching.{
+ghost use Rattle.solve_laws.specs.Certificates.Sameness.{same_heap};
+ghost use Rattle.solve_laws.specs.Candidates.Coming.{has_many_parts as has_many_parts_of, parts_of, same_pair};
+ghost use Rattle.solve_laws.specs.Candidates.Searching.{
   candidate_comes as candidate_comes_of,
   drops as drops_of,
   listed_at,
@@ -13,10 +13,10 @@ ghost use Rattle.candidate_laws.specs.Searching.{
 };
 ghost use Rattle.pre_gen.specs.InSearch.{search_in};
 
-use candidate_laws::Dropped;
 use shape_data::answer::Fault;
 use shape_data::symbolic::SymHeap;
 use shape_data::{Row, copy_of, is_same};
+use solve_laws::candidates::Dropped;
 use std::alloc::{AllocError, Global};
 use std::collections::VecDeque;
 use sym_canon::Pair;

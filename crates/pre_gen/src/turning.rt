@@ -1,8 +1,8 @@
 //! The turns of a search: the first pair of the queue is executed at its node, and what comes of it is listed.
 ghost use Rattle.std.specs.Prelude.{◌≡◌, length, All, IfOk, OnOk};
-ghost use Rattle.certificate_laws.specs.Conditions.{IsTask};
+ghost use Rattle.solve_laws.specs.Certificates.Conditions.{IsTask};
 ghost use Rattle.certificate_steps.specs.InTask.{task_in};
-ghost use Rattle.candidate_laws.specs.Candidates.{
+ghost use Rattle.solve_laws.specs.Candidates.Candidates.{
   candidates as candidates_of,
   case_comes as case_comes_of,
   cases_come as cases_come_of,
@@ -13,14 +13,13 @@ ghost use Rattle.candidate_laws.specs.Candidates.{
   turns as turns_of,
   without_turns as without_turns_of,
 };
-ghost use Rattle.candidate_laws.specs.Conditions.{IsGivenCase, IsSearch, IsTaskPair, MayCome, MayLeave};
-ghost use Rattle.candidate_laws.specs.Coming.{candidate_of as candidate_of_missing, pair_at_node as pair_at_node_of};
-ghost use Rattle.candidate_laws.specs.Searching.{candidate_comes as candidate_comes_of, pair_comes as pair_comes_of, unless_none};
+ghost use Rattle.solve_laws.specs.Candidates.Conditions.{IsGivenCase, IsSearch, IsTaskPair, MayCome, MayLeave};
+ghost use Rattle.solve_laws.specs.Candidates.Coming.{candidate_of as candidate_of_missing, pair_at_node as pair_at_node_of};
+ghost use Rattle.solve_laws.specs.Candidates.Searching.{candidate_comes as candidate_comes_of, pair_comes as pair_comes_of, unless_none};
 ghost use Rattle.pre_gen.specs.InSearch.{no_pairs_of, search_in};
 
 use crate::coming::{candidate_of, pair_at_node, start_pair_at_node};
 use crate::searching::{Search, candidate_comes, drops, pair_comes};
-use candidate_laws::Found;
 use certificate_steps::Task;
 use certificate_steps::coming::{line_at, normal_state};
 use exec_laws::Case;
@@ -28,6 +27,7 @@ use shape_data::Row;
 use shape_data::answer::Fault;
 use shape_data::program::Node;
 use shape_data::symbolic::SymHeap;
+use solve_laws::candidates::Found;
 use std::alloc::{AllocError, Global};
 use std::collections::VecDeque;
 use sym_canon::Pair;

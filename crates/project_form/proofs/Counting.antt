@@ -4,10 +4,10 @@ use Rattle.std.proofs.Common.{◌∙◌, arith}
 use Rattle.std.specs.List.{AllZip}
 use Rattle.std.proofs.lemmas.List.{length-map}
 use Rattle.std.proofs.lemmas.List.Sums.{sum_by-cons}
-use Rattle.c_tokens.specs.declared.token.Token.{Token}
-use Rattle.c_tokens.specs.Grammar.{Position, IsPiece, Reads, HasTokens}
-use Rattle.c_tokens.proofs.TokenLemmas.{token_lexeme}
-use Rattle.c_tokens.proofs.Texts.{lexeme_some}
+use Rattle.c_grammar.specs.declared.tokens.token.Token.{Token}
+use Rattle.c_grammar.specs.Tokens.Grammar.{Position, IsPiece, Reads, HasTokens}
+use Rattle.c_grammar.proofs.TokensLemmas.TokenLemmas.{token_lexeme}
+use Rattle.c_grammar.proofs.TokensLemmas.Texts.{lexeme_some}
 use Rattle.c_grammar.specs.Forms
 use Rattle.c_grammar.specs.Nesting.{deepest, item_nesting}
 use Rattle.c_grammar.specs.Spelling.{each, word, item, Spells}

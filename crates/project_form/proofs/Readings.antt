@@ -2,10 +2,10 @@
 use Rattle.std.proofs.Common.{◌≡◌, ℕ, ◌≤◌, Bool, true, false, List, [], ◌∷◌, Result, ◌⊎◌, inl, inr, refl, sym, ap, ap₂, ◌∙◌, subst}
 use Rattle.std.specs.Prelude.{◌↔◌}
 use Rattle.shape_data.specs.declared.program.Program.{Program}
-use Rattle.c_tokens.specs.declared.places.Refusal.{Refusal}
-use Rattle.c_tokens.specs.declared.token.Token.{Token}
-use Rattle.c_tokens.specs.Grammar.{HasTokens, Refuses}
-use Rattle.c_tokens.proofs.TextLaws.{one_reading, one_refusal, not_both, either, listed}
+use Rattle.c_grammar.specs.declared.tokens.places.Refusal.{Refusal}
+use Rattle.c_grammar.specs.declared.tokens.token.Token.{Token}
+use Rattle.c_grammar.specs.Tokens.Grammar.{HasTokens, Refuses}
+use Rattle.c_grammar.proofs.TokensLemmas.TextLaws.{one_reading, one_refusal, not_both, either, listed}
 use Rattle.c_grammar.specs.Nesting.{file_nesting}
 use Rattle.c_grammar.specs.Refusals.{MOST_LEVELS, RefusedAt}
 use Rattle.c_grammar.specs.Spelling.{Spells}

@@ -6,7 +6,7 @@ use Rattle.std.specs.Option.{option_map, option_or}
 use Rattle.std.specs.Prelude.{map, All, IfOk, IfErr, IfSome, is_some, ◌↔◌}
 use Rattle.std.proofs.lemmas.List.Elements.{All-nil, All-cons}
 use Rattle.shape_data.specs.declared.program.Program.{Program}
-use Rattle.c_tokens.specs.declared.places.Refusal.{Refusal}
+use Rattle.c_grammar.specs.declared.tokens.places.Refusal.{Refusal}
 use Rattle.c_tree.specs.declared.items.Unit.{Unit as UnitValue}
 use Rattle.c_tree.specs.Syntax.{unit_tree}
 use Rattle.c_front.specs.Units.{IsUnitOf}

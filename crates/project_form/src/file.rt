@@ -6,9 +6,9 @@ ghost use Rattle.c_tree.specs.Syntax.{unit_tree};
 ghost use Rattle.project_form.specs.Kept.{HasUnit, new_file, with_bytes, with_parse, without_parse};
 ghost use Rattle.project_form.specs.Parts.{IsTextFault};
 
+use c_grammar::tokens::{Refusal, TokenFault, tokens};
 use c_parse::parse;
 use c_parse_exprs::SyntaxFault;
-use c_tokens::{Refusal, TokenFault, tokens};
 use c_tree::Unit;
 use shape_data::Name;
 use std::alloc::Global;

@@ -7,7 +7,7 @@ ghost use Rattle.project_form.specs.Parts.{AreNoted, IsNoted, or_refused};
 
 use crate::fault::Refused;
 use crate::file::{File, TextFault};
-use c_tokens::Refusal;
+use c_grammar::tokens::Refusal;
 use shape_data::Name;
 use std::alloc::{AllocError, Global};
 

@@ -2,10 +2,10 @@
 use Rattle.std.proofs.Common.{◌≡◌, true, false, Option, List, [], ◌∷◌, length, refl, append_assoc}
 use Rattle.std.specs.Prelude.{◌==◌}
 use Rattle.std.specs.List.{flat_map}
-use Rattle.shape_types.specs.declared.answer.Reason.{Reason}
-use Rattle.shape_types.specs.declared.program.Proc.{Proc}
-use Rattle.shape_types.specs.declared.program.StructDef.{StructDef}
-use Rattle.shape_types.specs.declared.symbolic.Spec.{Spec}
+use Rattle.shape_data.specs.declared.answer.Reason.{Reason}
+use Rattle.shape_data.specs.declared.program.Proc.{Proc}
+use Rattle.shape_data.specs.declared.program.StructDef.{StructDef}
+use Rattle.shape_data.specs.declared.symbolic.Spec.{Spec}
 use Rattle.report_text.specs.Report.{spec_lines, summary_lines}
 use Rattle.std.proofs.lemmas.List.{append-nil}
 

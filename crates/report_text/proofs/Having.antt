@@ -4,7 +4,7 @@ use Rattle.std.specs.Prelude.{All}
 use Rattle.std.proofs.lemmas.Grind.{flat_map-append}
 use Rattle.std.proofs.lemmas.List.{append-nil, length-append, map-id}
 use Rattle.std.proofs.lemmas.List.Elements.{All-head, All-tail}
-use Rattle.shape_types.specs.declared.answer.ProcSummary.{ProcSummary}
+use Rattle.shape_data.specs.declared.answer.ProcSummary.{ProcSummary}
 use Rattle.std.specs.List.{flat_map}
 use Rattle.report_text.specs.Report.{spec_count}
 

@@ -1,9 +1,9 @@
 -- What the calls of the crate ask of a summary.
 use Rattle.std.specs.Prelude.{◌≡◌, ℕ, List, length, All}
-use Rattle.shape_types.specs.declared.answer.ProcSummary.{ProcSummary}
-use Rattle.shape_types.specs.declared.program.Flow.{Flow}
-use Rattle.shape_types.specs.declared.program.Proc.{Proc}
-use Rattle.shape_types.specs.declared.program.StructDef.{StructDef}
+use Rattle.shape_data.specs.declared.answer.ProcSummary.{ProcSummary}
+use Rattle.shape_data.specs.declared.program.Flow.{Flow}
+use Rattle.shape_data.specs.declared.program.Proc.{Proc}
+use Rattle.shape_data.specs.declared.program.StructDef.{StructDef}
 use Rattle.shape_data.specs.WellFormed.{HasReason, IsCountable, IsSummary, Limits, storable}
 use Rattle.sym_text.specs.Shape.{IsShapedSpec}
 

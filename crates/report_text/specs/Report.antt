@@ -2,22 +2,22 @@
 use Rattle.std.specs.Prelude.{ℕ, ◌+◌, ◌==◌, Bool, true, false, if◌then◌else◌, Option, Some, None, List, [], ◌∷◌, ◌++◌, length, codes}
 use Rattle.std.specs.List.{count_by, flat_map, list_any}
 use Rattle.std.specs.Fmt.{decimal}
-use Rattle.shape_types.specs.declared.answer.Budget.{Budget}
-use Rattle.shape_types.specs.declared.answer.Budget.TheVariants as budget
-use Rattle.shape_types.specs.declared.answer.Fault.{Fault}
-use Rattle.shape_types.specs.declared.answer.Fault.TheVariants as fault
-use Rattle.shape_types.specs.declared.answer.ProcSummary.{ProcSummary}
-use Rattle.shape_types.specs.declared.answer.Reason.{Reason}
-use Rattle.shape_types.specs.declared.answer.Reason.TheVariants as reason
-use Rattle.shape_types.specs.declared.program.Proc.{Proc}
-use Rattle.shape_types.specs.declared.program.StructDef.{StructDef}
-use Rattle.shape_types.specs.declared.program.Ty.{Ty}
-use Rattle.shape_types.specs.declared.program.Ty.TheVariants.{Int, Ptr, Void}
-use Rattle.shape_types.specs.declared.symbolic.Atom.{Atom}
-use Rattle.shape_types.specs.declared.symbolic.Atom.TheVariants.{Points, Seg, Junk}
-use Rattle.shape_types.specs.declared.symbolic.Post.{Post}
-use Rattle.shape_types.specs.declared.symbolic.Spec.{Spec}
-use Rattle.shape_types.specs.declared.symbolic.SymHeap.{SymHeap}
+use Rattle.shape_data.specs.declared.answer.Budget.{Budget}
+use Rattle.shape_data.specs.declared.answer.Budget.TheVariants as budget
+use Rattle.shape_data.specs.declared.answer.Fault.{Fault}
+use Rattle.shape_data.specs.declared.answer.Fault.TheVariants as fault
+use Rattle.shape_data.specs.declared.answer.ProcSummary.{ProcSummary}
+use Rattle.shape_data.specs.declared.answer.Reason.{Reason}
+use Rattle.shape_data.specs.declared.answer.Reason.TheVariants as reason
+use Rattle.shape_data.specs.declared.program.Proc.{Proc}
+use Rattle.shape_data.specs.declared.program.StructDef.{StructDef}
+use Rattle.shape_data.specs.declared.program.Ty.{Ty}
+use Rattle.shape_data.specs.declared.program.Ty.TheVariants.{Int, Ptr, Void}
+use Rattle.shape_data.specs.declared.symbolic.Atom.{Atom}
+use Rattle.shape_data.specs.declared.symbolic.Atom.TheVariants.{Points, Seg, Junk}
+use Rattle.shape_data.specs.declared.symbolic.Post.{Post}
+use Rattle.shape_data.specs.declared.symbolic.Spec.{Spec}
+use Rattle.shape_data.specs.declared.symbolic.SymHeap.{SymHeap}
 use Rattle.sym_text.specs.Text.{heap_text, post_text}
 
 -- a line is its bytes and a line feed

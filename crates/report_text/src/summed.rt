@@ -5,7 +5,7 @@ use shape_data::answer::ProcSummary;
 
 /// What has the summary of a procedure, whatever else it has.
 pub trait HasSummary {
-    ghost use Rattle.shape_types.specs.declared.answer.ProcSummary.{ProcSummary};
+    ghost use Rattle.shape_data.specs.declared.answer.ProcSummary.{ProcSummary};
 
     /// The summary that it has.
     ghost its: { Self → ProcSummary };

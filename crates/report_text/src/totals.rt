@@ -1,7 +1,7 @@
 //! The total line of a report, of summaries or of answers.
 ghost use Rattle.std.specs.Prelude.{◌≡◌, ◌*◌, ◌≤◌, ◌^◌, ◌++◌, length, map, All, IfOk, OnOk};
 ghost use Rattle.std.specs.List.{flat_map};
-ghost use Rattle.shape_types.specs.declared.answer.Answer.{Answer};
+ghost use Rattle.shape_data.specs.declared.answer.Answer.{Answer};
 ghost use Rattle.shape_data.specs.WellFormed.{IsCountable};
 ghost use Rattle.report_text.specs.Parts.{AreCountable};
 ghost use Rattle.report_text.specs.Report.{none_count, spec_count, total_line, total_text};

@@ -9,3 +9,4 @@ pub mod SaveLaws
 pub mod Reporting
 pub mod Working
 pub mod Shown
+pub mod PlainAnswersLemmas

@@ -16,8 +16,8 @@ use Rattle.loaded_answers.specs.Lookup.{Agrees, lookup}
 use Rattle.bottom_up.specs.BottomUp.{answers_in, known_by}
 use Rattle.bottom_up.specs.Placed.{answers_kept}
 use Rattle.settled_laws.specs.Laws.{AllAreAimed, CollectedAreKnown, CollectedAreMany, aimed_answers, aimed_known}
-use Rattle.plain_answers.specs.Solving.{AgreedAreLookedUp, solve}
-use Rattle.plain_answers.specs.Solving.{Solves}
+use Rattle.session_replies.specs.PlainAnswers.Solving.{AgreedAreLookedUp, solve}
+use Rattle.session_replies.specs.PlainAnswers.Solving.{Solves}
 use Rattle.worker_pool.specs.Entries.{AreEntries}
 use Rattle.session_replies.specs.Work.{count_reached}
 

@@ -13,7 +13,7 @@ use Rattle.shape_data.specs.declared.program.Flow.{Flow}
 use Rattle.shape_data.specs.declared.program.Proc.{Proc}
 use Rattle.shape_data.specs.declared.program.Program.{Program}
 use Rattle.shape_data.specs.WellFormed.{IsAnswer, IsKey, IsProgram}
-use Rattle.certificate_laws.specs.Limits.{analysable}
+use Rattle.solve_laws.specs.Certificates.Limits.{analysable}
 use Rattle.component_keys.specs.Keys.{Component, program_components}
 use Rattle.component_keys.proofs.Basics.{mapped_some, some_same}
 use Rattle.component_keys.proofs.Ordered.{some_passes}
@@ -24,7 +24,7 @@ use Rattle.summary_book.specs.Aims.{aimed, component_calls, component_with, has_
 use Rattle.summary_book.proofs.Lists.{position_found, position_missing}
 use Rattle.claim_core.specs.Views.{Solution}
 use Rattle.loaded_answers.specs.Lookup.{lookup}
-use Rattle.plain_answers.specs.Solving.{solve}
+use Rattle.session_replies.specs.PlainAnswers.Solving.{solve}
 use Rattle.bottom_up.specs.BottomUp.{answers_in, known_by, program_summaries, summary_named}
 use Rattle.bottom_up.specs.Placed.{summary_among}
 use Rattle.bottom_up.proofs.ListPlaces.{from_flat, in_flat, mapped_at, mapped_same, only_found}

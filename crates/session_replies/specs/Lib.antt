@@ -7,3 +7,4 @@ pub mod Saves
 pub mod Texts
 pub mod Work
 pub mod Solving
+pub mod PlainAnswers

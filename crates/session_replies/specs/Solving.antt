@@ -1,2 +1,2 @@
 -- What is said of solving to those who stand on this crate.
-pub use Rattle.plain_answers.specs.Solving.{IsStoredEntry, Solves, solve}
+pub use Rattle.session_replies.specs.PlainAnswers.Solving.{IsStoredEntry, Solves, solve}

@@ -11,11 +11,12 @@ ghost use Rattle.session_replies.specs.Parts.{IsFormed, answer_in, bytes_saved};
 ghost use Rattle.session_replies.specs.Saves.{Saves};
 ghost use Rattle.session_replies.specs.Texts.{program_total};
 ghost use Rattle.session_replies.specs.Work.{IsWorked, count_reached};
-ghost use Rattle.plain_answers.specs.Solving.{IsStoredEntry};
+ghost use Rattle.session_replies.specs.PlainAnswers.Solving.{IsStoredEntry};
 ghost use Rattle.summary_book.specs.declared.aims.Aim.TheVariants as aim;
 ghost use Rattle.project_form.specs.declared.fault.Refused.{Refused};
 ghost use Rattle.shape_data.specs.declared.program.Program.{Program};
 
+use crate::plain_answers::{SolveJob, StoredAnswers};
 use crate::project_read::Found;
 use crate::reply::Reply;
 use crate::texts::{
@@ -23,7 +24,6 @@ use crate::texts::{
 };
 use io_ports::Gate;
 use loaded_answers::LoadedAnswers;
-use plain_answers::{SolveJob, StoredAnswers};
 use project_form::laws::{limits_are_kept, one_answer};
 use project_form::{ProgramFault, Project, PutFault};
 use session_generator::generate;

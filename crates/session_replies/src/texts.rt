@@ -19,14 +19,14 @@ ghost use Rattle.session_replies.specs.Texts.{
   stored_program,
 };
 ghost use Rattle.session_replies.specs.Work.{count_reached};
-ghost use Rattle.plain_answers.specs.Solving.{IsStoredEntry};
+ghost use Rattle.session_replies.specs.PlainAnswers.Solving.{IsStoredEntry};
 ghost use Rattle.summary_book.specs.declared.aims.Aim.TheVariants as aim;
 
 use crate::known::{entries, store_of, summary};
+use crate::plain_answers::SolveJob;
 use crate::reply::Reply;
 use io_ports::{Gate, MOST_HELD};
 use loaded_answers::LoadedAnswers;
-use plain_answers::SolveJob;
 use project_form::Refused;
 use report_text::totals::push_total;
 use report_text::{block, count_none, push_decimal, push_report};

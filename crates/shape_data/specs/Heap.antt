@@ -6,8 +6,8 @@ use Rattle.std.specs.Ordering.{int_eq}
 use Rattle.std.specs.Str.{bytes_eq}
 use Rattle.std.specs.declared.option.Option.{Option}
 use Rattle.std.specs.declared.option.Option.TheVariants.{None, Some}
-use Rattle.shape_types.specs.declared.machine.Cell.{Cell}
-use Rattle.shape_types.specs.declared.program.StructDef.{StructDef}
+use Rattle.shape_data.specs.declared.machine.Cell.{Cell}
+use Rattle.shape_data.specs.declared.program.StructDef.{StructDef}
 
 -- the cell at an address
 abbrev pub cell_at : List Cell → ℤ → Option Cell

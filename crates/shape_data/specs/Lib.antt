@@ -6,3 +6,4 @@ pub mod Sizes
 pub mod Structures
 pub mod Valid
 pub mod WellFormed
+pub mod Exact

@@ -8,32 +8,32 @@ use Rattle.std.specs.Int.{int_wrap, w32}
 use Rattle.std.specs.Str.{bytes_eq}
 use Rattle.std.specs.declared.option.Option.{Option}
 use Rattle.std.specs.declared.option.Option.TheVariants.{None, Some}
-use Rattle.shape_types.specs.declared.answer.Fault.TheVariants as fault
-use Rattle.shape_types.specs.declared.machine.Cell.{Cell}
-use Rattle.shape_types.specs.declared.machine.Choice.{Choice}
-use Rattle.shape_types.specs.declared.machine.Choice.TheVariants as choice
-use Rattle.shape_types.specs.declared.machine.Config.{Config}
-use Rattle.shape_types.specs.declared.machine.Frame.{Frame}
-use Rattle.shape_types.specs.declared.machine.Outcome.{Outcome}
-use Rattle.shape_types.specs.declared.machine.Outcome.TheVariants as outcome
-use Rattle.shape_types.specs.declared.machine.Stepped.{Stepped}
-use Rattle.shape_types.specs.declared.machine.Stepped.TheVariants as stepped
-use Rattle.shape_types.specs.declared.program.ArithOp.{ArithOp}
-use Rattle.shape_types.specs.declared.program.ArithOp.TheVariants.{Add, Sub, Mul}
-use Rattle.shape_types.specs.declared.program.Cmd.{Cmd}
-use Rattle.shape_types.specs.declared.program.Cmd.TheVariants as cmd
-use Rattle.shape_types.specs.declared.program.Field.{Field}
-use Rattle.shape_types.specs.declared.program.Flow.{Flow}
-use Rattle.shape_types.specs.declared.program.Node.{Node}
-use Rattle.shape_types.specs.declared.program.Operand.{Operand}
-use Rattle.shape_types.specs.declared.program.Operand.TheVariants.{Slot, Num}
-use Rattle.shape_types.specs.declared.program.Proc.{Proc}
-use Rattle.shape_types.specs.declared.program.Program.{Program}
-use Rattle.shape_types.specs.declared.program.StructDef.{StructDef}
-use Rattle.shape_types.specs.declared.program.TestOp.{TestOp}
-use Rattle.shape_types.specs.declared.program.TestOp.TheVariants as test
-use Rattle.shape_types.specs.declared.program.Ty.{Ty}
-use Rattle.shape_types.specs.declared.program.Ty.TheVariants.{Int, Ptr, Void}
+use Rattle.shape_data.specs.declared.answer.Fault.TheVariants as fault
+use Rattle.shape_data.specs.declared.machine.Cell.{Cell}
+use Rattle.shape_data.specs.declared.machine.Choice.{Choice}
+use Rattle.shape_data.specs.declared.machine.Choice.TheVariants as choice
+use Rattle.shape_data.specs.declared.machine.Config.{Config}
+use Rattle.shape_data.specs.declared.machine.Frame.{Frame}
+use Rattle.shape_data.specs.declared.machine.Outcome.{Outcome}
+use Rattle.shape_data.specs.declared.machine.Outcome.TheVariants as outcome
+use Rattle.shape_data.specs.declared.machine.Stepped.{Stepped}
+use Rattle.shape_data.specs.declared.machine.Stepped.TheVariants as stepped
+use Rattle.shape_data.specs.declared.program.ArithOp.{ArithOp}
+use Rattle.shape_data.specs.declared.program.ArithOp.TheVariants.{Add, Sub, Mul}
+use Rattle.shape_data.specs.declared.program.Cmd.{Cmd}
+use Rattle.shape_data.specs.declared.program.Cmd.TheVariants as cmd
+use Rattle.shape_data.specs.declared.program.Field.{Field}
+use Rattle.shape_data.specs.declared.program.Flow.{Flow}
+use Rattle.shape_data.specs.declared.program.Node.{Node}
+use Rattle.shape_data.specs.declared.program.Operand.{Operand}
+use Rattle.shape_data.specs.declared.program.Operand.TheVariants.{Slot, Num}
+use Rattle.shape_data.specs.declared.program.Proc.{Proc}
+use Rattle.shape_data.specs.declared.program.Program.{Program}
+use Rattle.shape_data.specs.declared.program.StructDef.{StructDef}
+use Rattle.shape_data.specs.declared.program.TestOp.{TestOp}
+use Rattle.shape_data.specs.declared.program.TestOp.TheVariants as test
+use Rattle.shape_data.specs.declared.program.Ty.{Ty}
+use Rattle.shape_data.specs.declared.program.Ty.TheVariants.{Int, Ptr, Void}
 use Rattle.shape_data.specs.Heap.{cell_at, put, with_field, without, struct_named}
 
 -- what an operand stands for

@@ -1,16 +1,16 @@
 -- What symbolic heaps mean: which heaps meet them under which assignment of numbers to variables.
 use Rattle.std.specs.Prelude.{◌≡◌, ◌≢◌, ◌⊎◌, ℕ, ◌<◌, ℤ, pos, List, [], ◌∷◌, map, slice_index_or}
-use Rattle.shape_types.specs.declared.machine.Cell.{Cell}
-use Rattle.shape_types.specs.declared.program.StructDef.{StructDef}
-use Rattle.shape_types.specs.declared.symbolic.Atom.{Atom}
-use Rattle.shape_types.specs.declared.symbolic.Atom.TheVariants.{Points, Seg, Junk}
-use Rattle.shape_types.specs.declared.symbolic.Exp.{Exp}
-use Rattle.shape_types.specs.declared.symbolic.Exp.TheVariants.{Var, Const}
-use Rattle.shape_types.specs.declared.symbolic.Fact.{Fact}
-use Rattle.shape_types.specs.declared.symbolic.Fact.TheVariants.{Eq, Ne}
-use Rattle.shape_types.specs.declared.symbolic.Post.{Post}
-use Rattle.shape_types.specs.declared.symbolic.SymHeap.{SymHeap}
-use Rattle.shape_types.specs.declared.symbolic.SymState.{SymState}
+use Rattle.shape_data.specs.declared.machine.Cell.{Cell}
+use Rattle.shape_data.specs.declared.program.StructDef.{StructDef}
+use Rattle.shape_data.specs.declared.symbolic.Atom.{Atom}
+use Rattle.shape_data.specs.declared.symbolic.Atom.TheVariants.{Points, Seg, Junk}
+use Rattle.shape_data.specs.declared.symbolic.Exp.{Exp}
+use Rattle.shape_data.specs.declared.symbolic.Exp.TheVariants.{Var, Const}
+use Rattle.shape_data.specs.declared.symbolic.Fact.{Fact}
+use Rattle.shape_data.specs.declared.symbolic.Fact.TheVariants.{Eq, Ne}
+use Rattle.shape_data.specs.declared.symbolic.Post.{Post}
+use Rattle.shape_data.specs.declared.symbolic.SymHeap.{SymHeap}
+use Rattle.shape_data.specs.declared.symbolic.SymState.{SymState}
 use Rattle.shape_data.specs.Heap.{IsSum}
 
 -- the value of an expression under an assignment

@@ -1,11 +1,11 @@
 -- The sizes of the programs that are analysed, which the front end keeps: structures of at most sixteen fields; and procedures of at most
 -- 48 slots, which are 32 for parameters and locals together, and sixteen temporaries.
 use Rattle.std.specs.Prelude.{◌≤◌, length, All}
-use Rattle.shape_types.specs.declared.answer.Key.{Key}
-use Rattle.shape_types.specs.declared.program.Flow.{Flow}
-use Rattle.shape_types.specs.declared.program.Proc.{Proc}
-use Rattle.shape_types.specs.declared.program.Program.{Program}
-use Rattle.shape_types.specs.declared.program.StructDef.{StructDef}
+use Rattle.shape_data.specs.declared.answer.Key.{Key}
+use Rattle.shape_data.specs.declared.program.Flow.{Flow}
+use Rattle.shape_data.specs.declared.program.Proc.{Proc}
+use Rattle.shape_data.specs.declared.program.Program.{Program}
+use Rattle.shape_data.specs.declared.program.StructDef.{StructDef}
 
 -- a structure has few fields
 abbrev pub IsNarrow : StructDef → Type 0

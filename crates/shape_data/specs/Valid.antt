@@ -1,15 +1,15 @@
 -- Valid triples: when a spec is right of a procedure.
 use Rattle.std.specs.Prelude.{ℕ, ◌+◌, ℤ, List, [], ◌∷◌, slice_get}
 use Rattle.std.specs.Option.{IsSomeAnd}
-use Rattle.shape_types.specs.declared.machine.Cell.{Cell}
-use Rattle.shape_types.specs.declared.machine.Choice.{Choice}
-use Rattle.shape_types.specs.declared.machine.Outcome.{Outcome}
-use Rattle.shape_types.specs.declared.machine.Outcome.TheVariants as outcome
-use Rattle.shape_types.specs.declared.program.Proc.{Proc}
-use Rattle.shape_types.specs.declared.program.Program.{Program}
-use Rattle.shape_types.specs.declared.program.StructDef.{StructDef}
-use Rattle.shape_types.specs.declared.symbolic.Post.{Post}
-use Rattle.shape_types.specs.declared.symbolic.Spec.{Spec}
+use Rattle.shape_data.specs.declared.machine.Cell.{Cell}
+use Rattle.shape_data.specs.declared.machine.Choice.{Choice}
+use Rattle.shape_data.specs.declared.machine.Outcome.{Outcome}
+use Rattle.shape_data.specs.declared.machine.Outcome.TheVariants as outcome
+use Rattle.shape_data.specs.declared.program.Proc.{Proc}
+use Rattle.shape_data.specs.declared.program.Program.{Program}
+use Rattle.shape_data.specs.declared.program.StructDef.{StructDef}
+use Rattle.shape_data.specs.declared.symbolic.Post.{Post}
+use Rattle.shape_data.specs.declared.symbolic.Spec.{Spec}
 use Rattle.shape_data.specs.Heap.{IsSum}
 use Rattle.shape_data.specs.Machine.{run, start}
 use Rattle.shape_data.specs.Meaning.{Meets, MeetsOne}

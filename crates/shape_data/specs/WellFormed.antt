@@ -8,36 +8,36 @@ use Rattle.std.specs.Cmp.Lexicographic.{slice_cmp}
 use Rattle.std.specs.declared.cmp.Ordering.TheVariants.{Less}
 use Rattle.std.specs.declared.option.Option.{Option}
 use Rattle.std.specs.declared.option.Option.TheVariants.{None, Some}
-use Rattle.shape_types.specs.declared.answer.Answer.{Answer}
-use Rattle.shape_types.specs.declared.answer.Callee.{Callee}
-use Rattle.shape_types.specs.declared.answer.Key.{Key}
-use Rattle.shape_types.specs.declared.answer.ProcSummary.{ProcSummary}
-use Rattle.shape_types.specs.declared.machine.Config.{Config}
-use Rattle.shape_types.specs.declared.machine.Frame.{Frame}
-use Rattle.shape_types.specs.declared.program.Cmd.{Cmd}
-use Rattle.shape_types.specs.declared.program.Cmd.TheVariants as cmd
-use Rattle.shape_types.specs.declared.program.Field.{Field}
-use Rattle.shape_types.specs.declared.program.Flow.{Flow}
-use Rattle.shape_types.specs.declared.program.HeadMark.{HeadMark}
-use Rattle.shape_types.specs.declared.program.Node.{Node}
-use Rattle.shape_types.specs.declared.program.Operand.{Operand}
-use Rattle.shape_types.specs.declared.program.Operand.TheVariants.{Slot, Num}
-use Rattle.shape_types.specs.declared.program.Proc.{Proc}
-use Rattle.shape_types.specs.declared.program.Program.{Program}
-use Rattle.shape_types.specs.declared.program.StructDef.{StructDef}
-use Rattle.shape_types.specs.declared.program.Ty.{Ty}
-use Rattle.shape_types.specs.declared.program.Ty.TheVariants.{Int, Ptr, Void}
-use Rattle.shape_types.specs.declared.symbolic.Atom.{Atom}
-use Rattle.shape_types.specs.declared.symbolic.Atom.TheVariants.{Points, Seg, Junk}
-use Rattle.shape_types.specs.declared.symbolic.Cert.{Cert}
-use Rattle.shape_types.specs.declared.symbolic.Exp.{Exp}
-use Rattle.shape_types.specs.declared.symbolic.Exp.TheVariants.{Var, Const}
-use Rattle.shape_types.specs.declared.symbolic.Fact.{Fact}
-use Rattle.shape_types.specs.declared.symbolic.Fact.TheVariants.{Eq, Ne}
-use Rattle.shape_types.specs.declared.symbolic.Post.{Post}
-use Rattle.shape_types.specs.declared.symbolic.Spec.{Spec}
-use Rattle.shape_types.specs.declared.symbolic.SymHeap.{SymHeap}
-use Rattle.shape_types.specs.declared.symbolic.SymState.{SymState}
+use Rattle.shape_data.specs.declared.answer.Answer.{Answer}
+use Rattle.shape_data.specs.declared.answer.Callee.{Callee}
+use Rattle.shape_data.specs.declared.answer.Key.{Key}
+use Rattle.shape_data.specs.declared.answer.ProcSummary.{ProcSummary}
+use Rattle.shape_data.specs.declared.machine.Config.{Config}
+use Rattle.shape_data.specs.declared.machine.Frame.{Frame}
+use Rattle.shape_data.specs.declared.program.Cmd.{Cmd}
+use Rattle.shape_data.specs.declared.program.Cmd.TheVariants as cmd
+use Rattle.shape_data.specs.declared.program.Field.{Field}
+use Rattle.shape_data.specs.declared.program.Flow.{Flow}
+use Rattle.shape_data.specs.declared.program.HeadMark.{HeadMark}
+use Rattle.shape_data.specs.declared.program.Node.{Node}
+use Rattle.shape_data.specs.declared.program.Operand.{Operand}
+use Rattle.shape_data.specs.declared.program.Operand.TheVariants.{Slot, Num}
+use Rattle.shape_data.specs.declared.program.Proc.{Proc}
+use Rattle.shape_data.specs.declared.program.Program.{Program}
+use Rattle.shape_data.specs.declared.program.StructDef.{StructDef}
+use Rattle.shape_data.specs.declared.program.Ty.{Ty}
+use Rattle.shape_data.specs.declared.program.Ty.TheVariants.{Int, Ptr, Void}
+use Rattle.shape_data.specs.declared.symbolic.Atom.{Atom}
+use Rattle.shape_data.specs.declared.symbolic.Atom.TheVariants.{Points, Seg, Junk}
+use Rattle.shape_data.specs.declared.symbolic.Cert.{Cert}
+use Rattle.shape_data.specs.declared.symbolic.Exp.{Exp}
+use Rattle.shape_data.specs.declared.symbolic.Exp.TheVariants.{Var, Const}
+use Rattle.shape_data.specs.declared.symbolic.Fact.{Fact}
+use Rattle.shape_data.specs.declared.symbolic.Fact.TheVariants.{Eq, Ne}
+use Rattle.shape_data.specs.declared.symbolic.Post.{Post}
+use Rattle.shape_data.specs.declared.symbolic.Spec.{Spec}
+use Rattle.shape_data.specs.declared.symbolic.SymHeap.{SymHeap}
+use Rattle.shape_data.specs.declared.symbolic.SymState.{SymState}
 use Rattle.shape_data.specs.Heap.{struct_named, IsHeap}
 use Rattle.shape_data.specs.Names.{IsCName, HaveDifferentNames}
 

@@ -20,9 +20,9 @@ ghost use Rattle.shape_data.specs.WellFormed.{
   FitCalls,
 };
 
+use crate::name::Name;
 use crate::names::{Callable, have_different_names, is_c_name};
-use shape_types::name::Name;
-use shape_types::program::{Cmd, Flow, HeadMark, Node, Operand, StructDef, Ty};
+use crate::program::{Cmd, Flow, HeadMark, Node, Operand, StructDef, Ty};
 
 /// The most parameters of a procedure, fields of a structure, and slots of a procedure.
 const MOST_SLOTS: usize = 32_768;

@@ -18,12 +18,10 @@ ghost use Rattle.shape_data.specs.WellFormed.{
 };
 
 use crate::flows::{is_countable, is_field, struct_of};
-use shape_types::name::Name;
-use shape_types::program::{Flow, StructDef};
-use shape_types::row::Row;
-use shape_types::symbolic::{
-    Atom, Cert, Exp, FIRST_EXISTENTIAL, Fact, Post, Spec, SymHeap, SymState,
-};
+use crate::name::Name;
+use crate::program::{Flow, StructDef};
+use crate::row::Row;
+use crate::symbolic::{Atom, Cert, Exp, FIRST_EXISTENTIAL, Fact, Post, Spec, SymHeap, SymState};
 
 /// The greatest n of `$n` and of `?n`.
 const MOST_NUMBERED: u32 = 32_768;

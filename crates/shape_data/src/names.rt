@@ -4,9 +4,9 @@ ghost use Rattle.std.specs.Prelude.{◌≡◌, ◌≢◌, ◌↔◌, All, IsTrue
 ghost use Rattle.std.specs.List.{list_all};
 ghost use Rattle.shape_data.specs.Names.{is_name_start, is_name_byte, IsCName, HaveDifferentNames};
 
-use shape_types::answer::Callee;
-use shape_types::name::Name;
-use shape_types::program::{Field, Flow, Proc, StructDef};
+use crate::answer::Callee;
+use crate::name::Name;
+use crate::program::{Field, Flow, Proc, StructDef};
 
 /// What has a name.
 pub trait Named {

@@ -20,11 +20,11 @@ ghost use Rattle.shape_data.specs.WellFormed.{
   IsStorableAnswer,
 };
 
+use crate::answer::{Answer, Callee, Key, ProcSummary};
 use crate::flows::{are_params, are_structs, fit_calls, is_countable, is_flow};
 use crate::heaps::{MOST_SPECS, are_specs, is_cert};
 use crate::names::{Callable, have_different_names, is_c_name, is_unused};
-use shape_types::answer::{Answer, Callee, Key, ProcSummary};
-use shape_types::program::{Flow, Proc, Program, StructDef};
+use crate::program::{Flow, Proc, Program, StructDef};
 use std::cmp::Ordering;
 
 fn has_lines(proc: &Proc) -> bool

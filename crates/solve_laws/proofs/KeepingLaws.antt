@@ -14,16 +14,16 @@ use Rattle.shape_data.specs.declared.symbolic.Post.{Post}
 use Rattle.shape_data.specs.declared.symbolic.Spec.{Spec}
 use Rattle.shape_data.specs.declared.symbolic.SymHeap.{SymHeap}
 use Rattle.exec_laws.specs.declared.parts.Table.{Table}
-use Rattle.certificate_laws.specs.declared.parts.SpecGap.{SpecGap}
-use Rattle.certificate_laws.specs.Coming.{Task}
-use Rattle.certificate_laws.specs.Gaps.{spec_gap}
-use Rattle.annotation_laws.specs.declared.parts.Annotated.{Annotated}
-use Rattle.annotation_laws.specs.declared.parts.Annotated.TheVariants.{Done, Fail, Spent}
-use Rattle.annotation_laws.specs.Annotation.{annotate}
-use Rattle.annotation_laws.specs.Laws.{spec_of}
-use Rattle.candidate_laws.specs.Candidates.{candidates}
-use Rattle.candidate_laws.specs.Laws.{CandidatesAreFew}
-use Rattle.candidate_laws.specs.Searching.{MOST_CANDIDATES}
+use Rattle.solve_laws.specs.declared.certificates.parts.SpecGap.{SpecGap}
+use Rattle.solve_laws.specs.Certificates.Coming.{Task}
+use Rattle.solve_laws.specs.Certificates.Gaps.{spec_gap}
+use Rattle.solve_laws.specs.declared.annotation.parts.Annotated.{Annotated}
+use Rattle.solve_laws.specs.declared.annotation.parts.Annotated.TheVariants.{Done, Fail, Spent}
+use Rattle.solve_laws.specs.Annotation.Annotation.{annotate}
+use Rattle.solve_laws.specs.Annotation.Laws.{spec_of}
+use Rattle.solve_laws.specs.Candidates.Candidates.{candidates}
+use Rattle.solve_laws.specs.Candidates.Laws.{CandidatesAreFew}
+use Rattle.solve_laws.specs.Candidates.Searching.{MOST_CANDIDATES}
 use Rattle.solve_laws.specs.declared.parts.Attempt.{Attempt}
 use Rattle.solve_laws.specs.declared.parts.Trial.{Trial}
 use Rattle.solve_laws.specs.declared.parts.Trial.TheVariants.{Fell, Stands}

@@ -4,3 +4,7 @@ pub mod PassLaws
 pub mod SolvedLaws
 pub mod TaskLaws
 pub mod TrialLaws
+pub mod CertificatesLemmas
+pub mod AnnotationLemmas
+pub mod CandidatesLemmas
+pub mod LimitsLemmas

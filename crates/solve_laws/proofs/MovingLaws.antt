@@ -23,7 +23,7 @@ use Rattle.shape_data.specs.declared.symbolic.Spec.{Spec}
 use Rattle.shape_data.specs.declared.symbolic.SymState.{SymState}
 use Rattle.sym_canon.specs.declared.parts.Pair.{Pair}
 use Rattle.sym_canon.specs.Placing.{is_cell_at, is_segment_from}
-use Rattle.sym_laws.specs.Expressions.{same_exp}
+use Rattle.sym_parts.specs.Laws.Expressions.{same_exp}
 use Rattle.sound_laws.specs.Certificates.{states_at}
 use Rattle.exec_laws.specs.declared.parts.Case.{Case}
 use Rattle.exec_laws.specs.declared.parts.Case.TheVariants.{On}
@@ -38,9 +38,9 @@ use Rattle.exec_laws.specs.Execution.{answer_to, cases_at, formed_case, formed_c
 use Rattle.exec_laws.specs.Exposing.{at_segment, expose, expose_within}
 use Rattle.exec_laws.specs.Pairs.{Setting, atoms_of, in_slot, unless_left_out, where_true}
 use Rattle.exec_laws.specs.Values.{operand}
-use Rattle.certificate_laws.specs.Coming.{Task, at_exit, at_node, normal_state}
-use Rattle.certificate_laws.specs.Coverings.{IsCovered, IsPostCovered}
-use Rattle.certificate_laws.specs.Inductive.{DoesNotFail, IsInductiveCert, OfExecutions, OfExits, OfNexts, execution}
+use Rattle.solve_laws.specs.Certificates.Coming.{Task, at_exit, at_node, normal_state}
+use Rattle.solve_laws.specs.Certificates.Coverings.{IsCovered, IsPostCovered}
+use Rattle.solve_laws.specs.Certificates.Inductive.{DoesNotFail, IsInductiveCert, OfExecutions, OfExits, OfNexts, execution}
 use Rattle.solve_laws.specs.Tables.{own_with}
 
 -- ---- names

@@ -14,16 +14,16 @@ use Rattle.shape_data.specs.declared.symbolic.SymHeap.{SymHeap}
 use Rattle.shape_data.specs.WellFormed.{HasReason, IsAnswer, IsCert, IsKey, IsSpec, IsSummary, IsSymHeap, widest}
 use Rattle.sound_laws.specs.Answers.{own_callees}
 use Rattle.exec_laws.specs.declared.parts.Table.{Table}
-use Rattle.certificate_laws.specs.Coming.{Task}
-use Rattle.certificate_laws.specs.Conditions.{IsTask}
-use Rattle.certificate_laws.specs.Inductive.{Inductive, IsInductiveCert, IsInductiveSummary, task_of}
-use Rattle.certificate_laws.specs.Limits.{analysable}
-use Rattle.certificate_laws.proofs.LimitLaws as limits
-use Rattle.annotation_laws.specs.Laws.{DoneIsInductive, DoneIsSmall, DoneIsWellFormed, IsSmallCert, spec_of}
-use Rattle.candidate_laws.specs.declared.parts.Found.{Found}
-use Rattle.candidate_laws.specs.Candidates.{candidates}
-use Rattle.candidate_laws.specs.Laws.{CandidatesAreFew, CandidatesAreWellFormed}
-use Rattle.candidate_laws.specs.Searching.{MOST_CANDIDATES}
+use Rattle.solve_laws.specs.Certificates.Coming.{Task}
+use Rattle.solve_laws.specs.Certificates.Conditions.{IsTask}
+use Rattle.solve_laws.specs.Certificates.Inductive.{Inductive, IsInductiveCert, IsInductiveSummary, task_of}
+use Rattle.solve_laws.specs.Certificates.Limits.{analysable}
+use Rattle.solve_laws.proofs.CertificatesLemmas.LimitLaws as limits
+use Rattle.solve_laws.specs.Annotation.Laws.{DoneIsInductive, DoneIsSmall, DoneIsWellFormed, IsSmallCert, spec_of}
+use Rattle.solve_laws.specs.declared.candidates.parts.Found.{Found}
+use Rattle.solve_laws.specs.Candidates.Candidates.{candidates}
+use Rattle.solve_laws.specs.Candidates.Laws.{CandidatesAreFew, CandidatesAreWellFormed}
+use Rattle.solve_laws.specs.Candidates.Searching.{MOST_CANDIDATES}
 use Rattle.solve_laws.specs.declared.parts.Attempt.{Attempt}
 use Rattle.solve_laws.specs.declared.parts.Trial.{Trial}
 use Rattle.solve_laws.specs.declared.parts.Trial.TheVariants.{Fell, Stands}

@@ -9,9 +9,9 @@ use Rattle.shape_data.specs.declared.program.Flow.{Flow}
 use Rattle.shape_data.specs.declared.program.StructDef.{StructDef}
 use Rattle.shape_data.specs.declared.symbolic.Spec.{Spec}
 use Rattle.shape_data.specs.WellFormed.{FitCalls, IsCallee, IsFlow, IsKey, IsSpec}
-use Rattle.certificate_laws.specs.Conditions.{IsTask}
-use Rattle.certificate_laws.specs.Limits.{analysable}
-use Rattle.certificate_laws.proofs.SoundnessLaws.{fits-both}
+use Rattle.solve_laws.specs.Certificates.Conditions.{IsTask}
+use Rattle.solve_laws.specs.Certificates.Limits.{analysable}
+use Rattle.solve_laws.proofs.CertificatesLemmas.SoundnessLaws.{fits-both}
 use Rattle.solve_laws.specs.Standing.{AreOwnSpecs, AreTasks}
 use Rattle.solve_laws.specs.Tables.{own_with, table_with, task_under, with_specs}
 

@@ -9,13 +9,13 @@ use Rattle.shape_data.specs.declared.program.Flow.{Flow}
 use Rattle.shape_data.specs.declared.symbolic.Cert.{Cert}
 use Rattle.shape_data.specs.declared.symbolic.Spec.{Spec}
 use Rattle.shape_data.specs.declared.symbolic.SymHeap.{SymHeap}
-use Rattle.certificate_laws.specs.Coming.{Task}
-use Rattle.annotation_laws.specs.declared.parts.Annotated.{Annotated}
-use Rattle.annotation_laws.specs.declared.parts.Annotated.TheVariants.{Done, Fail, Spent}
-use Rattle.annotation_laws.specs.Annotation.{annotate}
-use Rattle.candidate_laws.specs.declared.parts.Dropped.{Dropped}
-use Rattle.candidate_laws.specs.declared.parts.Found.{Found}
-use Rattle.candidate_laws.specs.Candidates.{candidates}
+use Rattle.solve_laws.specs.Certificates.Coming.{Task}
+use Rattle.solve_laws.specs.declared.annotation.parts.Annotated.{Annotated}
+use Rattle.solve_laws.specs.declared.annotation.parts.Annotated.TheVariants.{Done, Fail, Spent}
+use Rattle.solve_laws.specs.Annotation.Annotation.{annotate}
+use Rattle.solve_laws.specs.declared.candidates.parts.Dropped.{Dropped}
+use Rattle.solve_laws.specs.declared.candidates.parts.Found.{Found}
+use Rattle.solve_laws.specs.Candidates.Candidates.{candidates}
 use Rattle.solve_laws.specs.declared.parts.Attempt.{Attempt}
 use Rattle.solve_laws.specs.declared.parts.Trial.{Trial}
 use Rattle.solve_laws.specs.declared.parts.Trial.TheVariants.{Fell, Stands}

@@ -11,10 +11,10 @@ use Rattle.shape_data.specs.declared.program.Ty.TheVariants.{Int, Ptr}
 use Rattle.shape_data.specs.declared.symbolic.Exp.TheVariants.{Var}
 use Rattle.shape_data.specs.declared.symbolic.Spec.{Spec}
 use Rattle.shape_data.specs.declared.symbolic.SymHeap.{SymHeap}
-use Rattle.shape_laws.specs.Examples.{node_name, on_line}
+use Rattle.sym_parts.specs.Shapes.Examples.{node_name, on_line}
 use Rattle.exec_laws.specs.Examples.{post, spec}
-use Rattle.certificate_laws.specs.Examples.{whole_list}
-use Rattle.candidate_laws.specs.Examples.{last_node, null_heap}
+use Rattle.solve_laws.specs.Certificates.Examples.{whole_list}
+use Rattle.solve_laws.specs.Candidates.Examples.{last_node, null_heap}
 
 -- the answer for one procedure without a spec, for this reason
 abbrev pub answer_without : Flow → Reason → Answer

@@ -4,10 +4,10 @@ use Rattle.shape_data.specs.declared.answer.Key.{Key}
 use Rattle.shape_data.specs.declared.answer.ProcSummary.{ProcSummary}
 use Rattle.shape_data.specs.declared.symbolic.Spec.{Spec}
 use Rattle.shape_data.specs.WellFormed.{HasReason, IsAnswer, IsKey}
-use Rattle.certificate_laws.specs.Inductive.{Inductive}
-use Rattle.certificate_laws.specs.Limits.{analysable}
-use Rattle.annotation_laws.specs.Laws.{IsSmallCert}
-use Rattle.candidate_laws.specs.Searching.{MOST_CANDIDATES}
+use Rattle.solve_laws.specs.Certificates.Inductive.{Inductive}
+use Rattle.solve_laws.specs.Certificates.Limits.{analysable}
+use Rattle.solve_laws.specs.Annotation.Laws.{IsSmallCert}
+use Rattle.solve_laws.specs.Candidates.Searching.{MOST_CANDIDATES}
 use Rattle.solve_laws.specs.declared.parts.Attempt.{Attempt}
 use Rattle.solve_laws.specs.Attempts.{specs_of}
 use Rattle.solve_laws.specs.Solving.{attempts_under, no_specs, pass, solve, strictly}

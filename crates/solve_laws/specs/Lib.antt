@@ -4,3 +4,7 @@ pub mod Laws
 pub mod Solving
 pub mod Standing
 pub mod Tables
+pub mod Certificates
+pub mod Annotation
+pub mod Candidates
+pub mod Limits

@@ -8,9 +8,9 @@ use Rattle.shape_data.specs.declared.symbolic.Cert.{Cert}
 use Rattle.shape_data.specs.declared.symbolic.Spec.{Spec}
 use Rattle.shape_data.specs.WellFormed.{IsCert, IsSpec}
 use Rattle.exec_laws.specs.declared.parts.Table.{Table}
-use Rattle.certificate_laws.specs.Conditions.{IsTask}
-use Rattle.certificate_laws.specs.Limits.{analysable}
-use Rattle.candidate_laws.specs.Searching.{MOST_CANDIDATES}
+use Rattle.solve_laws.specs.Certificates.Conditions.{IsTask}
+use Rattle.solve_laws.specs.Certificates.Limits.{analysable}
+use Rattle.solve_laws.specs.Candidates.Searching.{MOST_CANDIDATES}
 use Rattle.solve_laws.specs.declared.parts.Attempt.{Attempt}
 use Rattle.solve_laws.specs.declared.parts.Trial.{Trial}
 use Rattle.solve_laws.specs.declared.parts.Trial.TheVariants.{Fell, Stands}

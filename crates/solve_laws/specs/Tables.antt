@@ -6,8 +6,8 @@ use Rattle.shape_data.specs.declared.answer.Key.{Key}
 use Rattle.shape_data.specs.declared.program.Flow.{Flow}
 use Rattle.shape_data.specs.declared.symbolic.Spec.{Spec}
 use Rattle.exec_laws.specs.declared.parts.Table.{Table}
-use Rattle.certificate_laws.specs.Coming.{Task}
-use Rattle.certificate_laws.specs.Sameness.{same_heap, same_post}
+use Rattle.solve_laws.specs.Certificates.Coming.{Task}
+use Rattle.solve_laws.specs.Certificates.Sameness.{same_heap, same_post}
 
 -- a procedure with specs, as a callee
 abbrev pub with_specs : Flow → List Spec → Callee

@@ -10,8 +10,8 @@ ghost use Rattle.solve_laws.specs.Laws.{
   TasksAreWellFormed,
 };
 
-use annotation_laws::laws::{done_is_inductive, done_is_well_formed};
-use candidate_laws::laws::candidates_are_well_formed;
+use crate::annotation::laws::{done_is_inductive, done_is_well_formed};
+use crate::candidates::laws::candidates_are_well_formed;
 
 /// The answer of a well-formed key is inductive: each spec has a certificate that passes the check.
 pub fn solved_is_inductive()

@@ -1,5 +1,5 @@
 //! What was found for a procedure, and what became of it.
-use candidate_laws::Found;
+use crate::candidates::Found;
 use shape_data::Row;
 use shape_data::answer::Reason;
 use shape_data::symbolic::{Cert, Spec};

@@ -3,8 +3,8 @@ ghost use Rattle.shape_data.specs.WellFormed.{IsStorableKey};
 
 use crate::texts::{NODE, key_of};
 use crate::told::{NO_PATH, Told, tells};
+use comp_solve::solve;
 use shape_data::answer::{Answer, Fault, Key, Reason};
-use solve_job::solve;
 use std::alloc::Global;
 use std::test::Fail;
 

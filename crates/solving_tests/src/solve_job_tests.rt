@@ -2,8 +2,8 @@
 use crate::texts::key_of;
 use crate::told::{NO_PATH, tells};
 use claim_core::{Job, Tally, has_key_sizes};
+use comp_solve::job::{SolveJob, StoredAnswers};
 use shape_data::answer::Answer;
-use solve_job::{SolveJob, StoredAnswers};
 use std::alloc::Global;
 use std::process::Abort;
 use std::sync::Arc;

@@ -3,8 +3,8 @@ ghost use Rattle.std.specs.Prelude.{IfOk};
 ghost use Rattle.shape_data.specs.WellFormed.{IsStorableAnswer, IsStorableKey};
 
 use crate::texts::{NODE, answer_of, key_of};
-use certificate_laws::Gap;
 use shape_data::answer::{Answer, Fault, Key};
+use solve_laws::certificates::Gap;
 use std::alloc::Global;
 use std::test::Fail;
 use triple_check::{check_answer, first_gap};

@@ -14,7 +14,7 @@ use Rattle.shape_data.specs.declared.symbolic.Cert.{Cert}
 use Rattle.shape_data.specs.declared.symbolic.Spec.{Spec}
 use Rattle.shape_data.specs.Valid.{Valid}
 use Rattle.shape_data.specs.WellFormed.{IsFlow, IsKey, Limits}
-use Rattle.shape_laws.proofs.StepsStacks.{All-at}
+use Rattle.sym_parts.proofs.ShapesLemmas.StepsStacks.{All-at}
 use Rattle.sound_laws.specs.Answers.{callee_with, own_callees, usable_callees, Summarizes, StandsIn, HasInductiveCerts, AreValidIn}
 use Rattle.sound_laws.specs.Answers.{AnswerIsValid}
 use Rattle.sound_laws.specs.Certificates.{IsInductive, IsInductiveFor, IsSupported, SupportEachOther}

@@ -22,8 +22,8 @@ use Rattle.shape_data.specs.declared.program.Program.{Program}
 use Rattle.shape_data.specs.Heap.{IsSum, union}
 use Rattle.shape_data.specs.Machine.{operand_value, run, step, step_cmd}
 use Rattle.shape_data.specs.Valid.{Satisfies, Valid, ValidFor, values_from}
-use Rattle.shape_laws.proofs.FrameSteps.{CarriesStep, CarriesOrRefuses, step_carries}
-use Rattle.shape_laws.proofs.Sums.{IsSum-assoc, IsSum-left, IsSum-to_right}
+use Rattle.sym_parts.proofs.ShapesLemmas.FrameSteps.{CarriesStep, CarriesOrRefuses, step_carries}
+use Rattle.sym_parts.proofs.ShapesLemmas.Sums.{IsSum-assoc, IsSum-left, IsSum-to_right}
 use Rattle.sound_laws.specs.Beside.{callee_at_start, config_at, DoesBeside, DoesBesideFrame, DoesOnAnyStack, DoesOnTop, LandsBeside}
 use Rattle.sound_laws.specs.Beside.{ReturnsBeside}
 use Rattle.sound_laws.specs.Commands.{alone, CallFits, Does, Lands, NodeAssertion, ResultAssertion}

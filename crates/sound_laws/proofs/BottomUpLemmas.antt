@@ -8,7 +8,7 @@ use Rattle.shape_data.specs.declared.answer.Key.{Key}
 use Rattle.shape_data.specs.declared.program.Flow.{Flow}
 use Rattle.shape_data.specs.declared.program.Program.{Program}
 use Rattle.shape_data.specs.Valid.{Valid}
-use Rattle.shape_laws.proofs.StepsStacks.{All-at}
+use Rattle.sym_parts.proofs.ShapesLemmas.StepsStacks.{All-at}
 use Rattle.sound_laws.specs.Answers.{AreValidIn, StandAt}
 use Rattle.sound_laws.specs.BottomUp.{IsAnsweredBefore, IsSoundAt, AreBottomUp, BottomUpIsValid}
 use Rattle.sound_laws.specs.Procedures.{HasFlow, IsValidCallee}

@@ -34,8 +34,8 @@ use Rattle.shape_data.specs.Machine.{called, new_frame, operand_value, proc_name
 use Rattle.shape_data.specs.Machine.{step_cmd}
 use Rattle.shape_data.specs.Meaning.{Meets, MeetsOne, MeetsState, value}
 use Rattle.shape_data.specs.Valid.{Satisfies, Valid, ValidFor, values_from}
-use Rattle.shape_laws.specs.Frame.{SatisfiesAlone, ValidAlone}
-use Rattle.shape_laws.proofs.FrameRuns.{frame_rule, safe_beside_frame}
+use Rattle.sym_parts.specs.Shapes.Frame.{SatisfiesAlone, ValidAlone}
+use Rattle.sym_parts.proofs.ShapesLemmas.FrameRuns.{frame_rule, safe_beside_frame}
 use Rattle.sound_laws.specs.Certificates.{variables_from, start_state, states_at, GoesOn, IsInductive, IsInductiveFor, IsSupported}
 use Rattle.sound_laws.specs.Certificates.{SupportEachOther, IsClaimed, ClaimsAreValid}
 use Rattle.sound_laws.specs.Commands.{alone, received_locals, CallFits, Does, Lands, NodeAssertion, ResultAssertion}

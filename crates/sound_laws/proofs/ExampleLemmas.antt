@@ -20,9 +20,9 @@ use Rattle.shape_data.specs.Heap.{IsSum}
 use Rattle.shape_data.specs.Machine.{arith_value, go_to, operand_value, test_passes}
 use Rattle.shape_data.specs.Meaning.{AgreesOnLogical, MeetsOne}
 use Rattle.shape_data.specs.Valid.{Valid}
-use Rattle.shape_laws.specs.Examples.{on_line}
-use Rattle.shape_laws.specs.Symbolic.{emp}
-use Rattle.shape_laws.proofs.Sums.{IsHeap-empty, IsSum-unit, IsSum-empty_left}
+use Rattle.sym_parts.specs.Shapes.Examples.{on_line}
+use Rattle.sym_parts.specs.Shapes.Symbolic.{emp}
+use Rattle.sym_parts.proofs.ShapesLemmas.Sums.{IsHeap-empty, IsSum-unit, IsSum-empty_left}
 use Rattle.sound_laws.specs.Certificates.{states_at, GoesOn, IsInductive, IsInductiveFor, IsSupported, Claim, IsClaimed, SupportEachOther}
 use Rattle.sound_laws.specs.Commands.{alone, Lands}
 use Rattle.sound_laws.specs.Examples.{bare, down_callees, down_cert, down_claims, down_flow, down_proc, down_program, down_spec}

@@ -11,7 +11,7 @@ use Rattle.shape_data.specs.declared.program.Proc.{Proc}
 use Rattle.shape_data.specs.declared.program.Program.{Program}
 use Rattle.shape_data.specs.Machine.{proc_named_from}
 use Rattle.shape_data.specs.Names.{HaveDifferentNames}
-use Rattle.shape_laws.proofs.StepsStacks.{proc_found}
+use Rattle.sym_parts.proofs.ShapesLemmas.StepsStacks.{proc_found}
 use Rattle.sound_laws.specs.Procedures.{Finds, FoundByName, HasFlow, HasOwnFlows}
 
 -- what is found stands at its number

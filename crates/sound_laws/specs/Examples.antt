@@ -15,8 +15,8 @@ use Rattle.shape_data.specs.declared.symbolic.Exp.{Exp}
 use Rattle.shape_data.specs.declared.symbolic.Exp.TheVariants.{Var, Const}
 use Rattle.shape_data.specs.declared.symbolic.Spec.{Spec}
 use Rattle.shape_data.specs.declared.symbolic.SymState.{SymState}
-use Rattle.shape_laws.specs.Examples.{on_line}
-use Rattle.shape_laws.specs.Symbolic.{emp}
+use Rattle.sym_parts.specs.Shapes.Examples.{on_line}
+use Rattle.sym_parts.specs.Shapes.Symbolic.{emp}
 use Rattle.sound_laws.specs.Certificates.{Claim}
 
 -- `int down(int a) { if (a == 0) return 7; int r = down(a - 1); return r; }`, with a slot for a - 1

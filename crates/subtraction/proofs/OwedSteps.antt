@@ -3,7 +3,7 @@ use Rattle.std.proofs.Common.{◌≡◌, ◌∙◌, ℕ, ◌+◌, ◌<◌, Bool,
 use Rattle.shape_data.specs.declared.symbolic.Exp.{Exp}
 use Rattle.shape_data.specs.declared.symbolic.Exp.TheVariants.{Var, Const}
 use Rattle.shape_data.specs.declared.symbolic.Fact.TheVariants.{Eq}
-use Rattle.sym_laws.specs.Expressions.{same_exp}
+use Rattle.sym_parts.specs.Laws.Expressions.{same_exp}
 use Rattle.sym_pure.specs.Equations.{read_through}
 use Rattle.sym_pure.specs.Sources.{differs}
 use Rattle.sym_matching.specs.declared.matching.Matching.{Matching}

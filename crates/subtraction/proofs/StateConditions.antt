@@ -5,7 +5,7 @@ use Rattle.std.proofs.lemmas.List.{length-map}
 use Rattle.std.proofs.lemmas.List.Elements.{All-weaker}
 use Rattle.shape_data.specs.declared.symbolic.SymState.{SymState}
 use Rattle.shape_data.specs.WellFormed.{IsExp, widest}
-use Rattle.sym_laws.specs.Mapped.{renamed}
+use Rattle.sym_parts.specs.Laws.Mapped.{renamed}
 use Rattle.sym_matching.specs.Answers.{names_of_all}
 use Rattle.sym_matching.specs.Covers.{apart_from, existentials}
 use Rattle.sym_matching.specs.NewVariables.{HasRoom, number_apart}
@@ -13,7 +13,7 @@ use Rattle.sym_matching.specs.Rooms.{IsSmall, IsWithinSizes, fields_of_all}
 use Rattle.sym_matching.specs.Variables.{with_state}
 use Rattle.sym_matching.proofs.RoomLaws.{few_fields, room_of_few}
 use Rattle.sym_matching.proofs.SizeLaws.{small, well_formed_is_within_sizes}
-use Rattle.sym_renaming.proofs.SizeLemmas.{few_state_variables, mapped_is_within_sizes, small_renamed, state_room}
+use Rattle.sym_matching.proofs.RenamingLemmas.SizeLemmas.{few_state_variables, mapped_is_within_sizes, small_renamed, state_room}
 use Rattle.matching.proofs.MatchSteps.{names_within}
 use Rattle.subtraction.specs.Conditions.{IsStateWithinSizes, WellFormedPostIsWithinSizes, WellFormedStateIsWithinSizes}
 

@@ -17,21 +17,21 @@ ghost use Rattle.sym_matching.specs.Rooms.{fields_of_all};
 ghost use Rattle.sym_matching.specs.Steps.{and_then};
 ghost use Rattle.sym_matching.specs.Variables.{with_state};
 ghost use Rattle.sym_matching.specs.WantedFacts.{want_all_owed as want_all_owed_of};
-ghost use Rattle.matching_steps.specs.InSetting.{rules_in};
+ghost use Rattle.sym_matching.specs.RuleSteps.InSetting.{rules_in};
 ghost use Rattle.sym_matching.specs.Answers.{names_of_all};
 ghost use Rattle.subtraction.specs.Conditions.{IsPostWithinSizes, IsStateWithinSizes};
 
 use matching::facts::want_all_owed;
 use matching::matches::{start, want_heap};
-use matching_steps::reading::Setting;
-use matching_steps::variables::add_state;
 use shape_data::is_same;
 use shape_data::symbolic::{Exp, Post, SymHeap, SymState};
 use std::alloc::{AllocError, Global};
 use sym_canon::{as_state, canon_post, canon_state};
+use sym_matching::renaming::variables::add_state;
+use sym_matching::renaming::{existentials, state_apart};
+use sym_matching::rule_steps::reading::Setting;
 use sym_matching::{Matching, Mode, Owed, Turned};
 use sym_pure::has_junk;
-use sym_renaming::{existentials, state_apart};
 
 /// The variables of a state.
 fn variables_of(alloc: Global, state: &SymState) -> Result<Vec<u32>, AllocError>

@@ -1,10 +1,10 @@
-//! Tests of what the coverings ask of their arguments: heaps within the sizes of `matching_steps::sizes`, variables below 2^31, and
+//! Tests of what the coverings ask of their arguments: heaps within the sizes of `sym_matching::renaming::sizes`, variables below 2^31, and
 //! at most 32,768 locals. All that is well formed is so.
 ghost use Rattle.std.specs.Prelude.{◌↔◌, IsTrue};
 ghost use Rattle.subtraction.specs.Conditions.{IsPostWithinSizes, IsStateWithinSizes};
 
-use matching_steps::sizes::{are_small, is_small, is_within_sizes};
 use shape_data::symbolic::{Post, SymState};
+use sym_matching::renaming::sizes::{are_small, is_small, is_within_sizes};
 
 /// The most locals.
 const MOST_LOCALS: usize = 32_768;

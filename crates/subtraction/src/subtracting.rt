@@ -2,7 +2,7 @@
 ghost use Rattle.std.specs.Prelude.{◌≡◌, IfOk};
 ghost use Rattle.sym_matching.specs.Matches.{subtract as subtract_of, subtract_avoiding as subtract_avoiding_of};
 ghost use Rattle.sym_matching.specs.Rooms.{IsWithinSizes};
-ghost use Rattle.sym_renaming.specs.Sizes.{AreSmall, IsSmallBinding};
+ghost use Rattle.sym_matching.specs.Renaming.Sizes.{AreSmall, IsSmallBinding};
 
 use matching::find;
 use shape_data::symbolic::{Exp, SymHeap};

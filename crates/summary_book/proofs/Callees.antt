@@ -8,7 +8,7 @@ use Rattle.shape_data.specs.declared.answer.Callee.{Callee}
 use Rattle.shape_data.specs.declared.program.Flow.{Flow}
 use Rattle.shape_data.specs.declared.program.Proc.{Proc}
 use Rattle.shape_data.specs.declared.program.Program.{Program}
-use Rattle.shape_laws.proofs.StepsStacks.{within-some}
+use Rattle.sym_parts.proofs.ShapesLemmas.StepsStacks.{within-some}
 use Rattle.component_keys.specs.Keys.{Component, Outer, flows_of, names_of}
 use Rattle.component_keys.proofs.Basics.{both_true, not_none, some_same}
 use Rattle.composed_keys.specs.declared.rows.Outer.{Outer as OuterRow}

@@ -10,7 +10,7 @@ use Rattle.std.proofs.lemmas.Option.{get_or_from_slice_get, slice_get_within}
 use Rattle.shape_data.specs.declared.program.Proc.{Proc}
 use Rattle.shape_data.specs.declared.program.Program.{Program}
 use Rattle.call_components.specs.Reaching.{AreDefined, rows}
-use Rattle.shape_laws.proofs.StepsStacks.{within-some}
+use Rattle.sym_parts.proofs.ShapesLemmas.StepsStacks.{within-some}
 use Rattle.component_keys.specs.Components.{calls_of, components, holds}
 use Rattle.component_keys.specs.Keys.{Component, Outer, calls_in, component_of, flows_of, names_of, program_components}
 use Rattle.component_keys.proofs.Basics.{at_map, mapped_some}

@@ -9,7 +9,7 @@ use Rattle.shape_data.specs.declared.answer.Key.{Key}
 use Rattle.shape_data.specs.declared.program.Flow.{Flow}
 use Rattle.shape_data.specs.declared.program.Program.{Program}
 use Rattle.shape_data.specs.declared.program.StructDef.{StructDef}
-use Rattle.shape_laws.proofs.StepsStacks.{within-some}
+use Rattle.sym_parts.proofs.ShapesLemmas.StepsStacks.{within-some}
 use Rattle.component_keys.specs.Components.{same_names}
 use Rattle.component_keys.specs.Keys.{Component, key_over, names_of, program_components}
 use Rattle.component_keys.specs.Tests.{key_test}

@@ -9,10 +9,10 @@ use Rattle.shape_data.specs.declared.program.Flow.{Flow}
 use Rattle.shape_data.specs.declared.program.StructDef.{StructDef}
 use Rattle.shape_data.specs.declared.symbolic.Cert.{Cert}
 use Rattle.shape_data.specs.declared.symbolic.Spec.{Spec}
-use Rattle.shape_types.specs.declared.answer.Answer.{Answer}
-use Rattle.shape_types.specs.declared.answer.Key.{Key}
-use Rattle.shape_types.specs.declared.answer.ProcSummary.{ProcSummary}
-use Rattle.shape_types.specs.declared.answer.Reason.{Reason}
+use Rattle.shape_data.specs.declared.answer.Answer.{Answer}
+use Rattle.shape_data.specs.declared.answer.Key.{Key}
+use Rattle.shape_data.specs.declared.answer.ProcSummary.{ProcSummary}
+use Rattle.shape_data.specs.declared.answer.Reason.{Reason}
 use Rattle.shape_data.specs.WellFormed.{AreParams, AreStructs, IsFlow}
 use Rattle.flow_json.specs.Forms.{as_list, go_on, list_data, option_data, read_list, read_name, read_option, tuple}
 use Rattle.flow_json.specs.Laws.{IsInverse, IsName}

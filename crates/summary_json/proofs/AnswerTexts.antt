@@ -6,7 +6,7 @@ use Rattle.shape_data.specs.declared.program.Flow.{Flow}
 use Rattle.shape_data.specs.declared.program.StructDef.{StructDef}
 use Rattle.shape_data.specs.declared.symbolic.Cert.{Cert}
 use Rattle.shape_data.specs.declared.symbolic.SymState.{SymState}
-use Rattle.shape_types.specs.declared.answer.ProcSummary.{ProcSummary}
+use Rattle.shape_data.specs.declared.answer.ProcSummary.{ProcSummary}
 use Rattle.shape_data.specs.WellFormed.{storable, AreParams, AreStates, AreSummaries, IsCert, IsFlow, IsState, IsSummary}
 use Rattle.flow_json.proofs.TextLaws.{name_is_text}
 use Rattle.summary_json.specs.Written.{CertIsText, StateIsText, SummaryIsText}

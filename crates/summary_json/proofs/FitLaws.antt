@@ -15,10 +15,10 @@ use Rattle.shape_data.specs.declared.symbolic.Post.{Post}
 use Rattle.shape_data.specs.declared.symbolic.Spec.{Spec}
 use Rattle.shape_data.specs.declared.symbolic.SymHeap.{SymHeap}
 use Rattle.shape_data.specs.declared.symbolic.SymState.{SymState}
-use Rattle.shape_types.specs.declared.answer.Answer.{Answer}
-use Rattle.shape_types.specs.declared.answer.Callee.{Callee}
-use Rattle.shape_types.specs.declared.answer.Key.{Key}
-use Rattle.shape_types.specs.declared.answer.ProcSummary.{ProcSummary}
+use Rattle.shape_data.specs.declared.answer.Answer.{Answer}
+use Rattle.shape_data.specs.declared.answer.Callee.{Callee}
+use Rattle.shape_data.specs.declared.answer.Key.{Key}
+use Rattle.shape_data.specs.declared.answer.ProcSummary.{ProcSummary}
 use Rattle.shape_data.specs.WellFormed.{storable, AreStates, AreStructs, AreSummaries, IsAtom, IsCallee, IsCert, IsExp, IsFact}
 use Rattle.shape_data.specs.WellFormed.{IsPost, IsSpec, IsState, IsStorableAnswer, IsStorableKey, IsSummary, IsSymHeap}
 use Rattle.sym_text.specs.Grammar.{written, IsInt}

@@ -7,8 +7,8 @@ use Rattle.serde_json.specs.Find.{as_bool}
 use Rattle.shape_data.specs.declared.program.Flow.{Flow}
 use Rattle.shape_data.specs.declared.program.StructDef.{StructDef}
 use Rattle.shape_data.specs.declared.symbolic.Spec.{Spec}
-use Rattle.shape_types.specs.declared.answer.Callee.{Callee}
-use Rattle.shape_types.specs.declared.answer.Key.{Key}
+use Rattle.shape_data.specs.declared.answer.Callee.{Callee}
+use Rattle.shape_data.specs.declared.answer.Key.{Key}
 use Rattle.shape_data.specs.WellFormed.{AreStructs}
 use Rattle.flow_json.specs.Flows.{flow_data, read_flow}
 use Rattle.flow_json.specs.Forms.{flag_data, go_on, list_data, read_list, read_name, tuple}

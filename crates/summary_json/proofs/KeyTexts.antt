@@ -8,7 +8,7 @@ use Rattle.serde_json.specs.Data.{Data}
 use Rattle.serde_json.specs.Find.{as_bool, get}
 use Rattle.shape_data.specs.declared.program.Flow.{Flow}
 use Rattle.shape_data.specs.declared.program.StructDef.{StructDef}
-use Rattle.shape_types.specs.declared.answer.Key.{Key}
+use Rattle.shape_data.specs.declared.answer.Key.{Key}
 use Rattle.shape_data.specs.Names.{IsCName}
 use Rattle.shape_data.specs.WellFormed.{AreKeyProcs, AreParams, AreStructs, IsFlow, IsStruct}
 use Rattle.flow_json.specs.Flows.{read_flow, FlowIsText}

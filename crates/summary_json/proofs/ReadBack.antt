@@ -3,8 +3,8 @@ use Rattle.std.specs.Prelude.{◌≡◌, true}
 use Rattle.std.specs.declared.option.Option.TheVariants.{None, Some}
 use Rattle.std.proofs.Common.{sym, ap, ◌∙◌}
 use Rattle.serde_json.specs.Data.{Data}
-use Rattle.shape_types.specs.declared.answer.Answer.{Answer}
-use Rattle.shape_types.specs.declared.answer.Key.{Key}
+use Rattle.shape_data.specs.declared.answer.Answer.{Answer}
+use Rattle.shape_data.specs.declared.answer.Key.{Key}
 use Rattle.shape_data.specs.WellFormed.{IsStorableAnswer, IsStorableKey}
 use Rattle.flow_json.specs.declared.unread.Unread.TheVariants.{NotOfForm}
 use Rattle.flow_json.proofs.InverseLemmas.{some_is}

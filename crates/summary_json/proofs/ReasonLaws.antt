@@ -5,12 +5,12 @@ use Rattle.std.specs.declared.option.Option.TheVariants.{None, Some}
 use Rattle.std.proofs.Common.{refl, sym, ap, ◌∙◌, subst}
 use Rattle.serde_json.specs.Data.{Data, string}
 use Rattle.serde_json.specs.Find.{as_null, as_str}
-use Rattle.shape_types.specs.declared.answer.Budget.{Budget}
-use Rattle.shape_types.specs.declared.answer.Budget.TheVariants as budget
-use Rattle.shape_types.specs.declared.answer.Fault.{Fault}
-use Rattle.shape_types.specs.declared.answer.Fault.TheVariants as fault
-use Rattle.shape_types.specs.declared.answer.Reason.{Reason}
-use Rattle.shape_types.specs.declared.answer.Reason.TheVariants as reason
+use Rattle.shape_data.specs.declared.answer.Budget.{Budget}
+use Rattle.shape_data.specs.declared.answer.Budget.TheVariants as budget
+use Rattle.shape_data.specs.declared.answer.Fault.{Fault}
+use Rattle.shape_data.specs.declared.answer.Fault.TheVariants as fault
+use Rattle.shape_data.specs.declared.answer.Reason.{Reason}
+use Rattle.shape_data.specs.declared.answer.Reason.TheVariants as reason
 use Rattle.flow_json.specs.Forms.{go_on, option_data, read_count, read_option, tuple}
 use Rattle.flow_json.specs.Laws.{IsInverse}
 use Rattle.flow_json.proofs.InverseLemmas.{cons_is, count_inverse, go_on_is, go_on_some, last_is, on_word, option_inverse, some_is}

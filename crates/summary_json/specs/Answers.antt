@@ -8,9 +8,9 @@ use Rattle.shape_data.specs.declared.program.Flow.{Flow}
 use Rattle.shape_data.specs.declared.program.StructDef.{StructDef}
 use Rattle.shape_data.specs.declared.symbolic.Cert.{Cert}
 use Rattle.shape_data.specs.declared.symbolic.SymState.{SymState}
-use Rattle.shape_types.specs.declared.answer.Answer.{Answer}
-use Rattle.shape_types.specs.declared.answer.Key.{Key}
-use Rattle.shape_types.specs.declared.answer.ProcSummary.{ProcSummary}
+use Rattle.shape_data.specs.declared.answer.Answer.{Answer}
+use Rattle.shape_data.specs.declared.answer.Key.{Key}
+use Rattle.shape_data.specs.declared.answer.ProcSummary.{ProcSummary}
 use Rattle.flow_json.specs.Forms.{as_list, go_on, list_data, option_data, read_list, read_name, read_object, read_option, tuple}
 use Rattle.summary_json.specs.Keys.{read_spec, spec_data}
 use Rattle.summary_json.specs.Reasons.{read_reason, reason_data}

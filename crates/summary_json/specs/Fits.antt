@@ -5,12 +5,12 @@ use Rattle.shape_data.specs.declared.symbolic.Post.{Post}
 use Rattle.shape_data.specs.declared.symbolic.Spec.{Spec}
 use Rattle.shape_data.specs.declared.symbolic.SymHeap.{SymHeap}
 use Rattle.shape_data.specs.declared.symbolic.SymState.{SymState}
-use Rattle.shape_types.specs.declared.answer.Answer.{Answer}
-use Rattle.shape_types.specs.declared.answer.Callee.{Callee}
-use Rattle.shape_types.specs.declared.answer.Key.{Key}
-use Rattle.shape_types.specs.declared.answer.ProcSummary.{ProcSummary}
-use Rattle.shape_types.specs.declared.answer.Reason.{Reason}
-use Rattle.shape_types.specs.declared.answer.Reason.TheVariants as reason
+use Rattle.shape_data.specs.declared.answer.Answer.{Answer}
+use Rattle.shape_data.specs.declared.answer.Callee.{Callee}
+use Rattle.shape_data.specs.declared.answer.Key.{Key}
+use Rattle.shape_data.specs.declared.answer.ProcSummary.{ProcSummary}
+use Rattle.shape_data.specs.declared.answer.Reason.{Reason}
+use Rattle.shape_data.specs.declared.answer.Reason.TheVariants as reason
 use Rattle.sym_text.specs.Grammar.{HasInts, HoldsInts, IsInt}
 use Rattle.flow_json.specs.Laws.{FlowFits, IsCount, IsName, StructFits}
 

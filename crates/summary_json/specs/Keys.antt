@@ -6,8 +6,8 @@ use Rattle.serde_json.specs.Data.{Data, string, object, member, no_members}
 use Rattle.serde_json.specs.Find.{as_bool, get}
 use Rattle.shape_data.specs.declared.program.StructDef.{StructDef}
 use Rattle.shape_data.specs.declared.symbolic.Spec.{Spec}
-use Rattle.shape_types.specs.declared.answer.Callee.{Callee}
-use Rattle.shape_types.specs.declared.answer.Key.{Key}
+use Rattle.shape_data.specs.declared.answer.Callee.{Callee}
+use Rattle.shape_data.specs.declared.answer.Key.{Key}
 use Rattle.flow_json.specs.Flows.{flow_data, read_flow}
 use Rattle.flow_json.specs.Forms.{as_list, flag_data, go_on, list_data, read_list, read_name, read_object, tuple}
 use Rattle.flow_json.specs.Types.{read_struct, struct_data}

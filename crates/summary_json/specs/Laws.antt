@@ -3,8 +3,8 @@ use Rattle.std.specs.Prelude.{◌≡◌, true}
 use Rattle.std.specs.declared.option.Option.{Option}
 use Rattle.std.specs.declared.option.Option.TheVariants.{None, Some}
 use Rattle.serde_json.specs.Data.{Data}
-use Rattle.shape_types.specs.declared.answer.Answer.{Answer}
-use Rattle.shape_types.specs.declared.answer.Key.{Key}
+use Rattle.shape_data.specs.declared.answer.Answer.{Answer}
+use Rattle.shape_data.specs.declared.answer.Key.{Key}
 use Rattle.shape_data.specs.WellFormed.{IsStorableAnswer, IsStorableKey}
 use Rattle.summary_json.specs.Answers.{answer_data, read_answer}
 use Rattle.summary_json.specs.Fits.{AnswerFits, KeyFits}

@@ -5,12 +5,12 @@ use Rattle.std.specs.declared.option.Option.{Option}
 use Rattle.std.specs.declared.option.Option.TheVariants.{None, Some}
 use Rattle.serde_json.specs.Data.{Data, string}
 use Rattle.serde_json.specs.Find.{as_str}
-use Rattle.shape_types.specs.declared.answer.Budget.{Budget}
-use Rattle.shape_types.specs.declared.answer.Budget.TheVariants as budget
-use Rattle.shape_types.specs.declared.answer.Fault.{Fault}
-use Rattle.shape_types.specs.declared.answer.Fault.TheVariants as fault
-use Rattle.shape_types.specs.declared.answer.Reason.{Reason}
-use Rattle.shape_types.specs.declared.answer.Reason.TheVariants as reason
+use Rattle.shape_data.specs.declared.answer.Budget.{Budget}
+use Rattle.shape_data.specs.declared.answer.Budget.TheVariants as budget
+use Rattle.shape_data.specs.declared.answer.Fault.{Fault}
+use Rattle.shape_data.specs.declared.answer.Fault.TheVariants as fault
+use Rattle.shape_data.specs.declared.answer.Reason.{Reason}
+use Rattle.shape_data.specs.declared.answer.Reason.TheVariants as reason
 use Rattle.flow_json.specs.Forms.{as_list, count_data, go_on, read_count, tuple}
 
 -- a fault: its word, as in a report

@@ -2,7 +2,7 @@
 use Rattle.std.specs.Prelude.{◌≡◌}
 use Rattle.std.specs.declared.option.Option.{Option}
 use Rattle.std.specs.declared.option.Option.TheVariants.{Some}
-use Rattle.shape_types.specs.declared.answer.Key.{Key}
+use Rattle.shape_data.specs.declared.answer.Key.{Key}
 use Rattle.shape_data.specs.WellFormed.{AreStructs}
 use Rattle.flow_json.specs.declared.unread.Unread.{Unread}
 use Rattle.flow_json.specs.declared.unread.Unread.TheVariants.{NotOfForm, OutOfMemory}

@@ -3,7 +3,7 @@ use Rattle.std.specs.Prelude.{ℕ, List, length, All, IsUtf8}
 use Rattle.shape_data.specs.declared.program.StructDef.{StructDef}
 use Rattle.shape_data.specs.declared.symbolic.Cert.{Cert}
 use Rattle.shape_data.specs.declared.symbolic.SymState.{SymState}
-use Rattle.shape_types.specs.declared.answer.ProcSummary.{ProcSummary}
+use Rattle.shape_data.specs.declared.answer.ProcSummary.{ProcSummary}
 use Rattle.shape_data.specs.WellFormed.{storable, IsExp, IsPost, IsSpec, IsSymHeap}
 
 pub record StateIsText (structs : List StructDef) (params : List (List ℕ)) (state : SymState) : Type 0 where

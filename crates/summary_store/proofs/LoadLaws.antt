@@ -8,9 +8,9 @@ use Rattle.std.proofs.Common.{inl, inr, refl, ap, ◌∙◌, subst}
 use Rattle.std.proofs.lemmas.List.Elements.{All-cons, All-head, All-nil, All-tail, All-weaker}
 use Rattle.shape_data.specs.declared.answer.Kept.{Kept}
 use Rattle.claim_core.specs.Views.{Solution, solution_of}
-use Rattle.certificate_laws.specs.Gaps.{first_gap}
-use Rattle.certificate_laws.specs.Laws.{InductiveIsValid, NoGap}
-use Rattle.certificate_laws.specs.Limits.{analysable, AnswerWidens, KeyWidens, StorableIsAnalysable}
+use Rattle.solve_laws.specs.Certificates.Gaps.{first_gap}
+use Rattle.solve_laws.specs.Certificates.Laws.{InductiveIsValid, NoGap}
+use Rattle.solve_laws.specs.Certificates.Limits.{analysable, AnswerWidens, KeyWidens, StorableIsAnalysable}
 use Rattle.shape_data.specs.WellFormed.{storable, widest}
 use Rattle.store_json.specs.Entries.{as_stored, IsReadEntry, IsStorable}
 use Rattle.store_json.specs.Laws.{OneReading, SomeReading, StoresAreReadBack}

@@ -4,7 +4,7 @@ use Rattle.std.specs.declared.result.Result.{Result}
 use Rattle.std.specs.declared.result.Result.TheVariants.{Ok, Err}
 use Rattle.shape_data.specs.declared.answer.Kept.{Kept}
 use Rattle.claim_core.specs.Views.{Solution, solution_of}
-use Rattle.certificate_laws.specs.Inductive.{Inductive}
+use Rattle.solve_laws.specs.Certificates.Inductive.{Inductive}
 use Rattle.store_json.specs.Entries.{IsReadEntry}
 use Rattle.store_json.specs.Reading.{IsRead}
 use Rattle.store_json.specs.declared.reading.Unread.{Unread}

@@ -1,9 +1,9 @@
 //! Laws of stores that are loaded.
 ghost use Rattle.summary_store.specs.Laws.{LoadedAreInductive, LoadedAreValid, OneLoading, SomeLoading, StoresAreLoadedBack};
 
-use certificate_laws::gaps::no_gap_is_inductive;
-use certificate_laws::limits::limits_widen;
-use certificate_laws::soundness::inductive_is_valid;
+use solve_laws::certificates::gaps::no_gap_is_inductive;
+use solve_laws::certificates::limits::limits_widen;
+use solve_laws::certificates::soundness::inductive_is_valid;
 use store_json::laws::{one_reading, some_reading, stores_are_read_back};
 
 /// Bytes are loaded in one way alone.

@@ -5,10 +5,10 @@ ghost use Rattle.claim_core.specs.Views.{solution_of};
 ghost use Rattle.store_json.specs.Texts.{store_text};
 ghost use Rattle.summary_store.specs.Loading.{contents_of, AreLoaded, IsInductive, IsLeftOf, IsLoaded};
 
-use certificate_laws::limits::limits_widen;
 use shape_data::Row;
 use shape_data::answer::Kept;
 use shape_data::exact::share;
+use solve_laws::certificates::limits::limits_widen;
 use std::alloc::{AllocError, Global};
 use store_json::laws::entries_are_few;
 use store_json::{Unread, read_store, write_store};

@@ -12,7 +12,7 @@ use Rattle.shape_data.specs.declared.symbolic.Exp.TheVariants.{Var, Const}
 use Rattle.shape_data.specs.declared.symbolic.Fact.{Fact}
 use Rattle.shape_data.specs.declared.symbolic.Fact.TheVariants.{Eq, Ne}
 use Rattle.shape_data.specs.declared.symbolic.SymHeap.{SymHeap}
-use Rattle.sym_laws.specs.Expressions.{is_among, same_exp}
+use Rattle.sym_parts.specs.Laws.Expressions.{is_among, same_exp}
 use Rattle.abstraction_laws.specs.Losing.{is_disequality_of, is_lost_among, without_disequalities}
 use Rattle.abstraction_laws.specs.Occurrences.{exps_of_heap, times_in}
 use Rattle.abstraction_laws.specs.Pairs.{is_further, is_lost_equation, made_existential}

@@ -5,7 +5,7 @@ ghost use Rattle.std.specs.declared.option.Option.TheVariants.{Some};
 ghost use Rattle.shape_data.specs.declared.symbolic.Atom.{Atom as AnyAtom};
 ghost use Rattle.shape_data.specs.declared.symbolic.Exp.{Exp};
 ghost use Rattle.shape_data.specs.declared.symbolic.Exp.TheVariants.{Var};
-ghost use Rattle.sym_laws.specs.Expressions.{same_exp};
+ghost use Rattle.sym_parts.specs.Laws.Expressions.{same_exp};
 ghost use Rattle.abstraction_laws.specs.Joining.{
   IsJoin,
   Join,

@@ -23,7 +23,7 @@ ghost use Rattle.abstraction_laws.specs.Pairs.{
   state_joined_at as state_joined_at_of,
 };
 ghost use Rattle.abstraction_laws.specs.Rooms.{HasRoom, HaveFewFields, IsWithinRoom};
-ghost use Rattle.sym_laws.specs.Mapped.{on_state};
+ghost use Rattle.sym_parts.specs.Laws.Mapped.{on_state};
 ghost use Rattle.sym_abstract.specs.Counted.{Counts, is_lost_equation_by, made_existential_by};
 ghost use Rattle.sym_abstract.specs.Places.{place_of};
 

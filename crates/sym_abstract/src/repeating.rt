@@ -1,6 +1,6 @@
 //! The second to the fourth rule, again and again until nothing changes.
 ghost use Rattle.std.specs.Prelude.{◌≡◌, IfOk, filter, length};
-ghost use Rattle.sym_laws.specs.Junks.{is_other as is_other_of};
+ghost use Rattle.sym_parts.specs.Laws.Junks.{is_other as is_other_of};
 ghost use Rattle.abstraction_laws.specs.Rooms.{HaveFewFields};
 ghost use Rattle.abstraction_laws.specs.Repeating.{
   join_inner as join_inner_of,

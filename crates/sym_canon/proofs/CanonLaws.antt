@@ -6,10 +6,10 @@ use Rattle.shape_data.specs.declared.program.StructDef.{StructDef}
 use Rattle.shape_data.specs.declared.symbolic.Post.{Post}
 use Rattle.shape_data.specs.declared.symbolic.SymState.{SymState}
 use Rattle.shape_data.specs.Meaning.{value, AreTrueFacts, MeetsState, MeetsPost}
-use Rattle.sym_laws.specs.Mapped.{on_state, renamed}
-use Rattle.sym_laws.specs.Orders.{SayTheSame}
-use Rattle.sym_laws.proofs.OrderLemmas.{same-refl, same-sym}
-use Rattle.sym_laws.proofs.RenamedLemmas.{state-renamed}
+use Rattle.sym_parts.specs.Laws.Mapped.{on_state, renamed}
+use Rattle.sym_parts.specs.Laws.Orders.{SayTheSame}
+use Rattle.sym_parts.proofs.LawsLemmas.OrderLemmas.{same-refl, same-sym}
+use Rattle.sym_parts.proofs.LawsLemmas.RenamedLemmas.{state-renamed}
 use Rattle.sym_canon.specs.declared.parts.Variables.TheVariants.{Existential}
 use Rattle.sym_canon.specs.Canonical.{sight_state, with_atoms_placed, with_existentials_numbered, arranged, state_with_facts_sorted}
 use Rattle.sym_canon.specs.Canonical.{as_state, canon_post}

@@ -6,7 +6,7 @@ use Rattle.std.specs.List.{position_or_len}
 use Rattle.std.proofs.Common.{refl, sym, ap, ◌∙◌, arith}
 use Rattle.std.proofs.lemmas.Bool.{eqb-true, eqb-false, eq-eqb, ne_eqb, lt-ltb, ltb-true, ltb-false, le-ltb, and_parts, or_parts, not-true}
 use Rattle.std.proofs.lemmas.List.Elements.{All-head, All-tail}
-use Rattle.sym_laws.specs.Fresh.{is_one_of, are_different}
+use Rattle.sym_parts.specs.Laws.Fresh.{is_one_of, are_different}
 
 -- the number at `there` comes to the first place, and those from the first up to it move up
 abbrev pub moved : ℕ → ℕ → ℕ → ℕ

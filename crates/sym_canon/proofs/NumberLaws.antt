@@ -15,9 +15,9 @@ use Rattle.shape_data.specs.declared.symbolic.Fact.{Fact}
 use Rattle.shape_data.specs.declared.symbolic.Fact.TheVariants.{Eq, Ne}
 use Rattle.shape_data.specs.declared.symbolic.SymHeap.{SymHeap}
 use Rattle.shape_data.specs.declared.symbolic.SymState.{SymState}
-use Rattle.sym_laws.specs.Each.{EachInAtom, EachInFact, EachInHeap, EachInState}
-use Rattle.sym_laws.specs.Fresh.{is_one_of}
-use Rattle.sym_laws.specs.Mapped.{on_atom, on_fact, on_heap, on_state, renamed, IsRenaming}
+use Rattle.sym_parts.specs.Laws.Each.{EachInAtom, EachInFact, EachInHeap, EachInState}
+use Rattle.sym_parts.specs.Laws.Fresh.{is_one_of}
+use Rattle.sym_parts.specs.Laws.Mapped.{on_atom, on_fact, on_heap, on_state, renamed, IsRenaming}
 use Rattle.sym_canon.specs.declared.parts.Variables.{Variables}
 use Rattle.sym_canon.specs.declared.parts.Variables.TheVariants.{Existential, Further}
 use Rattle.sym_canon.specs.Numbering.{is_numbered, number_at, numbered, with_number}

@@ -8,8 +8,8 @@ use Rattle.shape_data.specs.declared.symbolic.Exp.{Exp}
 use Rattle.shape_data.specs.declared.symbolic.Exp.TheVariants.{Var, Const}
 use Rattle.shape_data.specs.declared.symbolic.Fact.{Fact}
 use Rattle.shape_data.specs.declared.symbolic.Fact.TheVariants.{Eq, Ne}
-use Rattle.sym_laws.specs.Expressions.{same_exp}
-use Rattle.sym_laws.proofs.ExpressionLemmas.{same_exp-equal}
+use Rattle.sym_parts.specs.Laws.Expressions.{same_exp}
+use Rattle.sym_parts.proofs.LawsLemmas.ExpressionLemmas.{same_exp-equal}
 use Rattle.sym_canon.specs.FactOrder.{is_before, with_sides_in_order, are_sides_before, is_fact_before, with_fact, sorted_among}
 use Rattle.sym_canon.specs.Laws.{are_in_order, FactsAreInOrder}
 

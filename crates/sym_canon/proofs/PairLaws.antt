@@ -9,9 +9,9 @@ use Rattle.shape_data.specs.declared.symbolic.Exp.TheVariants.{Var, Const}
 use Rattle.shape_data.specs.declared.symbolic.SymHeap.{SymHeap}
 use Rattle.shape_data.specs.declared.symbolic.SymState.{SymState}
 use Rattle.shape_data.specs.Meaning.{value, Meets, MeetsState}
-use Rattle.sym_laws.specs.Each.{EachInState}
-use Rattle.sym_laws.specs.Mapped.{on_state, renamed}
-use Rattle.sym_laws.proofs.MappedLemmas.{values-mapped, Holds-mapped}
+use Rattle.sym_parts.specs.Laws.Each.{EachInState}
+use Rattle.sym_parts.specs.Laws.Mapped.{on_state, renamed}
+use Rattle.sym_parts.proofs.LawsLemmas.MappedLemmas.{values-mapped, Holds-mapped}
 use Rattle.sym_canon.specs.declared.parts.Variables.TheVariants.{Further}
 use Rattle.sym_canon.specs.Canonical.{sight_state, sight_pair, arranged, without_locals, state_with_facts_sorted, canon_pair}
 use Rattle.sym_canon.specs.Laws.{IsRenumbering, CanonPairKeepsMeaning}

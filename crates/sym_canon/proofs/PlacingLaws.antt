@@ -7,9 +7,9 @@ use Rattle.shape_data.specs.declared.symbolic.Atom.{Atom}
 use Rattle.shape_data.specs.declared.symbolic.Atom.TheVariants.{Points, Seg, Junk}
 use Rattle.shape_data.specs.declared.symbolic.Exp.{Exp}
 use Rattle.shape_data.specs.declared.symbolic.Exp.TheVariants.{Const}
-use Rattle.sym_laws.specs.Junks.{is_junk, is_other}
-use Rattle.sym_laws.specs.Orders.{SayTheSame}
-use Rattle.sym_laws.proofs.OrderLemmas.{same-refl, same-trans, same-cons, same-append_left, same-append_right, same-parted}
+use Rattle.sym_parts.specs.Laws.Junks.{is_junk, is_other}
+use Rattle.sym_parts.specs.Laws.Orders.{SayTheSame}
+use Rattle.sym_parts.proofs.LawsLemmas.OrderLemmas.{same-refl, same-trans, same-cons, same-append_left, same-append_right, same-parted}
 use Rattle.sym_canon.specs.Placing.{exps_of, all_lead_to, is_placed, places_some, place_by, place_first, place_at, place, params_from}
 use Rattle.sym_canon.specs.Placing.{placed}
 

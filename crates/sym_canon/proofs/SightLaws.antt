@@ -11,8 +11,8 @@ use Rattle.shape_data.specs.declared.symbolic.Exp.TheVariants.{Var, Const}
 use Rattle.shape_data.specs.declared.symbolic.Fact.{Fact}
 use Rattle.shape_data.specs.declared.symbolic.Fact.TheVariants.{Eq, Ne}
 use Rattle.shape_data.specs.declared.symbolic.SymState.{SymState}
-use Rattle.sym_laws.specs.Each.{EachInAtom, EachInFact, EachInState}
-use Rattle.sym_laws.specs.Fresh.{is_one_of, are_different}
+use Rattle.sym_parts.specs.Laws.Each.{EachInAtom, EachInFact, EachInState}
+use Rattle.sym_parts.specs.Laws.Fresh.{is_one_of, are_different}
 use Rattle.sym_canon.specs.declared.parts.Variables.{Variables}
 use Rattle.sym_canon.specs.Canonical.{sight_state}
 use Rattle.sym_canon.specs.Numbering.{is_numbered, with_sight, sight, sight_atoms, sides, sight_facts}

@@ -3,7 +3,7 @@ use Rattle.std.specs.Prelude.{ℕ, List, [], ◌∷◌}
 use Rattle.shape_data.specs.declared.symbolic.Post.{Post}
 use Rattle.shape_data.specs.declared.symbolic.SymHeap.{SymHeap}
 use Rattle.shape_data.specs.declared.symbolic.SymState.{SymState}
-use Rattle.sym_laws.specs.Mapped.{on_heap, on_state}
+use Rattle.sym_parts.specs.Laws.Mapped.{on_heap, on_state}
 use Rattle.sym_canon.specs.declared.parts.Variables.{Variables}
 use Rattle.sym_canon.specs.declared.parts.Variables.TheVariants.{Existential, Further}
 use Rattle.sym_canon.specs.declared.parts.Pair.{Pair}

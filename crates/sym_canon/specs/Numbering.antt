@@ -7,8 +7,8 @@ use Rattle.shape_data.specs.declared.symbolic.Exp.TheVariants.{Var, Const}
 use Rattle.shape_data.specs.declared.symbolic.Fact.{Fact}
 use Rattle.shape_data.specs.declared.symbolic.Fact.TheVariants.{Eq, Ne}
 use Rattle.shape_data.specs.declared.symbolic.SymHeap.{SymHeap}
-use Rattle.sym_laws.specs.Fresh.{is_one_of}
-use Rattle.sym_laws.specs.Mapped.{renamed}
+use Rattle.sym_parts.specs.Laws.Fresh.{is_one_of}
+use Rattle.sym_parts.specs.Laws.Mapped.{renamed}
 use Rattle.sym_canon.specs.declared.parts.Variables.{Variables}
 use Rattle.sym_canon.specs.declared.parts.Variables.TheVariants.{Existential, Further}
 use Rattle.sym_canon.specs.Placing.{exps_of}

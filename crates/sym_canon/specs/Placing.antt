@@ -8,9 +8,9 @@ use Rattle.shape_data.specs.declared.symbolic.Atom.{Atom}
 use Rattle.shape_data.specs.declared.symbolic.Atom.TheVariants.{Points, Seg, Junk}
 use Rattle.shape_data.specs.declared.symbolic.Exp.{Exp}
 use Rattle.shape_data.specs.declared.symbolic.Exp.TheVariants.{Var, Const}
-use Rattle.sym_laws.specs.Addresses.{addresses}
-use Rattle.sym_laws.specs.Expressions.{same_exp, is_among}
-use Rattle.sym_laws.specs.Junks.{is_junk, is_other}
+use Rattle.sym_parts.specs.Laws.Addresses.{addresses}
+use Rattle.sym_parts.specs.Laws.Expressions.{same_exp, is_among}
+use Rattle.sym_parts.specs.Laws.Junks.{is_junk, is_other}
 
 -- the source of an atom, and then its fields or its end
 abbrev pub exps_of : Atom → List Exp

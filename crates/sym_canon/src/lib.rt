@@ -1,6 +1,6 @@
 //! The canonical form of a state, of a post, and of a pair of a missing heap and a state: atoms in the order in which a
 //! search from the parameters and the locals comes to them, variables numbered as they come into sight, facts sorted.
-//! It stands on the laws of `sym_laws` and the shared code of `sym_parts`; that the meaning is kept is said in [`laws`].
+//! It stands on the shared code and the laws of `sym_parts`; that the meaning is kept is said in [`laws`].
 #![tactic(auto)]
 
 mod facts;

@@ -22,7 +22,7 @@ pub struct Numbers {
 
 impl Numbers {
     ghost use Rattle.std.specs.Prelude.{All, true};
-    ghost use Rattle.sym_laws.specs.Fresh.{are_different};
+    ghost use Rattle.sym_parts.specs.Laws.Fresh.{are_different};
     ghost use Rattle.sym_canon.specs.Numbering.{numbered};
 
     /// Numbers for these variables, which are different and none below the first number. There are never more of them than

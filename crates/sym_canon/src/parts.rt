@@ -20,12 +20,12 @@ pub struct Pair {
 
 impl Exact for Pair {
     ghost use Rattle.sym_canon.specs.contracts.parts.Pair.{struct, the_propositions};
-    ghost use Rattle.shape_types.specs.Exact.{and_copied, and_same, last_copied, last_same, struct_copied, struct_same};
-    ghost use Rattle.shape_types.specs.contracts.exact.symbolic.SymHeapExact.TheImpl.Laws.{
+    ghost use Rattle.shape_data.specs.Exact.{and_copied, and_same, last_copied, last_same, struct_copied, struct_same};
+    ghost use Rattle.shape_data.specs.contracts.exact.symbolic.SymHeapExact.TheImpl.Laws.{
       eq_is_same-law as heap_same,
       clone_is_same-law as heap_copied,
     };
-    ghost use Rattle.shape_types.specs.contracts.exact.symbolic.SymStateExact.TheImpl.Laws.{
+    ghost use Rattle.shape_data.specs.contracts.exact.symbolic.SymStateExact.TheImpl.Laws.{
       eq_is_same-law as state_same,
       clone_is_same-law as state_copied,
     };

@@ -2,7 +2,7 @@
 ghost use Rattle.std.specs.Prelude.{◌≡◌, ℕ, ◌+◌, ◌<◌, IfOk, IfSome, List, ◌++◌, not, filter, position, length};
 ghost use Rattle.shape_data.specs.declared.symbolic.Atom.{Atom as AnyAtom};
 ghost use Rattle.shape_data.specs.declared.symbolic.Exp.{Exp};
-ghost use Rattle.sym_laws.specs.Junks.{is_junk as is_junk_of, is_other as is_other_of};
+ghost use Rattle.sym_parts.specs.Laws.Junks.{is_junk as is_junk_of, is_other as is_other_of};
 ghost use Rattle.sym_canon.specs.Placing.{
   all_lead_to,
   exps_of,

@@ -13,7 +13,7 @@ use Rattle.shape_data.specs.declared.symbolic.Post.{Post}
 use Rattle.shape_data.specs.declared.symbolic.Spec.{Spec}
 use Rattle.shape_data.specs.declared.symbolic.SymHeap.{SymHeap}
 use Rattle.shape_data.specs.WellFormed.{IsExp, IsPost, IsSpec, widest}
-use Rattle.shape_laws.specs.Symbolic.{beside}
+use Rattle.sym_parts.specs.Shapes.Symbolic.{beside}
 use Rattle.sym_canon.specs.declared.parts.Pair.{Pair}
 use Rattle.sym_matching.specs.declared.matching.Abd.{Abd}
 use Rattle.sym_matching.specs.declared.matching.Abd.TheVariants as abd
@@ -23,11 +23,11 @@ use Rattle.sym_matching.specs.Matches.{biabduce_avoiding, subtract_avoiding}
 use Rattle.sym_matching.specs.Rooms.{IsSmall, IsWithinSizes}
 use Rattle.sym_matching.specs.Steps.{contradicts}
 use Rattle.sym_matching.proofs.SizeLaws.{small, well_formed_is_within_sizes}
-use Rattle.sym_renaming.specs.declared.parts.CalledPre.{CalledPre}
-use Rattle.sym_renaming.specs.declared.parts.Numbers.{Numbers}
-use Rattle.sym_renaming.specs.Calls.{called_with}
-use Rattle.sym_renaming.specs.Sizes.{AreSmall, IsCalledWithinSizes}
-use Rattle.sym_renaming.proofs.SizeLemmas.{called_is_within_sizes}
+use Rattle.sym_matching.specs.declared.renaming.parts.CalledPre.{CalledPre}
+use Rattle.sym_matching.specs.declared.renaming.parts.Numbers.{Numbers}
+use Rattle.sym_matching.specs.Renaming.Calls.{called_with}
+use Rattle.sym_matching.specs.Renaming.Sizes.{AreSmall, IsCalledWithinSizes}
+use Rattle.sym_matching.proofs.RenamingLemmas.SizeLemmas.{called_is_within_sizes}
 use Rattle.exec_laws.specs.Calling as calling
 use Rattle.exec_laws.specs.Calling.{first_subtracted, fit_of_abd, fit_of_sub, found, subtracted}
 use Rattle.exec_laws.specs.Laws.{FoundFitsAreWithin, SubtractedFitsAreWithin}

@@ -13,13 +13,13 @@ use Rattle.shape_data.specs.declared.symbolic.Fact.{Fact}
 use Rattle.shape_data.specs.declared.symbolic.Fact.TheVariants.{Eq, Ne}
 use Rattle.shape_data.specs.declared.symbolic.SymHeap.{SymHeap}
 use Rattle.shape_data.specs.WellFormed.{IsAtom, IsExp, IsFact, IsState, IsSymHeap, widest}
-use Rattle.sym_laws.specs.Each.{EachInAtom, EachInFact, EachInHeap}
+use Rattle.sym_parts.specs.Laws.Each.{EachInAtom, EachInFact, EachInHeap}
 use Rattle.sym_canon.specs.declared.parts.Pair.{Pair}
 use Rattle.sym_matching.proofs.KeptLaws.{All-or}
 use Rattle.sym_matching.proofs.SizeLaws.{well_formed_is_within_sizes}
 use Rattle.sym_matching.specs.Rooms.{IsWithinSizes}
 use Rattle.sym_matching.specs.Variables.{with_state}
-use Rattle.sym_renaming.proofs.SizeLemmas.{few_heap_variables, few_state_variables}
+use Rattle.sym_matching.proofs.RenamingLemmas.SizeLemmas.{few_heap_variables, few_state_variables}
 use Rattle.exec_laws.specs.Pairs.{Setting, pair_variables}
 use Rattle.exec_laws.specs.Rooms.{IsPairWithin}
 use Rattle.exec_laws.specs.Values.{operand}

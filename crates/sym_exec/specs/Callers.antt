@@ -4,7 +4,7 @@ use Rattle.shape_data.specs.declared.symbolic.Post.{Post}
 use Rattle.shape_data.specs.WellFormed.{IsExp, IsState, IsSymHeap, widest}
 use Rattle.sym_canon.specs.declared.parts.Pair.{Pair}
 use Rattle.sym_matching.specs.Rooms.{IsWithinSizes}
-use Rattle.sym_renaming.specs.Sizes.{AreSmall}
+use Rattle.sym_matching.specs.Renaming.Sizes.{AreSmall}
 use Rattle.exec_laws.specs.Calling as calling
 use Rattle.exec_laws.specs.Pairs.{Setting, new_logical, pair_variables}
 use Rattle.sym_exec.specs.declared.calls.Caller.{Caller}

@@ -5,7 +5,7 @@ ghost use Rattle.std.specs.Option.{option_copied};
 ghost use Rattle.shape_data.specs.declared.answer.Fault.TheVariants.{Callee as NoCallee};
 ghost use Rattle.shape_data.specs.declared.program.Cmd.TheVariants.{Call};
 ghost use Rattle.shape_data.specs.WellFormed.{IsSpec, widest};
-ghost use Rattle.shape_laws.specs.Symbolic.{beside as beside_of};
+ghost use Rattle.sym_parts.specs.Shapes.Symbolic.{beside as beside_of};
 ghost use Rattle.sym_matching.specs.Rooms.{IsWithinSizes};
 ghost use Rattle.exec_laws.specs.declared.parts.Case.TheVariants.{Drops};
 ghost use Rattle.exec_laws.specs.Calling.{
@@ -36,9 +36,6 @@ use exec_cells::setting::Setting;
 use exec_cells::values::{one_case, operand};
 use exec_laws::laws::fits_are_within;
 use exec_laws::{Case, Mode, Table};
-use matching_steps::missing::contradicts;
-use matching_steps::steps::add_atoms;
-use matching_steps::variables::{add_heap, add_state};
 use shape_data::answer::{Callee, Fault};
 use shape_data::program::Operand;
 use shape_data::symbolic::{Exp, Post, Spec, SymHeap, SymState};
@@ -46,8 +43,11 @@ use shape_data::{Name, Row, copy_of};
 use std::alloc::{AllocError, Global};
 use subtraction::subtract_avoiding;
 use sym_canon::Pair;
+use sym_matching::renaming::variables::{add_heap, add_state};
+use sym_matching::renaming::{Numbers, called_pre, post_in_caller};
+use sym_matching::rule_steps::missing::contradicts;
+use sym_matching::rule_steps::steps::add_atoms;
 use sym_matching::{Abd, Sub};
-use sym_renaming::{Numbers, called_pre, post_in_caller};
 
 /// The callee of a name.
 fn callee_named<'a>(callees: &'a [Callee], name: &Name) -> Option<&'a Callee>

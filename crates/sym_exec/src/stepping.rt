@@ -31,13 +31,13 @@ use exec_cells::pairs::{canonical, formed};
 use exec_cells::setting::Setting;
 use exec_cells::values::{any, arith, copy, leave};
 use exec_laws::{Case, Mode, Step, Table};
-use matching_steps::steps::exp_at;
 use shape_data::answer::Fault;
 use shape_data::program::{Cmd, Flow, StructDef};
 use shape_data::symbolic::{Post, SymHeap, SymState};
 use shape_data::{Row, copy_of};
 use std::alloc::{AllocError, Global};
 use sym_canon::Pair;
+use sym_matching::rule_steps::steps::exp_at;
 
 /// The cases of a command, in the order of its row.
 fn cases_of(

@@ -6,8 +6,8 @@ use Rattle.std.specs.declared.option.Option.TheVariants.{None, Some}
 use Rattle.std.proofs.Common.{refl, sym, ap, ap₂, ◌∙◌, arith}
 use Rattle.std.proofs.lemmas.Bool.{false_from_ne_true, le-leb, leb-true, or_parts}
 use Rattle.shape_data.specs.declared.symbolic.Exp.{Exp}
-use Rattle.sym_laws.specs.Expressions.{has_double, is_among, same_exp}
-use Rattle.sym_laws.proofs.ExpressionLemmas.{same_exp-equal, same_exp-itself}
+use Rattle.sym_parts.specs.Laws.Expressions.{has_double, is_among, same_exp}
+use Rattle.sym_parts.proofs.LawsLemmas.ExpressionLemmas.{same_exp-equal, same_exp-itself}
 
 -- how many pass the test
 abbrev pub count : {A : Type 0} → (A → Bool) → List A → ℕ

@@ -4,11 +4,11 @@ use Rattle.std.specs.List.{list_all}
 use Rattle.std.proofs.Common.{sym, ap, subst, ◌∙◌}
 use Rattle.std.proofs.lemmas.Bool.{and_parts}
 use Rattle.shape_data.specs.declared.symbolic.SymState.{SymState}
-use Rattle.sym_laws.specs.Mapped.{on_state, renamed, IsRenaming}
+use Rattle.sym_parts.specs.Laws.Mapped.{on_state, renamed, IsRenaming}
 use Rattle.sym_pure.specs.IsNormal.{are_in_order, are_normal_atoms, are_normal_facts, has_redundant, is_normal, is_normal_heap, is_read}
 use Rattle.sym_pure.specs.IsNormal.{is_read_fact}
 use Rattle.sym_pure.specs.Contradictions.{has_clash}
-use Rattle.sym_laws.specs.Addresses.{addresses}
+use Rattle.sym_parts.specs.Laws.Addresses.{addresses}
 use Rattle.sym_canon.specs.declared.parts.Variables.TheVariants.{Existential}
 use Rattle.sym_canon.specs.Canonical.{arranged, as_state, sight_state, with_atoms_placed, with_existentials_numbered}
 use Rattle.sym_canon.proofs.FrontLaws.{from_front, to_front}

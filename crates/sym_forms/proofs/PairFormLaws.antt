@@ -13,10 +13,10 @@ use Rattle.shape_data.specs.declared.symbolic.Fact.{Fact}
 use Rattle.shape_data.specs.declared.symbolic.Fact.TheVariants.{Eq, Ne}
 use Rattle.shape_data.specs.declared.symbolic.SymHeap.{SymHeap}
 use Rattle.shape_data.specs.declared.symbolic.SymState.{SymState}
-use Rattle.sym_laws.specs.Addresses.{addresses}
-use Rattle.sym_laws.specs.Each.{EachInState}
-use Rattle.sym_laws.specs.Expressions.{has_double, is_among, same_exp}
-use Rattle.sym_laws.specs.Mapped.{on_fact, on_state, renamed}
+use Rattle.sym_parts.specs.Laws.Addresses.{addresses}
+use Rattle.sym_parts.specs.Laws.Each.{EachInState}
+use Rattle.sym_parts.specs.Laws.Expressions.{has_double, is_among, same_exp}
+use Rattle.sym_parts.specs.Laws.Mapped.{on_fact, on_state, renamed}
 use Rattle.sym_pure.specs.declared.parts.Normal.{Normal}
 use Rattle.sym_pure.specs.declared.parts.Normal.TheVariants.{Is, Contradiction}
 use Rattle.sym_pure.specs.Contradictions.{has_clash, has_same_sides}

@@ -13,9 +13,9 @@ use Rattle.shape_data.specs.declared.symbolic.Exp.TheVariants.{Const}
 use Rattle.shape_data.specs.declared.symbolic.Fact.{Fact}
 use Rattle.shape_data.specs.declared.symbolic.Fact.TheVariants.{Eq, Ne}
 use Rattle.shape_data.specs.declared.symbolic.SymHeap.{SymHeap}
-use Rattle.sym_laws.specs.Addresses.{address_of, addresses}
-use Rattle.sym_laws.specs.Expressions.{has_double, is_among, same_exp}
-use Rattle.sym_laws.specs.Junks.{is_junk, is_other}
+use Rattle.sym_parts.specs.Laws.Addresses.{address_of, addresses}
+use Rattle.sym_parts.specs.Laws.Expressions.{has_double, is_among, same_exp}
+use Rattle.sym_parts.specs.Laws.Junks.{is_junk, is_other}
 use Rattle.sym_pure.specs.Contradictions.{has_clash, has_same_sides}
 use Rattle.sym_pure.specs.Emptying.{is_empty, is_plain}
 use Rattle.sym_pure.specs.IsNormal.{are_in_order, are_normal_atoms, are_normal_facts, has_redundant, has_two_junk, is_normal_heap}

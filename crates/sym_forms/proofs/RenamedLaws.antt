@@ -12,10 +12,10 @@ use Rattle.shape_data.specs.declared.symbolic.Exp.TheVariants.{Var, Const}
 use Rattle.shape_data.specs.declared.symbolic.Fact.{Fact}
 use Rattle.shape_data.specs.declared.symbolic.Fact.TheVariants.{Eq, Ne}
 use Rattle.shape_data.specs.declared.symbolic.SymState.{SymState}
-use Rattle.sym_laws.specs.Addresses.{address_of, addresses}
-use Rattle.sym_laws.specs.Expressions.{has_double, is_among, same_exp}
-use Rattle.sym_laws.specs.Junks.{is_junk}
-use Rattle.sym_laws.specs.Mapped.{on_atom, on_fact, on_heap, on_state, renamed}
+use Rattle.sym_parts.specs.Laws.Addresses.{address_of, addresses}
+use Rattle.sym_parts.specs.Laws.Expressions.{has_double, is_among, same_exp}
+use Rattle.sym_parts.specs.Laws.Junks.{is_junk}
+use Rattle.sym_parts.specs.Laws.Mapped.{on_atom, on_fact, on_heap, on_state, renamed}
 use Rattle.sym_pure.specs.Contradictions.{has_clash, has_same_sides}
 use Rattle.sym_pure.specs.Emptying.{is_empty, is_plain}
 use Rattle.sym_pure.specs.IsNormal.{are_in_order, are_normal_atoms, are_normal_facts, has_redundant, has_two_junk, is_below, is_disequality}

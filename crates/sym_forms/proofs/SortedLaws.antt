@@ -13,9 +13,9 @@ use Rattle.shape_data.specs.declared.symbolic.Exp.TheVariants.{Var, Const}
 use Rattle.shape_data.specs.declared.symbolic.Fact.{Fact}
 use Rattle.shape_data.specs.declared.symbolic.Fact.TheVariants.{Eq, Ne}
 use Rattle.shape_data.specs.declared.symbolic.SymState.{SymState}
-use Rattle.sym_laws.specs.Addresses.{addresses}
-use Rattle.sym_laws.specs.Expressions.{is_among, has_double, same_exp}
-use Rattle.sym_laws.proofs.ExpressionLemmas.{same_exp-equal, same_exp-itself, same_exp-sym}
+use Rattle.sym_parts.specs.Laws.Addresses.{addresses}
+use Rattle.sym_parts.specs.Laws.Expressions.{is_among, has_double, same_exp}
+use Rattle.sym_parts.proofs.LawsLemmas.ExpressionLemmas.{same_exp-equal, same_exp-itself, same_exp-sym}
 use Rattle.sym_pure.specs.Contradictions.{has_clash, has_same_sides}
 use Rattle.sym_pure.specs.Emptying.{is_empty, is_plain}
 use Rattle.sym_pure.specs.IsNormal.{are_in_order, are_normal_atoms, are_normal_facts, has_redundant, has_two_junk, is_below, is_disequality}

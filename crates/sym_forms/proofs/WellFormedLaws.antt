@@ -19,10 +19,10 @@ use Rattle.shape_data.specs.declared.symbolic.Fact.TheVariants.{Eq, Ne}
 use Rattle.shape_data.specs.declared.symbolic.SymState.{SymState}
 use Rattle.shape_data.specs.Heap.{struct_named}
 use Rattle.shape_data.specs.WellFormed.{IsAtom, IsExp, IsFact, IsState, Limits}
-use Rattle.sym_laws.specs.Each.{EachInAtom, EachInFact, EachInState}
-use Rattle.sym_laws.specs.Fresh.{is_one_of}
-use Rattle.sym_laws.specs.Junks.{is_junk, is_other}
-use Rattle.sym_laws.specs.Mapped.{on_atom, on_fact}
+use Rattle.sym_parts.specs.Laws.Each.{EachInAtom, EachInFact, EachInState}
+use Rattle.sym_parts.specs.Laws.Fresh.{is_one_of}
+use Rattle.sym_parts.specs.Laws.Junks.{is_junk, is_other}
+use Rattle.sym_parts.specs.Laws.Mapped.{on_atom, on_fact}
 use Rattle.sym_canon.specs.declared.parts.Variables.{Variables}
 use Rattle.sym_canon.specs.declared.parts.Variables.TheVariants.{Existential}
 use Rattle.sym_canon.specs.Canonical.{arranged, sight_state, with_atoms_placed}

@@ -1,7 +1,7 @@
 //! The normal form of a pair of a missing heap and a state.
 ghost use Rattle.std.specs.Prelude.{◌≡◌, IfOk, not, filter};
 ghost use Rattle.std.specs.declared.option.Option.TheVariants.{Some};
-ghost use Rattle.sym_laws.specs.Mapped.{on_state};
+ghost use Rattle.sym_parts.specs.Laws.Mapped.{on_state};
 ghost use Rattle.sym_pure.specs.Equations.{read_through as read_through_of};
 ghost use Rattle.sym_forms.specs.PairForms.{
   is_further_equation as is_further_equation_of,

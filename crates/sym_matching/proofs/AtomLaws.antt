@@ -13,8 +13,8 @@ use Rattle.shape_data.specs.declared.symbolic.Atom.{Atom}
 use Rattle.shape_data.specs.declared.symbolic.Atom.TheVariants.{Points, Seg, Junk}
 use Rattle.shape_data.specs.declared.symbolic.Exp.{Exp}
 use Rattle.shape_data.specs.Meaning.{value, HoldsAtom, HoldsAtoms}
-use Rattle.shape_laws.proofs.Atoms.{HoldsAtoms-restore}
-use Rattle.shape_laws.proofs.Chains.{IsSegment}
+use Rattle.sym_parts.proofs.ShapesLemmas.Atoms.{HoldsAtoms-restore}
+use Rattle.sym_parts.proofs.ShapesLemmas.Chains.{IsSegment}
 use Rattle.sym_pure.proofs.EachLaws.{All-get, All-remove}
 use Rattle.sym_matching.specs.declared.matching.Matching.{Matching}
 use Rattle.sym_matching.specs.declared.matching.Turned.{Turned}

@@ -20,8 +20,8 @@ use Rattle.shape_data.specs.declared.symbolic.Exp.TheVariants.{Var, Const}
 use Rattle.shape_data.specs.declared.symbolic.Fact.TheVariants.{Ne}
 use Rattle.shape_data.specs.Heap.{IsHeap}
 use Rattle.shape_data.specs.Meaning.{value, AreTrueFacts, HoldsAtom}
-use Rattle.sym_laws.specs.Expressions.{same_exp}
-use Rattle.sym_laws.proofs.ExpressionLemmas.{same_exp-equal}
+use Rattle.sym_parts.specs.Laws.Expressions.{same_exp}
+use Rattle.sym_parts.proofs.LawsLemmas.ExpressionLemmas.{same_exp-equal}
 use Rattle.sym_canon.specs.Placing.{is_cell_at}
 use Rattle.sym_pure.specs.Sources.{differs}
 use Rattle.sym_matching.specs.declared.matching.Matching.{Matching}

@@ -14,11 +14,11 @@ use Rattle.shape_data.specs.declared.symbolic.Post.{Post}
 use Rattle.shape_data.specs.declared.symbolic.SymState.{SymState}
 use Rattle.shape_data.specs.Heap.{IsSum}
 use Rattle.shape_data.specs.Meaning.{value, Holds, HoldsAtoms, MeetsState, MeetsPost}
-use Rattle.shape_laws.specs.Symbolic.{emp}
-use Rattle.shape_laws.proofs.Sums.{IsSum-empty_right}
-use Rattle.sym_laws.specs.Fresh.{is_one_of}
-use Rattle.sym_laws.specs.Mapped.{on_atom, on_state, renamed}
-use Rattle.sym_laws.proofs.MappedLemmas.{Holds-mapped, values-mapped}
+use Rattle.sym_parts.specs.Shapes.Symbolic.{emp}
+use Rattle.sym_parts.proofs.ShapesLemmas.Sums.{IsSum-empty_right}
+use Rattle.sym_parts.specs.Laws.Fresh.{is_one_of}
+use Rattle.sym_parts.specs.Laws.Mapped.{on_atom, on_state, renamed}
+use Rattle.sym_parts.proofs.LawsLemmas.MappedLemmas.{Holds-mapped, values-mapped}
 use Rattle.sym_canon.specs.Canonical.{as_state}
 use Rattle.sym_canon.proofs.CanonLaws.{canon_post_keeps_meaning, canon_state_keeps_meaning}
 use Rattle.sym_matching.specs.declared.matching.Matching.{Matching}

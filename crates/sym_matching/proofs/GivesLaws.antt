@@ -15,10 +15,10 @@ use Rattle.shape_data.specs.declared.symbolic.Fact.{Fact}
 use Rattle.shape_data.specs.declared.symbolic.Fact.TheVariants.{Eq, Ne}
 use Rattle.shape_data.specs.declared.symbolic.SymHeap.{SymHeap}
 use Rattle.shape_data.specs.Meaning.{Holds}
-use Rattle.shape_laws.specs.Symbolic.{beside, emp, is_variable, occurs_in, occurs_in_atom, occurs_in_fact}
-use Rattle.shape_laws.proofs.Meets.{AreTrueFacts-append}
-use Rattle.sym_laws.specs.Each.{EachInAtom, EachInFact, EachInHeap}
-use Rattle.sym_laws.proofs.MappedLemmas.{Holds-mapped}
+use Rattle.sym_parts.specs.Shapes.Symbolic.{beside, emp, is_variable, occurs_in, occurs_in_atom, occurs_in_fact}
+use Rattle.sym_parts.proofs.ShapesLemmas.Meets.{AreTrueFacts-append}
+use Rattle.sym_parts.specs.Laws.Each.{EachInAtom, EachInFact, EachInHeap}
+use Rattle.sym_parts.proofs.LawsLemmas.MappedLemmas.{Holds-mapped}
 use Rattle.sym_matching.specs.declared.matching.Abd.TheVariants as abd
 use Rattle.sym_matching.specs.declared.matching.Matching.{Matching}
 use Rattle.sym_matching.specs.declared.matching.Mode.{Mode}

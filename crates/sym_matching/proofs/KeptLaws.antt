@@ -14,8 +14,8 @@ use Rattle.shape_data.specs.declared.symbolic.Exp.TheVariants.{Var, Const}
 use Rattle.shape_data.specs.declared.symbolic.Fact.{Fact}
 use Rattle.shape_data.specs.declared.symbolic.Fact.TheVariants.{Eq, Ne}
 use Rattle.shape_data.specs.Meaning.{value, IsTrueFact, AreTrueFacts, HoldsAtom, HoldsAtoms, AgreesOnLogical}
-use Rattle.sym_laws.specs.Each.{EachInAtom, EachInFact}
-use Rattle.sym_laws.specs.Fresh.{is_one_of}
+use Rattle.sym_parts.specs.Laws.Each.{EachInAtom, EachInFact}
+use Rattle.sym_parts.specs.Laws.Fresh.{is_one_of}
 use Rattle.sym_matching.specs.Laws.{is_kept, AgreesOn}
 use Rattle.sym_matching.specs.Reading.{is_logical}
 

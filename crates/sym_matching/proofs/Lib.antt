@@ -22,3 +22,4 @@ pub mod AnswerSteps
 pub mod AnswerLaws
 pub mod CountSteps
 pub mod CountLaws
+pub mod RenamingLemmas

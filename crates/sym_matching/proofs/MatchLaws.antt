@@ -12,12 +12,12 @@ use Rattle.shape_data.specs.declared.symbolic.Exp.{Exp}
 use Rattle.shape_data.specs.declared.symbolic.SymHeap.{SymHeap}
 use Rattle.shape_data.specs.Heap.{IsSum}
 use Rattle.shape_data.specs.Meaning.{Holds, HoldsAtoms, AreTrueFacts}
-use Rattle.shape_laws.specs.Symbolic.{beside, emp}
-use Rattle.shape_laws.proofs.Atoms.{HoldsAtoms-is_heap}
-use Rattle.shape_laws.proofs.Meets.{AreTrueFacts-append, AreTrueFacts-split}
-use Rattle.shape_laws.proofs.Sums.{IsSum-sym, IsSum-unit, IsSum-unit_right, IsSum-to_right}
-use Rattle.sym_laws.specs.Each.{EachInAtom, EachInFact, EachInHeap}
-use Rattle.sym_laws.specs.Junks.{is_junk}
+use Rattle.sym_parts.specs.Shapes.Symbolic.{beside, emp}
+use Rattle.sym_parts.proofs.ShapesLemmas.Atoms.{HoldsAtoms-is_heap}
+use Rattle.sym_parts.proofs.ShapesLemmas.Meets.{AreTrueFacts-append, AreTrueFacts-split}
+use Rattle.sym_parts.proofs.ShapesLemmas.Sums.{IsSum-sym, IsSum-unit, IsSum-unit_right, IsSum-to_right}
+use Rattle.sym_parts.specs.Laws.Each.{EachInAtom, EachInFact, EachInHeap}
+use Rattle.sym_parts.specs.Laws.Junks.{is_junk}
 use Rattle.sym_matching.specs.declared.matching.Matching.{Matching}
 use Rattle.sym_matching.specs.declared.matching.Mode.{Mode}
 use Rattle.sym_matching.specs.declared.matching.Mode.TheVariants.{Subtract}

@@ -5,7 +5,7 @@ use Rattle.std.proofs.Common.{refl, sym, ◌∙◌, arith, ⊎_elim}
 use Rattle.std.proofs.lemmas.Bool.{eqb-true, eq-eqb, or_cases, ltb-true}
 use Rattle.shape_data.specs.declared.symbolic.Exp.TheVariants.{Var}
 use Rattle.shape_data.specs.Meaning.{value}
-use Rattle.sym_laws.specs.Fresh.{is_one_of}
+use Rattle.sym_parts.specs.Laws.Fresh.{is_one_of}
 use Rattle.sym_matching.specs.Laws.{is_kept, AgreesOn}
 use Rattle.sym_matching.specs.NewVariables.{first_free, fresh, fresh_variables}
 use Rattle.sym_matching.proofs.KeptLaws.{one_of-left, one_of-right, one_of-first, kept-more, kept-name}

@@ -9,7 +9,7 @@ use Rattle.shape_data.specs.declared.symbolic.Exp.TheVariants.{Var, Const}
 use Rattle.shape_data.specs.declared.symbolic.Fact.{Fact}
 use Rattle.shape_data.specs.declared.symbolic.Fact.TheVariants.{Eq, Ne}
 use Rattle.shape_data.specs.Meaning.{value, AreTrueFacts}
-use Rattle.sym_laws.specs.Fresh.{is_one_of}
+use Rattle.sym_parts.specs.Laws.Fresh.{is_one_of}
 use Rattle.sym_pure.specs.Equations.{read_through, solved}
 use Rattle.sym_matching.specs.Laws.{Keeps, StaysBound}
 use Rattle.sym_matching.specs.Reading.{bound_to, bound_exp, read, is_none, is_unbound, through}

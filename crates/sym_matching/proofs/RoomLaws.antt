@@ -5,7 +5,7 @@ use Rattle.std.proofs.lemmas.Bool.{eqb-true, or_cases}
 use Rattle.std.proofs.lemmas.List.{append-nil, length_push}
 use Rattle.std.proofs.lemmas.List.Elements.{All-append, All-cons, All-head, All-nil, All-tail, All-weaker}
 use Rattle.shape_data.specs.declared.symbolic.Atom.{Atom}
-use Rattle.sym_laws.specs.Fresh.{is_one_of}
+use Rattle.sym_parts.specs.Laws.Fresh.{is_one_of}
 use Rattle.sym_matching.specs.NewVariables.{first_free, fresh, fresh_variables}
 use Rattle.sym_matching.specs.Rooms.{fields_of, fields_of_all, FewFields, RoomBelow, RoomOfFew, RoomParts, SearchFindsFree}
 use Rattle.sym_matching.proofs.KeptLaws.{All-left, All-right}

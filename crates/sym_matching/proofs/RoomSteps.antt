@@ -13,7 +13,7 @@ use Rattle.shape_data.specs.declared.symbolic.Atom.TheVariants.{Points, Seg, Jun
 use Rattle.shape_data.specs.declared.symbolic.Exp.{Exp}
 use Rattle.shape_data.specs.declared.symbolic.Exp.TheVariants.{Var, Const}
 use Rattle.shape_data.specs.declared.symbolic.Fact.TheVariants.{Ne}
-use Rattle.sym_laws.specs.Expressions.{same_exp}
+use Rattle.sym_parts.specs.Laws.Expressions.{same_exp}
 use Rattle.sym_canon.specs.Placing.{is_cell_at}
 use Rattle.sym_matching.specs.declared.matching.Matching.{Matching}
 use Rattle.sym_matching.specs.declared.matching.Mode.{Mode}

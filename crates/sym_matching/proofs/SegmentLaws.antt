@@ -15,9 +15,9 @@ use Rattle.shape_data.specs.declared.symbolic.Exp.{Exp}
 use Rattle.shape_data.specs.declared.symbolic.Exp.TheVariants.{Var, Const}
 use Rattle.shape_data.specs.Heap.{IsHeap}
 use Rattle.shape_data.specs.Meaning.{value, HoldsAtom}
-use Rattle.shape_laws.proofs.Chains.{IsSegment, IsSegment-empty, IsSegment-append, Points-segment}
-use Rattle.sym_laws.specs.Expressions.{same_exp}
-use Rattle.sym_laws.proofs.ExpressionLemmas.{same_exp-equal}
+use Rattle.sym_parts.proofs.ShapesLemmas.Chains.{IsSegment, IsSegment-empty, IsSegment-append, Points-segment}
+use Rattle.sym_parts.specs.Laws.Expressions.{same_exp}
+use Rattle.sym_parts.proofs.LawsLemmas.ExpressionLemmas.{same_exp-equal}
 use Rattle.sym_matching.specs.declared.matching.Matching.{Matching}
 use Rattle.sym_matching.specs.declared.matching.Mode.{Mode}
 use Rattle.sym_matching.specs.declared.matching.Mode.TheVariants.{Subtract, Abduce}

@@ -11,10 +11,10 @@ use Rattle.shape_data.specs.declared.symbolic.Fact.{Fact}
 use Rattle.shape_data.specs.declared.symbolic.SymHeap.{SymHeap}
 use Rattle.shape_data.specs.Heap.{IsSum}
 use Rattle.shape_data.specs.Meaning.{value, IsTrueFact, AreTrueFacts, HoldsAtoms}
-use Rattle.shape_laws.proofs.Atoms.{HoldsAtoms-append, HoldsAtoms-split}
-use Rattle.shape_laws.proofs.Meets.{AreTrueFacts-append, AreTrueFacts-split}
-use Rattle.shape_laws.proofs.Sums.{IsSum-unit, IsSum-empty_left, IsSum-sym, IsSum-to_right}
-use Rattle.sym_laws.specs.Each.{EachInFact}
+use Rattle.sym_parts.proofs.ShapesLemmas.Atoms.{HoldsAtoms-append, HoldsAtoms-split}
+use Rattle.sym_parts.proofs.ShapesLemmas.Meets.{AreTrueFacts-append, AreTrueFacts-split}
+use Rattle.sym_parts.proofs.ShapesLemmas.Sums.{IsSum-unit, IsSum-empty_left, IsSum-sym, IsSum-to_right}
+use Rattle.sym_parts.specs.Laws.Each.{EachInFact}
 use Rattle.sym_pure.specs.Sources.{differs}
 use Rattle.sym_pure.proofs.SourcesLaws.{differs_is_sound}
 use Rattle.sym_matching.specs.declared.matching.Matching.{Matching}

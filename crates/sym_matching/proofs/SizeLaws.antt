@@ -17,7 +17,7 @@ use Rattle.shape_data.specs.declared.symbolic.Fact.TheVariants.{Eq, Ne}
 use Rattle.shape_data.specs.Heap.{struct_named}
 use Rattle.shape_data.specs.Structures.{ContainsStructures}
 use Rattle.shape_data.specs.WellFormed.{IsAtom, IsExp, IsFact, IsStruct, Limits, widest}
-use Rattle.sym_laws.specs.Each.{EachInAtom, EachInFact}
+use Rattle.sym_parts.specs.Laws.Each.{EachInAtom, EachInFact}
 use Rattle.sym_matching.specs.Laws.{FitsAtom, FittingCarries, WellFormedFits}
 use Rattle.sym_matching.specs.Rooms.{fields_of, IsSmall, WellFormedIsWithinSizes}
 

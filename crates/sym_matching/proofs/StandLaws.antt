@@ -12,7 +12,7 @@ use Rattle.shape_data.specs.declared.symbolic.Fact.{Fact}
 use Rattle.shape_data.specs.declared.symbolic.SymHeap.{SymHeap}
 use Rattle.shape_data.specs.Heap.{IsSum}
 use Rattle.shape_data.specs.Meaning.{value, AreTrueFacts, HoldsAtoms}
-use Rattle.sym_laws.specs.Each.{EachInAtom, EachInFact, EachInHeap}
+use Rattle.sym_parts.specs.Laws.Each.{EachInAtom, EachInFact, EachInHeap}
 use Rattle.sym_matching.specs.declared.matching.Matching.{Matching}
 use Rattle.sym_matching.specs.declared.matching.Mode.{Mode}
 use Rattle.sym_matching.specs.declared.matching.Mode.TheVariants.{Subtract}

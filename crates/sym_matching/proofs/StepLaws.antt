@@ -16,11 +16,11 @@ use Rattle.shape_data.specs.declared.symbolic.Exp.TheVariants.{Var, Const}
 use Rattle.shape_data.specs.declared.symbolic.SymHeap.{SymHeap}
 use Rattle.shape_data.specs.Heap.{IsHeap, IsSum, HasShape, struct_named}
 use Rattle.shape_data.specs.Meaning.{value, AreTrueFacts, HoldsAtom, HoldsAtoms}
-use Rattle.shape_laws.proofs.Atoms.{HoldsAtoms-one, HoldsAtoms-append}
-use Rattle.shape_laws.proofs.Chains.{IsSegment-first, link-value}
-use Rattle.shape_laws.proofs.Sums.{IsSum-sym, IsSum-unit, IsSum-rebuild, IsSum-to_left, IsSum-to_right}
-use Rattle.sym_laws.specs.Each.{EachInAtom}
-use Rattle.sym_laws.proofs.OrderLemmas.{same-middle}
+use Rattle.sym_parts.proofs.ShapesLemmas.Atoms.{HoldsAtoms-one, HoldsAtoms-append}
+use Rattle.sym_parts.proofs.ShapesLemmas.Chains.{IsSegment-first, link-value}
+use Rattle.sym_parts.proofs.ShapesLemmas.Sums.{IsSum-sym, IsSum-unit, IsSum-rebuild, IsSum-to_left, IsSum-to_right}
+use Rattle.sym_parts.specs.Laws.Each.{EachInAtom}
+use Rattle.sym_parts.proofs.LawsLemmas.OrderLemmas.{same-middle}
 use Rattle.sym_pure.proofs.EachLaws.{All-get, All-remove}
 use Rattle.sym_matching.specs.declared.matching.Matching.{Matching}
 use Rattle.sym_matching.specs.declared.matching.Mode.TheVariants.{Abduce}

@@ -10,7 +10,7 @@ use Rattle.shape_data.specs.declared.symbolic.Fact.{Fact}
 use Rattle.shape_data.specs.declared.symbolic.Fact.TheVariants.{Eq, Ne}
 use Rattle.shape_data.specs.declared.symbolic.SymHeap.{SymHeap}
 use Rattle.shape_data.specs.declared.symbolic.SymState.{SymState}
-use Rattle.sym_laws.specs.Each.{EachInAtom, EachInFact, EachInHeap}
+use Rattle.sym_parts.specs.Laws.Each.{EachInAtom, EachInFact, EachInHeap}
 use Rattle.sym_canon.specs.Numbering.{sides}
 use Rattle.sym_canon.specs.Placing.{exps_of}
 use Rattle.sym_matching.specs.Variables.{with_variable, with_exps, with_facts, with_atoms, with_heap, with_state, with_binding}

@@ -5,7 +5,7 @@ use Rattle.shape_data.specs.declared.symbolic.Exp.{Exp}
 use Rattle.shape_data.specs.declared.symbolic.Post.{Post}
 use Rattle.shape_data.specs.declared.symbolic.SymHeap.{SymHeap}
 use Rattle.shape_data.specs.declared.symbolic.SymState.{SymState}
-use Rattle.sym_laws.specs.Mapped.{on_state, renamed}
+use Rattle.sym_parts.specs.Laws.Mapped.{on_state, renamed}
 use Rattle.sym_canon.specs.Canonical.{as_state, canon_post, canon_state}
 use Rattle.sym_matching.specs.declared.matching.Mode.TheVariants.{Subtract}
 use Rattle.sym_matching.specs.declared.matching.Owed.{Owed}

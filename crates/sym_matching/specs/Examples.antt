@@ -7,7 +7,7 @@ use Rattle.shape_data.specs.declared.symbolic.Exp.TheVariants.{Var, Const}
 use Rattle.shape_data.specs.declared.symbolic.Fact.{Fact}
 use Rattle.shape_data.specs.declared.symbolic.SymHeap.{SymHeap}
 use Rattle.shape_data.specs.declared.symbolic.SymState.{SymState}
-use Rattle.shape_laws.specs.Examples.{node_name}
+use Rattle.sym_parts.specs.Shapes.Examples.{node_name}
 
 -- the first parameter
 abbrev pub a : Exp

@@ -15,10 +15,10 @@ use Rattle.shape_data.specs.Heap.{IsSum, struct_named}
 use Rattle.shape_data.specs.Meaning.{AgreesOnLogical, Holds, MeetsState, MeetsPost}
 use Rattle.shape_data.specs.Structures.{ContainsStructures}
 use Rattle.shape_data.specs.WellFormed.{IsSymHeap, Limits}
-use Rattle.shape_laws.specs.Symbolic.{beside, emp, occurs_in}
-use Rattle.sym_laws.specs.Each.{EachInHeap}
-use Rattle.sym_laws.specs.Fresh.{is_one_of}
-use Rattle.sym_laws.specs.Mapped.{on_heap}
+use Rattle.sym_parts.specs.Shapes.Symbolic.{beside, emp, occurs_in}
+use Rattle.sym_parts.specs.Laws.Each.{EachInHeap}
+use Rattle.sym_parts.specs.Laws.Fresh.{is_one_of}
+use Rattle.sym_parts.specs.Laws.Mapped.{on_heap}
 use Rattle.sym_matching.specs.declared.matching.Abd.TheVariants as abd
 use Rattle.sym_matching.specs.declared.matching.Matching.{Matching}
 use Rattle.sym_matching.specs.declared.matching.Mode.{Mode}

@@ -12,3 +12,5 @@ pub mod WantedAtoms
 pub mod WantedCells
 pub mod WantedFacts
 pub mod WantedSegments
+pub mod Renaming
+pub mod RuleSteps

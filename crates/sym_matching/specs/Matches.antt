@@ -4,8 +4,8 @@ use Rattle.std.specs.List.{list_any}
 use Rattle.shape_data.specs.declared.symbolic.Atom.{Atom}
 use Rattle.shape_data.specs.declared.symbolic.Exp.{Exp}
 use Rattle.shape_data.specs.declared.symbolic.SymHeap.{SymHeap}
-use Rattle.shape_laws.specs.Symbolic.{emp}
-use Rattle.sym_laws.specs.Junks.{is_junk}
+use Rattle.sym_parts.specs.Shapes.Symbolic.{emp}
+use Rattle.sym_parts.specs.Laws.Junks.{is_junk}
 use Rattle.sym_matching.specs.declared.matching.Abd.{Abd}
 use Rattle.sym_matching.specs.declared.matching.Abd.TheVariants as abd
 use Rattle.sym_matching.specs.declared.matching.Matching.{Matching}

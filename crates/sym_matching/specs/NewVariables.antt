@@ -1,6 +1,6 @@
 -- New existential variables: the least numbers that are not in use; and such numbers for variables.
 use Rattle.std.specs.Prelude.{ℕ, zero, suc, ◌+◌, ◌<◌, ◌==◌, if◌then◌else◌, List, [], ◌∷◌, ◌++◌, length, All}
-use Rattle.sym_laws.specs.Fresh.{is_one_of}
+use Rattle.sym_parts.specs.Laws.Fresh.{is_one_of}
 
 -- the least number from x on that is not in use. Each turn passes over a number in use, so as many turns as there are such
 -- numbers are enough

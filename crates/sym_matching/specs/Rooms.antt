@@ -7,8 +7,8 @@ use Rattle.shape_data.specs.declared.symbolic.Exp.{Exp}
 use Rattle.shape_data.specs.declared.symbolic.Exp.TheVariants.{Var, Const}
 use Rattle.shape_data.specs.declared.symbolic.SymHeap.{SymHeap}
 use Rattle.shape_data.specs.WellFormed.{AreStructs, IsSymHeap, widest}
-use Rattle.sym_laws.specs.Each.{EachInHeap}
-use Rattle.sym_laws.specs.Fresh.{is_one_of}
+use Rattle.sym_parts.specs.Laws.Each.{EachInHeap}
+use Rattle.sym_parts.specs.Laws.Fresh.{is_one_of}
 use Rattle.sym_matching.specs.declared.matching.Matching.{Matching}
 use Rattle.sym_matching.specs.declared.matching.Turned.TheVariants.{On}
 use Rattle.sym_matching.specs.declared.matching.Wanted.{Wanted}

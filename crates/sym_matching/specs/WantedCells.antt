@@ -17,7 +17,7 @@ use Rattle.shape_data.specs.declared.symbolic.Exp.{Exp}
 use Rattle.shape_data.specs.declared.symbolic.Exp.TheVariants.{Var}
 use Rattle.shape_data.specs.declared.symbolic.Fact.TheVariants.{Ne}
 use Rattle.shape_data.specs.declared.symbolic.SymHeap.{SymHeap}
-use Rattle.sym_laws.specs.Expressions.{same_exp}
+use Rattle.sym_parts.specs.Laws.Expressions.{same_exp}
 use Rattle.sym_canon.specs.Placing.{is_cell_at, is_segment_from}
 use Rattle.sym_pure.specs.Sources.{differs}
 use Rattle.sym_matching.specs.declared.matching.Matching.{Matching}

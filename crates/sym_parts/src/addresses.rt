@@ -1,7 +1,7 @@
 //! The addresses at which cells stand.
 ghost use Rattle.std.specs.Prelude.{◌≡◌, IfOk};
-ghost use Rattle.sym_laws.specs.Addresses.{address_of, addresses};
-ghost use Rattle.sym_laws.specs.Expressions.{is_among};
+ghost use Rattle.sym_parts.specs.Laws.Addresses.{address_of, addresses};
+ghost use Rattle.sym_parts.specs.Laws.Expressions.{is_among};
 
 use crate::expressions::is_same_exp;
 use shape_data::symbolic::{Atom, Exp};

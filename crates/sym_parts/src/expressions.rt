@@ -1,6 +1,6 @@
 //! Tests of expressions and of lists of them.
 ghost use Rattle.std.specs.Prelude.{◌≡◌, ◌↔◌, IsTrue};
-ghost use Rattle.sym_laws.specs.Expressions.{has_double as has_double_of, is_among as is_among_of, same_exp};
+ghost use Rattle.sym_parts.specs.Laws.Expressions.{has_double as has_double_of, is_among as is_among_of, same_exp};
 
 use shape_data::symbolic::Exp;
 

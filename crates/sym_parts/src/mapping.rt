@@ -1,7 +1,7 @@
 //! A function used on each expression of an atom, a fact, a heap, a state: substitutions, renamings and bindings are
-//! such functions. What the result means is said by the laws of `sym_laws::mapping`.
+//! such functions. What the result means is said by the laws of `crate::laws::mapping`.
 ghost use Rattle.std.specs.Prelude.{◌≡◌, IfOk, map};
-ghost use Rattle.sym_laws.specs.Mapped.{on_atom, on_fact, on_heap, on_post, on_state};
+ghost use Rattle.sym_parts.specs.Laws.Mapped.{on_atom, on_fact, on_heap, on_post, on_state};
 
 use shape_data::symbolic::{Atom, Exp, Fact, Post, SymHeap, SymState};
 use shape_data::{Row, copy_of};

@@ -1,7 +1,7 @@
 //! Whether a variable occurs.
 ghost use Rattle.std.specs.Prelude.{◌≡◌};
 ghost use Rattle.std.specs.List.{list_any};
-ghost use Rattle.sym_laws.specs.Fresh.{
+ghost use Rattle.sym_parts.specs.Laws.Fresh.{
   is_one_of as is_one_of_list,
   is_variable,
   occurs_in as occurs_in_heap_of,

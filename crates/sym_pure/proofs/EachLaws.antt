@@ -15,11 +15,11 @@ use Rattle.shape_data.specs.declared.symbolic.Exp.TheVariants.{Var, Const}
 use Rattle.shape_data.specs.declared.symbolic.Fact.{Fact}
 use Rattle.shape_data.specs.declared.symbolic.Fact.TheVariants.{Eq, Ne}
 use Rattle.shape_data.specs.declared.symbolic.SymState.{SymState}
-use Rattle.sym_laws.specs.Addresses.{addresses}
-use Rattle.sym_laws.specs.Each.{EachInAtom, EachInFact, EachInState}
-use Rattle.sym_laws.specs.Junks.{is_other}
-use Rattle.sym_laws.specs.Mapped.{on_atom}
-use Rattle.sym_laws.proofs.EachLemmas.{each-on_exps, each-on_atom}
+use Rattle.sym_parts.specs.Laws.Addresses.{addresses}
+use Rattle.sym_parts.specs.Laws.Each.{EachInAtom, EachInFact, EachInState}
+use Rattle.sym_parts.specs.Laws.Junks.{is_other}
+use Rattle.sym_parts.specs.Laws.Mapped.{on_atom}
+use Rattle.sym_parts.proofs.LawsLemmas.EachLemmas.{each-on_exps, each-on_atom}
 use Rattle.sym_pure.specs.declared.parts.Normal.{Normal}
 use Rattle.sym_pure.specs.declared.parts.Normal.TheVariants.{Is, Contradiction}
 use Rattle.sym_pure.specs.declared.parts.Settled.{Settled}

@@ -14,15 +14,15 @@ use Rattle.shape_data.specs.declared.symbolic.Exp.{Exp}
 use Rattle.shape_data.specs.declared.symbolic.Exp.TheVariants.{Const}
 use Rattle.shape_data.specs.Heap.{cell_at, IsSum}
 use Rattle.shape_data.specs.Meaning.{value, HoldsAtoms}
-use Rattle.shape_laws.proofs.Atoms.{HoldsAtoms-remove, HoldsAtoms-restore}
-use Rattle.shape_laws.proofs.Sums.{IsSum-empty_left}
-use Rattle.sym_laws.specs.Addresses.{address_of, addresses}
-use Rattle.sym_laws.specs.Expressions.{same_exp, is_among}
-use Rattle.sym_laws.specs.Mapped.{on_atom}
-use Rattle.sym_laws.proofs.AddressLemmas.{IsSum-not_both, IsHeap-not_zero, Seg-cases, address-owned, found_of_named}
-use Rattle.sym_laws.proofs.ExpressionLemmas.{same_exp-equal}
-use Rattle.sym_laws.proofs.MappedLemmas.{HoldsAtoms-mapped}
-use Rattle.sym_laws.proofs.SegmentLemmas.{segment_may_be_empty}
+use Rattle.sym_parts.proofs.ShapesLemmas.Atoms.{HoldsAtoms-remove, HoldsAtoms-restore}
+use Rattle.sym_parts.proofs.ShapesLemmas.Sums.{IsSum-empty_left}
+use Rattle.sym_parts.specs.Laws.Addresses.{address_of, addresses}
+use Rattle.sym_parts.specs.Laws.Expressions.{same_exp, is_among}
+use Rattle.sym_parts.specs.Laws.Mapped.{on_atom}
+use Rattle.sym_parts.proofs.LawsLemmas.AddressLemmas.{IsSum-not_both, IsHeap-not_zero, Seg-cases, address-owned, found_of_named}
+use Rattle.sym_parts.proofs.LawsLemmas.ExpressionLemmas.{same_exp-equal}
+use Rattle.sym_parts.proofs.LawsLemmas.MappedLemmas.{HoldsAtoms-mapped}
+use Rattle.sym_parts.proofs.LawsLemmas.SegmentLemmas.{segment_may_be_empty}
 use Rattle.sym_pure.specs.declared.parts.Settled.{Settled}
 use Rattle.sym_pure.specs.declared.parts.Solved.{Solved}
 use Rattle.sym_pure.specs.Emptying.{is_plain, is_empty, place_of_empty, settle_at, settle}

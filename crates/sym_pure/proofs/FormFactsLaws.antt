@@ -9,8 +9,8 @@ use Rattle.shape_data.specs.declared.symbolic.Exp.{Exp}
 use Rattle.shape_data.specs.declared.symbolic.Exp.TheVariants.{Var, Const}
 use Rattle.shape_data.specs.declared.symbolic.Fact.{Fact}
 use Rattle.shape_data.specs.declared.symbolic.Fact.TheVariants.{Eq, Ne}
-use Rattle.sym_laws.specs.Expressions.{same_exp}
-use Rattle.sym_laws.proofs.ExpressionLemmas.{same_exp-sym}
+use Rattle.sym_parts.specs.Laws.Expressions.{same_exp}
+use Rattle.sym_parts.proofs.LawsLemmas.ExpressionLemmas.{same_exp-sym}
 use Rattle.sym_pure.specs.declared.parts.Solved.{Solved}
 use Rattle.sym_pure.specs.Contradictions.{has_same_sides}
 use Rattle.sym_pure.specs.Emptying.{is_plain}

@@ -13,10 +13,10 @@ use Rattle.shape_data.specs.declared.symbolic.Exp.TheVariants.{Var, Const}
 use Rattle.shape_data.specs.declared.symbolic.Fact.{Fact}
 use Rattle.shape_data.specs.declared.symbolic.Fact.TheVariants.{Eq, Ne}
 use Rattle.shape_data.specs.declared.symbolic.SymState.{SymState}
-use Rattle.sym_laws.specs.Addresses.{addresses}
-use Rattle.sym_laws.specs.Expressions.{same_exp, is_among, has_double}
-use Rattle.sym_laws.specs.Junks.{is_junk, is_other}
-use Rattle.sym_laws.specs.Mapped.{on_atom}
+use Rattle.sym_parts.specs.Laws.Addresses.{addresses}
+use Rattle.sym_parts.specs.Laws.Expressions.{same_exp, is_among, has_double}
+use Rattle.sym_parts.specs.Laws.Junks.{is_junk, is_other}
+use Rattle.sym_parts.specs.Laws.Mapped.{on_atom}
 use Rattle.sym_pure.specs.declared.parts.Normal.{Normal}
 use Rattle.sym_pure.specs.declared.parts.Normal.TheVariants.{Is, Contradiction}
 use Rattle.sym_pure.specs.declared.parts.Settled.{Settled}

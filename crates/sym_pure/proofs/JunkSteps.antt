@@ -4,7 +4,7 @@ use Rattle.std.proofs.Common.{refl, ap, ◌∙◌}
 use Rattle.std.specs.List.{list_any}
 use Rattle.shape_data.specs.declared.symbolic.Atom.{Atom}
 use Rattle.shape_data.specs.declared.symbolic.Atom.TheVariants.{Points, Seg, Junk}
-use Rattle.sym_laws.specs.Junks.{is_junk, is_other}
+use Rattle.sym_parts.specs.Laws.Junks.{is_junk, is_other}
 use Rattle.sym_pure.specs.Redundancy.{one_junk, with_one_junk}
 
 -- behind a Junk

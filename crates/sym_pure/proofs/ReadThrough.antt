@@ -5,7 +5,7 @@ use Rattle.shape_data.specs.declared.symbolic.Exp.{Exp}
 use Rattle.shape_data.specs.declared.symbolic.Exp.TheVariants.{Var, Const}
 use Rattle.shape_data.specs.declared.symbolic.Fact.{Fact}
 use Rattle.shape_data.specs.declared.symbolic.Fact.TheVariants.{Eq, Ne}
-use Rattle.sym_laws.specs.Each.{EachInFact}
+use Rattle.sym_parts.specs.Laws.Each.{EachInFact}
 use Rattle.sym_pure.specs.Equations.{read_through, solved}
 
 solved-each : (P : Exp → Type 0) (x : ℕ) (facts : List Fact) → All (EachInFact P) facts → P (Var x) → P (solved facts x)

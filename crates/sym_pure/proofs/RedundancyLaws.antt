@@ -13,15 +13,15 @@ use Rattle.shape_data.specs.declared.symbolic.Exp.TheVariants.{Var, Const}
 use Rattle.shape_data.specs.declared.symbolic.Fact.{Fact}
 use Rattle.shape_data.specs.declared.symbolic.Fact.TheVariants.{Eq, Ne}
 use Rattle.shape_data.specs.Meaning.{value, AreTrueFacts, HoldsAtoms}
-use Rattle.shape_laws.proofs.Atoms.{HoldsAtoms-is_heap}
-use Rattle.shape_laws.proofs.Meets.{AreTrueFacts-append, AreTrueFacts-split}
-use Rattle.sym_laws.specs.Addresses.{address_of, addresses}
-use Rattle.sym_laws.specs.Expressions.{same_exp, is_among}
-use Rattle.sym_laws.specs.Orders.{SayTheSame}
-use Rattle.sym_laws.proofs.AddressLemmas.{IsHeap-not_zero, address-owned, found_of_named, apart_of_named}
-use Rattle.sym_laws.proofs.ExpressionLemmas.{same_exp-Decides, same_exp-equal, are_two-different}
-use Rattle.sym_laws.proofs.JunkLemmas.{one_junk_is_enough}
-use Rattle.sym_laws.proofs.OrderLemmas.{same-refl, same-cons}
+use Rattle.sym_parts.proofs.ShapesLemmas.Atoms.{HoldsAtoms-is_heap}
+use Rattle.sym_parts.proofs.ShapesLemmas.Meets.{AreTrueFacts-append, AreTrueFacts-split}
+use Rattle.sym_parts.specs.Laws.Addresses.{address_of, addresses}
+use Rattle.sym_parts.specs.Laws.Expressions.{same_exp, is_among}
+use Rattle.sym_parts.specs.Laws.Orders.{SayTheSame}
+use Rattle.sym_parts.proofs.LawsLemmas.AddressLemmas.{IsHeap-not_zero, address-owned, found_of_named, apart_of_named}
+use Rattle.sym_parts.proofs.LawsLemmas.ExpressionLemmas.{same_exp-Decides, same_exp-equal, are_two-different}
+use Rattle.sym_parts.proofs.LawsLemmas.JunkLemmas.{one_junk_is_enough}
+use Rattle.sym_parts.proofs.LawsLemmas.OrderLemmas.{same-refl, same-cons}
 use Rattle.sym_pure.specs.Contradictions.{has_same_sides}
 use Rattle.sym_pure.specs.Emptying.{is_plain}
 use Rattle.sym_pure.specs.Redundancy.{are_constants, is_redundant, with_needed, needed, one_junk}

@@ -16,10 +16,10 @@ use Rattle.shape_data.specs.declared.symbolic.Fact.TheVariants.{Eq, Ne}
 use Rattle.shape_data.specs.declared.symbolic.SymHeap.{SymHeap}
 use Rattle.shape_data.specs.Heap.{cell_at}
 use Rattle.shape_data.specs.Meaning.{value, AreTrueFacts, HoldsAtom, HoldsAtoms, Holds}
-use Rattle.shape_laws.proofs.Atoms.{HoldsAtoms-is_heap}
-use Rattle.sym_laws.specs.Expressions.{same_exp, is_among, are_two, has_double}
-use Rattle.sym_laws.proofs.AddressLemmas.{IsHeap-not_zero, Seg-cases, Points-found, found_of_named, apart_of_named, no_double_named}
-use Rattle.sym_laws.proofs.ExpressionLemmas.{same_exp-equal}
+use Rattle.sym_parts.proofs.ShapesLemmas.Atoms.{HoldsAtoms-is_heap}
+use Rattle.sym_parts.specs.Laws.Expressions.{same_exp, is_among, are_two, has_double}
+use Rattle.sym_parts.proofs.LawsLemmas.AddressLemmas.{IsHeap-not_zero, Seg-cases, Points-found, found_of_named, apart_of_named, no_double_named}
+use Rattle.sym_parts.proofs.LawsLemmas.ExpressionLemmas.{same_exp-equal}
 use Rattle.sym_pure.specs.Contradictions.{has_same_sides, do_sources_clash, has_clash}
 use Rattle.sym_pure.specs.Laws.{DiffersIsSound}
 use Rattle.sym_pure.specs.Sources.{are_unequal_constants, is_written, do_ends_differ, source_of, sources, is_zero_and_source, differs}

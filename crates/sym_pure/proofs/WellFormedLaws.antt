@@ -14,9 +14,9 @@ use Rattle.shape_data.specs.declared.symbolic.Fact.{Fact}
 use Rattle.shape_data.specs.declared.symbolic.Fact.TheVariants.{Eq, Ne}
 use Rattle.shape_data.specs.Heap.{struct_named}
 use Rattle.shape_data.specs.WellFormed.{Limits, IsExp, IsFact, IsAtom}
-use Rattle.sym_laws.specs.Each.{EachInAtom, EachInFact}
-use Rattle.sym_laws.specs.Mapped.{on_atom}
-use Rattle.sym_laws.proofs.EachLemmas.{each-on_exps}
+use Rattle.sym_parts.specs.Laws.Each.{EachInAtom, EachInFact}
+use Rattle.sym_parts.specs.Laws.Mapped.{on_atom}
+use Rattle.sym_parts.proofs.LawsLemmas.EachLemmas.{each-on_exps}
 use Rattle.sym_pure.specs.Laws.{FormIsWellFormed}
 use Rattle.sym_pure.proofs.EachLaws.{normal-each}
 use Rattle.sym_pure.proofs.PartsLaws.{form_has_no_more_parts}

@@ -4,7 +4,7 @@ use Rattle.shape_data.specs.declared.symbolic.Atom.{Atom}
 use Rattle.shape_data.specs.declared.symbolic.Exp.TheVariants.{Const}
 use Rattle.shape_data.specs.declared.symbolic.Fact.{Fact}
 use Rattle.shape_data.specs.declared.symbolic.Fact.TheVariants.{Eq, Ne}
-use Rattle.sym_laws.specs.Expressions.{same_exp, is_among, has_double}
+use Rattle.sym_parts.specs.Laws.Expressions.{same_exp, is_among, has_double}
 use Rattle.sym_pure.specs.Sources.{sources}
 
 -- a disequality of an expression and itself is written

@@ -7,9 +7,9 @@ use Rattle.shape_data.specs.declared.symbolic.Atom.{Atom}
 use Rattle.shape_data.specs.declared.symbolic.Atom.TheVariants.{Points, Seg, Junk}
 use Rattle.shape_data.specs.declared.symbolic.Exp.{Exp}
 use Rattle.shape_data.specs.declared.symbolic.Exp.TheVariants.{Const}
-use Rattle.sym_laws.specs.Addresses.{addresses}
-use Rattle.sym_laws.specs.Expressions.{same_exp, is_among}
-use Rattle.sym_laws.specs.Mapped.{on_atom}
+use Rattle.sym_parts.specs.Laws.Addresses.{addresses}
+use Rattle.sym_parts.specs.Laws.Expressions.{same_exp, is_among}
+use Rattle.sym_parts.specs.Laws.Mapped.{on_atom}
 use Rattle.sym_pure.specs.declared.parts.Settled.{Settled}
 use Rattle.sym_pure.specs.declared.parts.Solved.{Solved}
 use Rattle.sym_pure.specs.Solving.{read, unless_clash, with_equation}

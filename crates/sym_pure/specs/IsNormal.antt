@@ -9,8 +9,8 @@ use Rattle.shape_data.specs.declared.symbolic.Fact.{Fact}
 use Rattle.shape_data.specs.declared.symbolic.Fact.TheVariants.{Eq, Ne}
 use Rattle.shape_data.specs.declared.symbolic.SymHeap.{SymHeap}
 use Rattle.shape_data.specs.declared.symbolic.SymState.{SymState}
-use Rattle.sym_laws.specs.Addresses.{addresses}
-use Rattle.sym_laws.specs.Junks.{is_junk}
+use Rattle.sym_parts.specs.Laws.Addresses.{addresses}
+use Rattle.sym_parts.specs.Laws.Junks.{is_junk}
 use Rattle.sym_pure.specs.Contradictions.{has_clash}
 use Rattle.sym_pure.specs.Emptying.{is_empty}
 use Rattle.sym_pure.specs.Redundancy.{is_redundant}

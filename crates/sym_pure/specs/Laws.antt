@@ -7,7 +7,7 @@ use Rattle.shape_data.specs.declared.symbolic.SymHeap.{SymHeap}
 use Rattle.shape_data.specs.declared.symbolic.SymState.{SymState}
 use Rattle.shape_data.specs.Meaning.{value, Holds, MeetsState}
 use Rattle.shape_data.specs.WellFormed.{Limits, IsState}
-use Rattle.sym_laws.specs.Each.{EachInState}
+use Rattle.sym_parts.specs.Laws.Each.{EachInState}
 use Rattle.sym_pure.specs.declared.parts.Normal.{Normal}
 use Rattle.sym_pure.specs.declared.parts.Normal.TheVariants.{Is, Contradiction}
 use Rattle.sym_pure.specs.IsNormal.{is_normal}

@@ -6,8 +6,8 @@ use Rattle.shape_data.specs.declared.symbolic.Atom.{Atom}
 use Rattle.shape_data.specs.declared.symbolic.Fact.{Fact}
 use Rattle.shape_data.specs.declared.symbolic.Fact.TheVariants.{Eq, Ne}
 use Rattle.shape_data.specs.declared.symbolic.SymState.{SymState}
-use Rattle.sym_laws.specs.Addresses.{addresses}
-use Rattle.sym_laws.specs.Mapped.{on_atom}
+use Rattle.sym_parts.specs.Laws.Addresses.{addresses}
+use Rattle.sym_parts.specs.Laws.Mapped.{on_atom}
 use Rattle.sym_pure.specs.declared.parts.Normal.{Normal}
 use Rattle.sym_pure.specs.declared.parts.Normal.TheVariants.{Is, Contradiction}
 use Rattle.sym_pure.specs.declared.parts.Settled.{Settled}

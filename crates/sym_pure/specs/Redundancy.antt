@@ -6,7 +6,7 @@ use Rattle.shape_data.specs.declared.symbolic.Exp.{Exp}
 use Rattle.shape_data.specs.declared.symbolic.Exp.TheVariants.{Const}
 use Rattle.shape_data.specs.declared.symbolic.Fact.{Fact}
 use Rattle.shape_data.specs.declared.symbolic.Fact.TheVariants.{Eq, Ne}
-use Rattle.sym_laws.specs.Junks.{is_junk, is_other}
+use Rattle.sym_parts.specs.Laws.Junks.{is_junk, is_other}
 use Rattle.sym_pure.specs.Emptying.{is_plain}
 use Rattle.sym_pure.specs.Sources.{is_written}
 

@@ -11,7 +11,7 @@ use Rattle.shape_data.specs.declared.symbolic.Exp.TheVariants.{Const}
 use Rattle.shape_data.specs.declared.symbolic.Fact.{Fact}
 use Rattle.shape_data.specs.declared.symbolic.Fact.TheVariants.{Eq, Ne}
 use Rattle.shape_data.specs.declared.symbolic.SymHeap.{SymHeap}
-use Rattle.sym_laws.specs.Expressions.{same_exp, is_among, are_two}
+use Rattle.sym_parts.specs.Laws.Expressions.{same_exp, is_among, are_two}
 
 -- the two are unequal constants
 abbrev pub are_unequal_constants : Exp → Exp → Bool

@@ -1,9 +1,9 @@
 //! Segments that are known to be empty go, and their ends are equal.
 ghost use Rattle.std.specs.Prelude.{◌≡◌, ◌<◌, IfOk, IfSome, length, map, remove, slice_get};
 ghost use Rattle.std.specs.declared.option.Option.TheVariants.{Some};
-ghost use Rattle.sym_laws.specs.Addresses.{addresses};
-ghost use Rattle.sym_laws.specs.Expressions.{is_among};
-ghost use Rattle.sym_laws.specs.Mapped.{on_atom};
+ghost use Rattle.sym_parts.specs.Laws.Addresses.{addresses};
+ghost use Rattle.sym_parts.specs.Laws.Expressions.{is_among};
+ghost use Rattle.sym_parts.specs.Laws.Mapped.{on_atom};
 ghost use Rattle.sym_pure.specs.Emptying.{
   is_empty as is_empty_of,
   is_plain as is_plain_of,

@@ -1,5 +1,5 @@
 //! The pure part of the symbolic core: the normal form of a state, whether a state is normal, and what is known to
-//! differ. It stands on the laws of `sym_laws` and the shared code of `sym_parts`; that the meaning is kept, and
+//! differ. It stands on the shared code and the laws of `sym_parts`; that the meaning is kept, and
 //! what a form is, is said by the laws in [`laws`].
 #![tactic(auto)]
 

@@ -1,7 +1,7 @@
 //! Whether a state or a heap is normal, by a test that rewrites nothing and takes no memory.
 ghost use Rattle.std.specs.Prelude.{◌≡◌, ◌≤◌, []};
 ghost use Rattle.std.specs.List.{list_all, list_any};
-ghost use Rattle.sym_laws.specs.Addresses.{addresses};
+ghost use Rattle.sym_parts.specs.Laws.Addresses.{addresses};
 ghost use Rattle.sym_pure.specs.Emptying.{is_empty as is_empty_of};
 ghost use Rattle.sym_pure.specs.IsNormal.{
   are_in_order as are_in_order_of,

@@ -1,8 +1,8 @@
 //! What says nothing new goes.
 ghost use Rattle.std.specs.Prelude.{◌≡◌, ◌&&◌, ◌||◌, IfOk};
 ghost use Rattle.std.specs.List.{list_any};
-ghost use Rattle.sym_laws.specs.Addresses.{addresses};
-ghost use Rattle.sym_laws.specs.Junks.{is_junk as is_junk_of};
+ghost use Rattle.sym_parts.specs.Laws.Addresses.{addresses};
+ghost use Rattle.sym_parts.specs.Laws.Junks.{is_junk as is_junk_of};
 ghost use Rattle.sym_pure.specs.Emptying.{is_plain as is_plain_of};
 ghost use Rattle.sym_pure.specs.Redundancy.{
   are_constants as are_constants_of,

@@ -1,6 +1,6 @@
 //! The sources of a heap, and what is known to differ. Nothing here takes memory.
 ghost use Rattle.std.specs.Prelude.{◌≡◌};
-ghost use Rattle.sym_laws.specs.Expressions.{are_two as are_two_of, has_double as has_double_of, is_among as is_among_of};
+ghost use Rattle.sym_parts.specs.Laws.Expressions.{are_two as are_two_of, has_double as has_double_of, is_among as is_among_of};
 ghost use Rattle.sym_pure.specs.Sources.{
   are_unequal_constants as are_unequal_of,
   differs as differs_of,

@@ -12,8 +12,8 @@ use Rattle.shape_data.specs.declared.symbolic.Exp.TheVariants.{Var, Const}
 use Rattle.shape_data.specs.declared.symbolic.Fact.{Fact}
 use Rattle.shape_data.specs.declared.symbolic.Fact.TheVariants.{Eq, Ne}
 use Rattle.shape_data.specs.Meaning.{value, AreTrueFacts}
-use Rattle.sym_laws.specs.Each.{EachInFact}
-use Rattle.sym_laws.specs.Expressions.{same_exp}
+use Rattle.sym_parts.specs.Laws.Each.{EachInFact}
+use Rattle.sym_parts.specs.Laws.Expressions.{same_exp}
 use Rattle.sym_pure.specs.Contradictions.{has_same_sides}
 use Rattle.sym_pure.specs.IsNormal.{are_in_order, is_below, is_disequality, is_read, is_read_fact, is_solved_in}
 use Rattle.sym_samples.specs.Laws.{IsLow}

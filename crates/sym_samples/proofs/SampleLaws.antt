@@ -24,14 +24,14 @@ use Rattle.shape_data.specs.declared.symbolic.SymHeap.{SymHeap}
 use Rattle.shape_data.specs.Heap.{cell_at, put, struct_named, HasShape, IsHeap, IsSum}
 use Rattle.shape_data.specs.Meaning.{value, AreTrueFacts, HoldsAtoms, Meets}
 use Rattle.shape_data.specs.WellFormed.{IsAtom, Limits}
-use Rattle.shape_laws.proofs.Atoms.{HoldsAtoms-is_heap}
-use Rattle.shape_laws.proofs.Cells.{cell_at-put_other, IsHeap-put}
-use Rattle.shape_laws.proofs.Sums.{IsHeap-empty, IsSum-unit, IsSum-unit_right}
-use Rattle.sym_laws.specs.Expressions.{has_double, is_among, same_exp}
-use Rattle.sym_laws.specs.Addresses.{addresses}
-use Rattle.sym_laws.specs.Each.{EachInFact}
-use Rattle.sym_laws.proofs.CellLemmas.{put_is_sum}
-use Rattle.sym_laws.proofs.ExpressionLemmas.{same_exp-itself}
+use Rattle.sym_parts.proofs.ShapesLemmas.Atoms.{HoldsAtoms-is_heap}
+use Rattle.sym_parts.proofs.ShapesLemmas.Cells.{cell_at-put_other, IsHeap-put}
+use Rattle.sym_parts.proofs.ShapesLemmas.Sums.{IsHeap-empty, IsSum-unit, IsSum-unit_right}
+use Rattle.sym_parts.specs.Laws.Expressions.{has_double, is_among, same_exp}
+use Rattle.sym_parts.specs.Laws.Addresses.{addresses}
+use Rattle.sym_parts.specs.Laws.Each.{EachInFact}
+use Rattle.sym_parts.proofs.LawsLemmas.CellLemmas.{put_is_sum}
+use Rattle.sym_parts.proofs.LawsLemmas.ExpressionLemmas.{same_exp-itself}
 use Rattle.sym_pure.specs.Contradictions.{do_sources_clash, has_clash, has_same_sides}
 use Rattle.sym_pure.specs.IsNormal.{are_in_order, are_normal_atoms, are_normal_facts, has_redundant, has_two_junk, is_normal_heap, is_read}
 use Rattle.sym_pure.specs.IsNormal.{is_read_atom, is_read_fact}

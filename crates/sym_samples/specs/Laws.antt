@@ -10,7 +10,7 @@ use Rattle.shape_data.specs.declared.symbolic.SymHeap.{SymHeap}
 use Rattle.shape_data.specs.Meaning.{Meets}
 use Rattle.shape_data.specs.Heap.{struct_named}
 use Rattle.shape_data.specs.WellFormed.{IsSymHeap, Limits}
-use Rattle.sym_laws.specs.Each.{EachInFact}
+use Rattle.sym_parts.specs.Laws.Each.{EachInFact}
 use Rattle.sym_samples.specs.Samples.{has_sample, heap_of, number_of}
 
 -- the expression is a variable, or a constant below 2^32, as all 32-bit ones are

@@ -18,7 +18,7 @@ use Rattle.shape_data.specs.declared.symbolic.Fact.TheVariants.{Eq, Ne}
 use Rattle.shape_data.specs.declared.symbolic.SymHeap.{SymHeap}
 use Rattle.shape_data.specs.Heap.{put, struct_named}
 use Rattle.shape_data.specs.Meaning.{value}
-use Rattle.sym_laws.specs.Expressions.{has_double}
+use Rattle.sym_parts.specs.Laws.Expressions.{has_double}
 use Rattle.sym_pure.specs.IsNormal.{is_normal_heap}
 
 -- the sources of atoms: the addresses of cells and the starts of segments

@@ -1,7 +1,7 @@
 //! The numbers of variables and of expressions.
 ghost use Rattle.std.specs.Prelude.{◌≡◌, ◌+◌, ◌<◌, All, IfOk, map};
 ghost use Rattle.shape_data.specs.Meaning.{value};
-ghost use Rattle.sym_laws.specs.Each.{EachInFact};
+ghost use Rattle.sym_parts.specs.Laws.Each.{EachInFact};
 ghost use Rattle.sym_samples.specs.Laws.{IsLow};
 ghost use Rattle.sym_samples.specs.Samples.{number_of as number_of_variable, numbers_from as numbers_from_variable, plain as plain_of};
 

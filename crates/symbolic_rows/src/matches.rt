@@ -2,11 +2,11 @@
 use crate::rows::number;
 use crate::told::is_told;
 use abduction::{biabduce, biabduce_avoiding};
-use matching_steps::sizes::{are_small_variables, is_small_binding, is_within_sizes};
 use shape_data::Row;
 use shape_data::symbolic::{Exp, Fact, SymHeap};
 use std::alloc::Global;
 use subtraction::{subtract, subtract_avoiding};
+use sym_matching::renaming::sizes::{are_small_variables, is_small_binding, is_within_sizes};
 use sym_matching::{Abd, Sub};
 use worked_rows::Fault;
 use worked_rows::parts::{part, text};

@@ -6,11 +6,13 @@ use shape_data::Row;
 use shape_data::symbolic::{Exp, Post, SymHeap, SymState};
 use std::alloc::Global;
 use std::process::Abort;
+use sym_matching::renaming::new_variables::as_exps;
+use sym_matching::renaming::sizes::is_within_sizes;
+use sym_matching::renaming::variables::add_state;
+use sym_matching::renaming::{
+    Bound, bound_exp, called_pre, numbers_apart, post_in_caller, state_apart,
+};
 use sym_parts::map_heap;
-use sym_renaming::new_variables::as_exps;
-use sym_renaming::sizes::is_within_sizes;
-use sym_renaming::variables::add_state;
-use sym_renaming::{Bound, bound_exp, called_pre, numbers_apart, post_in_caller, state_apart};
 use worked_scopes::Scope;
 
 const X: Exp = Exp::Var(0);

@@ -13,20 +13,20 @@ use Rattle.shape_data.specs.declared.program.Node.{Node}
 use Rattle.shape_data.specs.declared.program.Program.{Program}
 use Rattle.shape_data.specs.declared.program.StructDef.{StructDef}
 use Rattle.shape_data.specs.WellFormed.{FitCalls, FitsCall, IsAnswer, IsCallee, IsFlow, IsKey, IsSummary, widest}
-use Rattle.shape_laws.proofs.StepsStacks.{All-at}
+use Rattle.sym_parts.proofs.ShapesLemmas.StepsStacks.{All-at}
 use Rattle.sound_laws.specs.Answers.{AreValidIn, StandsIn, callee_with, own_callees}
 use Rattle.sound_laws.proofs.AnswerLemmas.{each_own}
 use Rattle.sound_laws.proofs.ProcedureLemmas.{each_place}
 use Rattle.exec_laws.specs.declared.parts.Table.{Table}
 use Rattle.exec_laws.specs.Laws.{IsTableWithin, callees_of}
-use Rattle.certificate_laws.specs.declared.parts.Gap.{Gap}
-use Rattle.certificate_laws.specs.Gaps.{first_gap}
-use Rattle.certificate_laws.specs.Inductive.{Inductive, table_of, task_of}
-use Rattle.certificate_laws.specs.Limits.{analysable}
-use Rattle.certificate_laws.proofs.GapLaws.{no_gap}
-use Rattle.certificate_laws.proofs.LimitLaws as limits
-use Rattle.certificate_laws.proofs.SoundnessLaws.{fits-both, inductive_is_valid}
-use Rattle.certificate_laws.specs.Conditions.{IsTask}
+use Rattle.solve_laws.specs.declared.certificates.parts.Gap.{Gap}
+use Rattle.solve_laws.specs.Certificates.Gaps.{first_gap}
+use Rattle.solve_laws.specs.Certificates.Inductive.{Inductive, table_of, task_of}
+use Rattle.solve_laws.specs.Certificates.Limits.{analysable}
+use Rattle.solve_laws.proofs.CertificatesLemmas.GapLaws.{no_gap}
+use Rattle.solve_laws.proofs.CertificatesLemmas.LimitLaws as limits
+use Rattle.solve_laws.proofs.CertificatesLemmas.SoundnessLaws.{fits-both, inductive_is_valid}
+use Rattle.solve_laws.specs.Certificates.Conditions.{IsTask}
 
 module _ (key : Key) (answer : Answer) (is_key : IsKey analysable key) (is_answer : IsAnswer analysable key answer) where
   summary-of : (place : ℕ) (flow : Flow) (summary : ProcSummary) → slice_get key.procs place ≡ Some flow →

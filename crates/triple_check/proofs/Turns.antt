@@ -9,7 +9,7 @@ use Rattle.shape_data.specs.declared.answer.Callee.{Callee}
 use Rattle.shape_data.specs.declared.answer.ProcSummary.{ProcSummary}
 use Rattle.shape_data.specs.declared.program.Flow.{Flow}
 use Rattle.sound_laws.specs.Answers.{callee_with, own_callees}
-use Rattle.certificate_laws.specs.Gaps.{first_found}
+use Rattle.solve_laws.specs.Certificates.Gaps.{first_found}
 
 module _ {A B : Type 0} (search : ℕ → A → Option B) (things : List A) (place : ℕ) where
   found-more : (thing : A) → place < length things → thing ≡ slice_index_or things place thing →

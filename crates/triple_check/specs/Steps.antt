@@ -2,9 +2,9 @@
 use Rattle.std.specs.Prelude.{Bool}
 use Rattle.shape_data.specs.declared.symbolic.Post.{Post}
 use Rattle.shape_data.specs.declared.symbolic.Spec.{Spec}
-use Rattle.certificate_laws.specs.Coming.{normal_post}
-use Rattle.certificate_laws.specs.Coverings.{is_post_covered}
-use Rattle.certificate_laws.specs.Gaps.{passes}
+use Rattle.solve_laws.specs.Certificates.Coming.{normal_post}
+use Rattle.solve_laws.specs.Certificates.Coverings.{is_post_covered}
+use Rattle.solve_laws.specs.Certificates.Gaps.{passes}
 
 -- whether a post of the spec covers an exit, in normal form
 abbrev pub do_posts_cover : Spec → Post → Bool

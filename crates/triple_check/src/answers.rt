@@ -3,19 +3,19 @@ ghost use Rattle.std.specs.Prelude.{◌≡◌, ◌↔◌, length, IfOk, IsTrue};
 ghost use Rattle.shape_data.specs.declared.program.Program.{Program};
 ghost use Rattle.shape_data.specs.WellFormed.{IsAnswer, IsKey};
 ghost use Rattle.sound_laws.specs.Answers.{AreValidIn, StandsIn, own_callees as own_callees_of};
-ghost use Rattle.certificate_laws.specs.Gaps.{first_gap as first_gap_of, summary_gap as summary_gap_of};
-ghost use Rattle.certificate_laws.specs.Inductive.{Inductive, table_of as table_of_answer};
-ghost use Rattle.certificate_laws.specs.Limits.{analysable};
-ghost use Rattle.certificate_laws.specs.Conditions.{IsTask, IsTaskSummary};
+ghost use Rattle.solve_laws.specs.Certificates.Gaps.{first_gap as first_gap_of, summary_gap as summary_gap_of};
+ghost use Rattle.solve_laws.specs.Certificates.Inductive.{Inductive, table_of as table_of_answer};
+ghost use Rattle.solve_laws.specs.Certificates.Limits.{analysable};
+ghost use Rattle.solve_laws.specs.Certificates.Conditions.{IsTask, IsTaskSummary};
 ghost use Rattle.certificate_steps.specs.InTask.{task_in};
 
 use crate::gaps::spec_gap;
-use certificate_laws::{Gap, SpecGap};
 use certificate_steps::Task;
 use exec_laws::Table;
 use shape_data::answer::{Answer, Callee, Key, ProcSummary};
 use shape_data::program::Flow;
 use shape_data::{Row, copy_of};
+use solve_laws::certificates::{Gap, SpecGap};
 use std::alloc::{AllocError, Global};
 
 /// A procedure with the specs of its summary, as a callee.

@@ -3,8 +3,8 @@ ghost use Rattle.std.specs.Prelude.{◌≡◌, false, All, IfOk};
 ghost use Rattle.std.specs.List.{list_all};
 ghost use Rattle.std.specs.declared.option.Option.TheVariants.{Some};
 ghost use Rattle.sound_laws.specs.Certificates.{states_at};
-ghost use Rattle.certificate_laws.specs.Coverings.{is_covered as is_covered_by};
-ghost use Rattle.certificate_laws.specs.Gaps.{
+ghost use Rattle.solve_laws.specs.Certificates.Coverings.{is_covered as is_covered_by};
+ghost use Rattle.solve_laws.specs.Certificates.Gaps.{
   first_found,
   is_exit_covered as is_exit_covered_by,
   is_next_covered as is_next_covered_by,
@@ -15,7 +15,7 @@ ghost use Rattle.certificate_laws.specs.Gaps.{
   step_gap as step_gap_of,
   uncovered_unless,
 };
-ghost use Rattle.certificate_laws.specs.Conditions.{
+ghost use Rattle.solve_laws.specs.Certificates.Conditions.{
   AreNexts,
   IsGivenState,
   IsGivenStep,
@@ -28,7 +28,6 @@ ghost use Rattle.certificate_laws.specs.Conditions.{
 ghost use Rattle.certificate_steps.specs.InTask.{task_in};
 ghost use Rattle.triple_check.specs.Steps.{do_posts_cover as posts_cover_by};
 
-use certificate_laws::SpecGap;
 use certificate_steps::Task;
 use certificate_steps::coming::{
     at_exit, at_node, line_at, normal_post, normal_state, start_at_node,
@@ -37,6 +36,7 @@ use certificate_steps::coverings::{is_covered, is_post_covered};
 use exec_laws::Step;
 use shape_data::answer::Fault;
 use shape_data::symbolic::{Cert, Post, Spec, SymState};
+use solve_laws::certificates::SpecGap;
 use std::alloc::{AllocError, Global};
 use sym_exec::exec;
 

@@ -6,7 +6,7 @@ use Rattle.std.specs.List.{AllZip, cons_option, filter, filter_map, list_any, ra
 use Rattle.shape_data.specs.declared.answer.Answer.{Answer}
 use Rattle.shape_data.specs.declared.answer.Callee.{Callee}
 use Rattle.shape_data.specs.declared.answer.Key.{Key}
-use Rattle.shape_laws.proofs.StepsStacks.{within-some}
+use Rattle.sym_parts.proofs.ShapesLemmas.StepsStacks.{within-some}
 use Rattle.component_keys.specs.Keys.{Outer, key_over, names_of, program_components}
 use Rattle.component_keys.specs.Tests.{key_test}
 use Rattle.component_keys.proofs.Basics.{mapped_some, not_none, some_same}

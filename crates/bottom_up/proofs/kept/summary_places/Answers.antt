@@ -2,7 +2,7 @@
 use Rattle.std.proofs.Common.{◌≡◌, ◌∙◌, All, IsSome, ap, filter_map, map, subst, sym}
 use Rattle.std.proofs.lemmas.Result.{IfOk-weaker}
 use Rattle.shape_data.specs.declared.program.Proc.{Proc}
-use Rattle.certificate_laws.specs.Limits.{analysable}
+use Rattle.solve_laws.specs.Certificates.Limits.{analysable}
 use Rattle.bottom_up.specs.BottomUp.{known_by, summaries_for}
 use Rattle.bottom_up.specs.declared.places.Place.{Place}
 use Rattle.bottom_up.specs.Placed.{answers_kept, summary_among, summary_in}

@@ -1,5 +1,5 @@
 use Rattle.std.proofs.Common.{◌≡◌}
-use Rattle.c_tokens.specs.declared.fault.ReadFault.TheVariants.{OutOfMemory}
+use Rattle.c_grammar.specs.declared.tokens.fault.ReadFault.TheVariants.{OutOfMemory}
 use Rattle.c_grammar.specs.Placeless.{placeless}
 use Rattle.c_tree.specs.Syntax.{unit_tree}
 use Rattle.c_front.proofs.Exits.{err_is, ok_never, no_tokens, unit_of_text, fault_of_text, spelled, printed, same_tree}

@@ -1,5 +1,5 @@
 use Rattle.std.proofs.Common.{ℕ, length, sym, subst}
-use Rattle.c_tokens.specs.declared.places.Place.{Place}
+use Rattle.c_grammar.specs.declared.tokens.places.Place.{Place}
 use Rattle.c_grammar.specs.Trees.{Stmts}
 use Rattle.c_lower_rules.specs.Contexts.{at_place}
 use Rattle.c_lower_rules.specs.Temporaries.{released}

@@ -1,7 +1,7 @@
 use Rattle.std.proofs.Common.{◌≡◌, ◌<◌, ◌+◌, ℕ, None, Some, length, map, take, option_map, refl, sym, ap, ◌∙◌, subst, rules}
 use Rattle.std.proofs.lemmas.Result.{IfOk-weaker}
 use Rattle.c_grammar.specs.Trees as tree
-use Rattle.c_tokens.specs.declared.places.Place.{Place}
+use Rattle.c_grammar.specs.declared.tokens.places.Place.{Place}
 use Rattle.c_tree.specs.declared.stmts.Stmt.TheViews.{If}
 use Rattle.c_tree.specs.Syntax.{stmt_tree, stmts_of, stmts_tree, expr_tree, simple_tree, for_step_tree, local_tree, init_tree}
 use Rattle.c_tree.proofs.Branches.{if_else}

@@ -4,7 +4,7 @@ use Rattle.std.proofs.lemmas.Result.{IfOk-weaker, IfErr-weaker}
 use Rattle.c_grammar.specs.Readers.{read_file}
 use Rattle.c_tree.specs.Syntax.{unit_tree}
 use Rattle.c_parse_exprs.specs.Reads.{Halts}
-use Rattle.c_grammar.proofs.Tokens.{file_spells}
+use Rattle.c_grammar.proofs.TokenWords.{file_spells}
 use Rattle.c_parse.proofs.Whole.{fault_is_told, spelled_lacks_memory}
 use Rattle.c_parse.proofs.file.parse.Goals as goal
 

@@ -1,5 +1,5 @@
 use Rattle.std.proofs.Common.{Bool, not, ap, ◌∙◌}
-use Rattle.c_tokens.specs.declared.places.Place.{Place}
+use Rattle.c_grammar.specs.declared.tokens.places.Place.{Place}
 use Rattle.c_types_rules.specs.Types.{unless, LEFT_OUT}
 use Rattle.c_types_rules.specs.Tables.{may_be_object}
 use Rattle.c_types_rules.specs.Items.{is_hidden_by}

@@ -1,6 +1,6 @@
 use Rattle.std.proofs.Common.{◌≡◌, ◌+◌, ◌<◌, ◌++◌, List, false, length, drop, sym, ap, ◌∙◌, rules}
 use Rattle.std.proofs.lemmas.List.{at_drop_more, at_drop_all}
-use Rattle.c_tokens.specs.declared.places.Refusal.{Refusal}
+use Rattle.c_grammar.specs.declared.tokens.places.Refusal.{Refusal}
 use Rattle.c_types_rules.specs.Types.{unless, CLASH}
 use Rattle.c_tree.specs.declared.exprs.Expr.{Expr}
 use Rattle.c_tree.specs.declared.exprs.Link.{Link}

@@ -2,10 +2,10 @@ use Rattle.std.specs.Prelude.{◌≡◌, IfSome}
 use Rattle.std.specs.declared.option.Option.{Option}
 use Rattle.std.proofs.lemmas.Result.{IfOk-weaker}
 use Rattle.shape_data.specs.declared.symbolic.Post.{Post}
-use Rattle.certificate_laws.specs.Coming as coming
-use Rattle.certificate_laws.specs.Conditions.{IsTaskPost}
+use Rattle.solve_laws.specs.Certificates.Coming as coming
+use Rattle.solve_laws.specs.Certificates.Conditions.{IsTaskPost}
 use Rattle.certificate_steps.specs.InTask.{task_in}
-use Rattle.certificate_laws.proofs.GivenLaws.{exit-given, post-room}
+use Rattle.solve_laws.proofs.CertificatesLemmas.GivenLaws.{exit-given, post-room}
 use Rattle.certificate_steps.proofs.coming.at_exit.Goals as goal
 
 pub abstract_exit-requires-clause-sizes : goal.abstract_exit-requires-clause-sizes

@@ -3,9 +3,9 @@ use Rattle.std.specs.declared.option.Option.{Option}
 use Rattle.std.proofs.lemmas.Result.{IfOk-weaker}
 use Rattle.shape_data.specs.declared.symbolic.SymState.{SymState}
 use Rattle.abstraction_laws.specs.Heads.{abstract_head}
-use Rattle.certificate_laws.specs.Conditions.{IsTaskState}
+use Rattle.solve_laws.specs.Certificates.Conditions.{IsTaskState}
 use Rattle.certificate_steps.specs.InTask.{task_in}
-use Rattle.certificate_laws.proofs.GivenLaws.{head-given, state-room}
+use Rattle.solve_laws.proofs.CertificatesLemmas.GivenLaws.{head-given, state-room}
 use Rattle.certificate_steps.proofs.coming.at_node.Goals as goal
 
 pub abstract_head-requires-clause-sizes : goal.abstract_head-requires-clause-sizes

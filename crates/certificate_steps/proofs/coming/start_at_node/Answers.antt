@@ -3,9 +3,9 @@ use Rattle.std.specs.declared.option.Option.{Option}
 use Rattle.std.specs.declared.option.Option.TheVariants.{Some}
 use Rattle.std.proofs.Common.{rules}
 use Rattle.shape_data.specs.declared.symbolic.SymState.{SymState}
-use Rattle.certificate_laws.specs.Coming.{start_form}
+use Rattle.solve_laws.specs.Certificates.Coming.{start_form}
 use Rattle.certificate_steps.specs.InTask.{task_in}
-use Rattle.certificate_laws.proofs.GivenLaws.{start-given}
+use Rattle.solve_laws.proofs.CertificatesLemmas.GivenLaws.{start-given}
 use Rattle.certificate_steps.proofs.coming.start_at_node.Goals as goal
 
 pub at_node-requires-clause-state : goal.at_node-requires-clause-state

@@ -2,8 +2,8 @@ use Rattle.std.specs.Prelude.{◌≡◌, ◌↔◌, Bool, IsTrue}
 use Rattle.std.proofs.lemmas.Bool.Decides.{same_from_decides}
 use Rattle.std.proofs.lemmas.Result.{IfOk-weaker}
 use Rattle.sym_matching.specs.Covers.{PostCovers}
-use Rattle.certificate_laws.specs.Coverings.{covers_post}
-use Rattle.certificate_laws.proofs.CoveringLaws.{covers_post-Decides}
+use Rattle.solve_laws.specs.Certificates.Coverings.{covers_post}
+use Rattle.solve_laws.proofs.CertificatesLemmas.CoveringLaws.{covers_post-Decides}
 use Rattle.certificate_steps.proofs.coverings.covers_post.Goals as goal
 
 pub returns : goal.returns

@@ -2,8 +2,8 @@ use Rattle.std.specs.Prelude.{◌≡◌, ◌↔◌, Bool, IsTrue}
 use Rattle.std.proofs.lemmas.Bool.Decides.{same_from_decides}
 use Rattle.std.proofs.lemmas.Result.{IfOk-weaker}
 use Rattle.sym_matching.specs.Covers.{StateCovers}
-use Rattle.certificate_laws.specs.Coverings.{covers_state}
-use Rattle.certificate_laws.proofs.CoveringLaws.{covers_state-Decides}
+use Rattle.solve_laws.specs.Certificates.Coverings.{covers_state}
+use Rattle.solve_laws.proofs.CertificatesLemmas.CoveringLaws.{covers_state-Decides}
 use Rattle.certificate_steps.proofs.coverings.covers_state.Goals as goal
 
 pub returns : goal.returns

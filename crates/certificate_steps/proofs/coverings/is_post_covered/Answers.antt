@@ -1,6 +1,6 @@
 use Rattle.std.specs.Prelude.{◌≡◌, true, false}
 use Rattle.std.proofs.Common.{rules}
-use Rattle.certificate_laws.specs.Coverings.{covers_post, is_post_covered}
+use Rattle.solve_laws.specs.Certificates.Coverings.{covers_post, is_post_covered}
 use Rattle.certificate_steps.proofs.Turns.{any-here, any-later}
 use Rattle.certificate_steps.proofs.coverings.is_post_covered.Goals as goal
 

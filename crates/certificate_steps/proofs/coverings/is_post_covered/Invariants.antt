@@ -1,5 +1,5 @@
 use Rattle.std.proofs.Common.{◌≡◌, drop}
-use Rattle.certificate_laws.specs.Coverings.{is_post_covered}
+use Rattle.solve_laws.specs.Certificates.Coverings.{is_post_covered}
 use Rattle.certificate_steps.proofs.coverings.is_post_covered.Given as goal
 
 abbrev pub invariant-loop-cover : goal.invariant-loop-cover

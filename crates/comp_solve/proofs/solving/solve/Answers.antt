@@ -1,8 +1,8 @@
 use Rattle.std.proofs.Common.{sym, subst, All}
 use Rattle.shape_data.specs.declared.answer.Answer.{Answer}
 use Rattle.shape_data.specs.WellFormed.{HasReason, IsAnswer}
-use Rattle.certificate_laws.specs.Inductive.{Inductive}
-use Rattle.certificate_laws.specs.Limits.{analysable}
+use Rattle.solve_laws.specs.Certificates.Inductive.{Inductive}
+use Rattle.solve_laws.specs.Certificates.Limits.{analysable}
 use Rattle.comp_solve.proofs.LoopLaws.{solved}
 use Rattle.comp_solve.proofs.solving.solve.Goals as goal
 

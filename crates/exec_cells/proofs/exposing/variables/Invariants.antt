@@ -1,6 +1,6 @@
 use Rattle.std.proofs.Common.{◌≡◌, ◌+◌, ◌-◌, ◌++◌, map}
 use Rattle.shape_data.specs.declared.symbolic.Exp.TheVariants.{Var}
-use Rattle.sym_renaming.specs.Calls.{variables_from}
+use Rattle.sym_matching.specs.Renaming.Calls.{variables_from}
 use Rattle.exec_cells.proofs.exposing.variables.Given as goal
 
 abbrev pub invariant-loop-turn : goal.invariant-loop-turn

@@ -2,8 +2,8 @@ use Rattle.std.proofs.Common.{◌≡◌, ◌∙◌, ◌++◌, [], ◌∷◌, len
 use Rattle.std.proofs.lemmas.Result.{IfOk-weaker}
 use Rattle.shape_data.specs.declared.machine.Stepped.{Stepped}
 use Rattle.shape_data.specs.Machine.{step}
-use Rattle.shape_laws.specs.Steps.{IsStepOf}
-use Rattle.shape_laws.proofs.StepsKept.{step_is_never_stuck}
+use Rattle.sym_parts.specs.Shapes.Steps.{IsStepOf}
+use Rattle.sym_parts.proofs.ShapesLemmas.StepsKept.{step_is_never_stuck}
 use Rattle.heap_run.proofs.Stacks.{top_fits, proc_within, proc_is, node_is, node_fits, step_is}
 use Rattle.heap_run.proofs.steps.step.Goals as goal
 

@@ -3,7 +3,7 @@ use Rattle.std.proofs.Common.{◌≡◌, ◌∙◌, ap}
 use Rattle.std.proofs.lemmas.Result.{IfOk-weaker}
 use Rattle.sym_matching.specs.Reading.{read}
 use Rattle.sym_matching.specs.WantedSegments.{want_segment}
-use Rattle.matching_steps.specs.InSetting.{rules_in}
+use Rattle.sym_matching.specs.RuleSteps.InSetting.{rules_in}
 use Rattle.matching.proofs.atoms.want_atom.Goals as goal
 
 pub returns-in-Points : goal.returns-in-Points

@@ -1,6 +1,6 @@
 -- Each turn is one of the definition.
 use Rattle.std.proofs.Common.{◌∙◌, ◌<◌, length, sym, arith}
-use Rattle.matching_steps.specs.InSetting.{rules_in}
+use Rattle.sym_matching.specs.RuleSteps.InSetting.{rules_in}
 use Rattle.matching.proofs.AtomTurns.{atoms_go, atoms_stop}
 use Rattle.matching.proofs.atoms.want_atoms.Goals as goal
 

@@ -2,7 +2,7 @@ use Rattle.std.proofs.Common.{◌≡◌, ◌+◌, ◌-◌, ◌<◌, length}
 use Rattle.sym_matching.specs.NewVariables.{HasRoom}
 use Rattle.sym_matching.specs.Rooms.{fields_wanted, names_wanted}
 use Rattle.sym_matching.specs.WantedAtoms.{want_atoms}
-use Rattle.matching_steps.specs.InSetting.{rules_with}
+use Rattle.sym_matching.specs.RuleSteps.InSetting.{rules_with}
 use Rattle.matching.proofs.atoms.want_atoms.Given as goal
 
 abbrev pub invariant-loop-done : goal.invariant-loop-done

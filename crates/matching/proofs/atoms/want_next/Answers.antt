@@ -6,7 +6,7 @@ use Rattle.sym_matching.specs.declared.matching.Turned.TheVariants.{On}
 use Rattle.sym_matching.specs.NewVariables.{HasRoom}
 use Rattle.sym_matching.specs.Rooms.{fields_wanted, names_wanted}
 use Rattle.sym_matching.specs.WantedAtoms.{want_atom}
-use Rattle.matching_steps.specs.InSetting.{rules_in}
+use Rattle.sym_matching.specs.RuleSteps.InSetting.{rules_in}
 use Rattle.matching.proofs.AtomTurns.{first_names, first_room, later_names, later_room}
 use Rattle.matching.proofs.atoms.want_next.Goals as goal
 

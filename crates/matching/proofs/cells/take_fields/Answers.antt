@@ -1,6 +1,6 @@
 -- Where no more fields are there, all is done.
 use Rattle.std.proofs.Common.{◌∙◌, ◌≤◌, sym, length, drop}
-use Rattle.matching_steps.specs.InSetting.{rules_in}
+use Rattle.sym_matching.specs.RuleSteps.InSetting.{rules_in}
 use Rattle.matching.proofs.FieldTurns.{fields_end}
 use Rattle.matching.proofs.cells.take_fields.Goals as goal
 

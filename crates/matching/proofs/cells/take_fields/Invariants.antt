@@ -1,6 +1,6 @@
 use Rattle.std.proofs.Common.{◌≡◌, drop}
 use Rattle.sym_matching.specs.WantedCells.{take_fields}
-use Rattle.matching_steps.specs.InSetting.{rules_with}
+use Rattle.sym_matching.specs.RuleSteps.InSetting.{rules_with}
 use Rattle.matching.proofs.cells.take_fields.Given as goal
 
 abbrev pub invariant-loop-place : goal.invariant-loop-place

@@ -1,6 +1,6 @@
 use Rattle.std.proofs.Common.{◌≡◌, ◌+◌, drop}
 use Rattle.sym_matching.specs.WantedFacts.{want_facts}
-use Rattle.matching_steps.specs.InSetting.{rules_with}
+use Rattle.sym_matching.specs.RuleSteps.InSetting.{rules_with}
 use Rattle.matching.proofs.facts.want_facts.Given as goal
 
 abbrev pub invariant-loop-fact : goal.invariant-loop-fact

@@ -3,7 +3,7 @@ use Rattle.std.proofs.Common.{◌≡◌, ◌∙◌}
 use Rattle.std.proofs.lemmas.Result.{IfOk-weaker}
 use Rattle.sym_matching.specs.declared.matching.Turned.TheVariants.{On}
 use Rattle.sym_matching.specs.Matches.{answer_abd, matching, rules_of}
-use Rattle.matching_steps.specs.InSetting.{rules_with}
+use Rattle.sym_matching.specs.RuleSteps.InSetting.{rules_with}
 use Rattle.matching.proofs.MatchSteps.{answered, arguments-names, start-next, start-used}
 use Rattle.matching.proofs.SmallLaws.{arguments-room}
 use Rattle.matching.proofs.matches.find.Goals as goal

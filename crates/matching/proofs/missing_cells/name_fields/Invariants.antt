@@ -1,6 +1,6 @@
 use Rattle.std.proofs.Common.{◌≡◌, ◌+◌, ◌-◌, ◌<◌, drop, length}
 use Rattle.sym_matching.specs.WantedCells.{name_fields}
-use Rattle.matching_steps.specs.InSetting.{rules_with}
+use Rattle.sym_matching.specs.RuleSteps.InSetting.{rules_with}
 use Rattle.matching.proofs.missing_cells.name_fields.Given as goal
 
 abbrev pub invariant-loop-want : goal.invariant-loop-want

@@ -6,7 +6,7 @@ use Rattle.shape_data.specs.declared.symbolic.Fact.TheVariants.{Ne}
 use Rattle.sym_matching.specs.declared.matching.Turned.TheVariants.{On}
 use Rattle.sym_matching.specs.Steps.{miss_fact}
 use Rattle.sym_matching.specs.WantedCells.{take_parted, take_unfolded}
-use Rattle.matching_steps.specs.InSetting.{rules_in}
+use Rattle.sym_matching.specs.RuleSteps.InSetting.{rules_in}
 use Rattle.matching.proofs.CellTurns.{not_parted, parted_goes, parted_stops, stands_there}
 use Rattle.matching.proofs.missing_cells.take_parted.Goals as goal
 

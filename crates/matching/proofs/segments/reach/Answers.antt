@@ -2,7 +2,7 @@
 use Rattle.std.proofs.Common.{◌≡◌, ◌∙◌, Some, None}
 use Rattle.std.proofs.lemmas.Result.{IfOk-weaker}
 use Rattle.sym_matching.specs.WantedSegments.{bind_end, piece, reach}
-use Rattle.matching_steps.specs.InSetting.{rules_in}
+use Rattle.sym_matching.specs.RuleSteps.InSetting.{rules_in}
 use Rattle.matching.proofs.WalkTurns.{reach_ends, reach_goes}
 use Rattle.matching.proofs.segments.reach.Goals as goal
 

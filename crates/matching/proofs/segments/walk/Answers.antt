@@ -1,9 +1,9 @@
 -- Each turn is one of the definition.
 use Rattle.std.proofs.Common.{◌≡◌, ◌∙◌, ◌<◌, length, true, false, sym, Some, None, arith}
 use Rattle.std.proofs.lemmas.Result.{IfOk-weaker}
-use Rattle.sym_laws.specs.Expressions.{same_exp}
+use Rattle.sym_parts.specs.Laws.Expressions.{same_exp}
 use Rattle.sym_matching.specs.WantedSegments.{miss_segment, piece, walk}
-use Rattle.matching_steps.specs.InSetting.{rules_in}
+use Rattle.sym_matching.specs.RuleSteps.InSetting.{rules_in}
 use Rattle.matching.proofs.WalkTurns.{walk_arrives, walk_stops, walk_goes}
 use Rattle.matching.proofs.segments.walk.Goals as goal
 

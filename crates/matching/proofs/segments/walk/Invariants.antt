@@ -1,6 +1,6 @@
 use Rattle.std.proofs.Common.{◌≡◌, ◌-◌, length}
 use Rattle.sym_matching.specs.WantedSegments.{walk}
-use Rattle.matching_steps.specs.InSetting.{rules_with}
+use Rattle.sym_matching.specs.RuleSteps.InSetting.{rules_with}
 use Rattle.matching.proofs.segments.walk.Given as goal
 
 abbrev pub invariant-loop-done : goal.invariant-loop-done

@@ -1,5 +1,5 @@
 use Rattle.std.proofs.Common.{◌≡◌, drop}
-use Rattle.annotation_laws.specs.Annotation.{kept}
+use Rattle.solve_laws.specs.Annotation.Annotation.{kept}
 use Rattle.post_gen.proofs.annotating.kept.Given as goal
 
 abbrev pub invariant-loop-place : goal.invariant-loop-place

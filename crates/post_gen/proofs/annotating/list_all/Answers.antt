@@ -1,7 +1,7 @@
 use Rattle.std.specs.Prelude.{◌≡◌}
 use Rattle.std.proofs.Common.{rules}
-use Rattle.annotation_laws.specs.Annotation.{annotate, started, turns}
-use Rattle.annotation_laws.specs.Listing.{Course, Ends, Goes}
+use Rattle.solve_laws.specs.Annotation.Annotation.{annotate, started, turns}
+use Rattle.solve_laws.specs.Annotation.Listing.{Course, Ends, Goes}
 use Rattle.post_gen.specs.InListing.{annotated_by, listing_in}
 use Rattle.post_gen.proofs.Queueing.{start-ended, start-more}
 use Rattle.certificate_steps.specs.InTask.{task_in}

@@ -3,7 +3,7 @@ use Rattle.std.proofs.Common.{sym, subst, rules}
 use Rattle.std.proofs.lemmas.Bool.{ltb-false}
 use Rattle.std.proofs.lemmas.List.Elements.{All-same}
 use Rattle.subtraction.specs.Conditions.{IsPostWithinSizes}
-use Rattle.annotation_laws.specs.Listing.{parts_of}
+use Rattle.solve_laws.specs.Annotation.Listing.{parts_of}
 use Rattle.certificate_steps.specs.InTask.{task_in}
 use Rattle.certificate_steps.proofs.SizeLaws.{post-sizes}
 use Rattle.post_gen.specs.Conditions.{IsListing}

@@ -1,4 +1,4 @@
-use Rattle.annotation_laws.specs.Annotation.{post_comes}
+use Rattle.solve_laws.specs.Annotation.Annotation.{post_comes}
 use Rattle.post_gen.proofs.Coming.{ComesUpTo}
 use Rattle.post_gen.specs.InListing.{listing_in}
 use Rattle.certificate_steps.specs.InTask.{task_in}

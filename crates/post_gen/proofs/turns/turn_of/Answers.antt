@@ -1,7 +1,7 @@
 use Rattle.std.specs.Prelude.{◌≡◌}
 use Rattle.std.proofs.Common.{rules}
-use Rattle.certificate_laws.specs.Inductive.{execution}
-use Rattle.certificate_laws.proofs.GivenLaws.{step-given, step-within}
+use Rattle.solve_laws.specs.Certificates.Inductive.{execution}
+use Rattle.solve_laws.proofs.CertificatesLemmas.GivenLaws.{step-given, step-within}
 use Rattle.certificate_steps.specs.InTask.{task_in}
 use Rattle.post_gen.proofs.turns.turn_of.Goals as goal
 

@@ -1,7 +1,7 @@
 use Rattle.std.specs.Prelude.{◌≡◌, suc, ◌+◌, ◌-◌}
 use Rattle.std.proofs.Common.{arith, rules}
-use Rattle.annotation_laws.specs.Annotation.{turn_of, turns}
-use Rattle.annotation_laws.specs.Listing.{Course, Ends, Goes}
+use Rattle.solve_laws.specs.Annotation.Annotation.{turn_of, turns}
+use Rattle.solve_laws.specs.Annotation.Listing.{Course, Ends, Goes}
 use Rattle.post_gen.specs.InListing.{annotated_by, listing_in}
 use Rattle.post_gen.proofs.ListingLaws.{rest-given}
 use Rattle.post_gen.proofs.Queueing.{taken, turn-ended, turn-more}

@@ -1,11 +1,11 @@
 -- Nothing is missing.
 use Rattle.std.proofs.Common.{◌≡◌, ◌∙◌, ap}
 use Rattle.std.proofs.lemmas.Result.{IfOk-weaker}
-use Rattle.shape_laws.specs.Symbolic.{emp}
+use Rattle.sym_parts.specs.Shapes.Symbolic.{emp}
 use Rattle.sym_canon.specs.declared.parts.Pair.{Pair}
 use Rattle.sym_canon.specs.Canonical.{canon_pair}
 use Rattle.certificate_steps.specs.InTask.{task_in}
-use Rattle.candidate_laws.specs.Coming.{start_pair}
+use Rattle.solve_laws.specs.Candidates.Coming.{start_pair}
 use Rattle.pre_gen.proofs.coming.start_pair.Goals as goal
 
 pub returns : goal.returns

@@ -3,11 +3,11 @@ use Rattle.std.specs.declared.option.Option.{Option}
 use Rattle.std.specs.declared.option.Option.TheVariants.{Some}
 use Rattle.std.proofs.Common.{rules, subst, sym}
 use Rattle.shape_data.specs.declared.symbolic.SymState.{SymState}
-use Rattle.shape_laws.specs.Symbolic.{emp}
-use Rattle.certificate_laws.specs.Coming.{start_form}
+use Rattle.sym_parts.specs.Shapes.Symbolic.{emp}
+use Rattle.solve_laws.specs.Certificates.Coming.{start_form}
 use Rattle.certificate_steps.specs.InTask.{task_in}
-use Rattle.candidate_laws.specs.Conditions.{IsPairWithinRoom}
-use Rattle.candidate_laws.proofs.GivenCases.{start-comes}
+use Rattle.solve_laws.specs.Candidates.Conditions.{IsPairWithinRoom}
+use Rattle.solve_laws.proofs.CandidatesLemmas.GivenCases.{start-comes}
 use Rattle.pre_gen.proofs.coming.start_pair_at_node.Goals as goal
 
 pub pair_at_node-requires-clause-pair : goal.pair_at_node-requires-clause-pair

@@ -1,6 +1,6 @@
 use Rattle.std.proofs.lemmas.Bool.Decides.{same_from_decides}
-use Rattle.certificate_laws.specs.Sameness.{same_heap}
-use Rattle.certificate_laws.proofs.SamenessLaws.{same_heap-Decides}
+use Rattle.solve_laws.specs.Certificates.Sameness.{same_heap}
+use Rattle.solve_laws.proofs.CertificatesLemmas.SamenessLaws.{same_heap-Decides}
 use Rattle.pre_gen.proofs.searching.is_same_heap.Goals as goal
 
 pub returns : goal.returns

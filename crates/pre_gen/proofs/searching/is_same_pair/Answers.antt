@@ -1,5 +1,5 @@
 use Rattle.std.proofs.lemmas.Bool.Decides.{same_from_decides}
-use Rattle.candidate_laws.specs.Coming.{same_pair}
+use Rattle.solve_laws.specs.Candidates.Coming.{same_pair}
 use Rattle.pre_gen.proofs.SamePairs.{same_pair-Decides}
 use Rattle.pre_gen.proofs.searching.is_same_pair.Goals as goal
 

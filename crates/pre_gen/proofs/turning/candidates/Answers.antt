@@ -1,9 +1,9 @@
 use Rattle.std.proofs.Common.{◌∙◌, ap, subst, sym}
 use Rattle.certificate_steps.specs.InTask.{task_in}
-use Rattle.candidate_laws.specs.Candidates.{MOST_TURNS, turns}
-use Rattle.candidate_laws.specs.Conditions.{IsSearch}
+use Rattle.solve_laws.specs.Candidates.Candidates.{MOST_TURNS, turns}
+use Rattle.solve_laws.specs.Candidates.Conditions.{IsSearch}
 use Rattle.pre_gen.specs.InSearch.{search_in}
-use Rattle.candidate_laws.proofs.SearchFormed.{started-fine}
+use Rattle.solve_laws.proofs.CandidatesLemmas.SearchFormed.{started-fine}
 use Rattle.pre_gen.proofs.TurnSteps.{all-turns}
 use Rattle.pre_gen.proofs.turning.candidates.Goals as goal
 

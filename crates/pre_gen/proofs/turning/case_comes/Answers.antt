@@ -1,6 +1,6 @@
 use Rattle.std.proofs.Common.{subst}
 use Rattle.certificate_steps.specs.InTask.{task_in}
-use Rattle.candidate_laws.specs.Conditions.{IsGivenCase}
+use Rattle.solve_laws.specs.Candidates.Conditions.{IsGivenCase}
 use Rattle.pre_gen.proofs.turning.case_comes.Goals as goal
 
 pub goes_on-requires-clause-pair : goal.goes_on-requires-clause-pair

@@ -4,12 +4,12 @@ use Rattle.std.proofs.lemmas.Iterator.Adapters.{YieldsList-from_vec}
 use Rattle.std.proofs.lemmas.Iterator.Consumers.{YieldsList-turn}
 use Rattle.std.proofs.lemmas.List.Elements.{All-same}
 use Rattle.std.proofs.lemmas.Option.{slice_get_read}
-use Rattle.shape_laws.proofs.StepsStacks.{All-at}
+use Rattle.sym_parts.proofs.ShapesLemmas.StepsStacks.{All-at}
 use Rattle.certificate_steps.specs.InTask.{task_in}
-use Rattle.candidate_laws.specs.Candidates.{case_comes}
-use Rattle.candidate_laws.specs.Conditions.{IsGivenCase, IsSearch}
+use Rattle.solve_laws.specs.Candidates.Candidates.{case_comes}
+use Rattle.solve_laws.specs.Candidates.Conditions.{IsGivenCase, IsSearch}
 use Rattle.pre_gen.specs.InSearch.{search_in}
-use Rattle.candidate_laws.proofs.SearchFormed.{case_comes-keeps}
+use Rattle.solve_laws.proofs.CandidatesLemmas.SearchFormed.{case_comes-keeps}
 use Rattle.pre_gen.proofs.TurnSteps.{one-more}
 use Rattle.pre_gen.proofs.turning.cases_come.Goals as goal
 

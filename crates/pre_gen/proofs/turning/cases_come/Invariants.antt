@@ -1,7 +1,7 @@
 use Rattle.std.proofs.Common.{◌≡◌}
 use Rattle.certificate_steps.specs.InTask.{task_in}
-use Rattle.candidate_laws.specs.Candidates.{cases_come}
-use Rattle.candidate_laws.specs.Conditions.{IsSearch}
+use Rattle.solve_laws.specs.Candidates.Candidates.{cases_come}
+use Rattle.solve_laws.specs.Candidates.Conditions.{IsSearch}
 use Rattle.pre_gen.specs.InSearch.{search_in}
 use Rattle.pre_gen.proofs.turning.cases_come.Given as goal
 

@@ -4,12 +4,12 @@ use Rattle.std.specs.declared.option.Option.TheVariants.{Some}
 use Rattle.std.proofs.Common.{rules, sym}
 use Rattle.shape_data.specs.declared.symbolic.SymState.{SymState}
 use Rattle.shape_data.specs.WellFormed.{widest}
-use Rattle.certificate_laws.specs.Coming.{normal_state}
-use Rattle.certificate_laws.specs.Limits.{analysable}
-use Rattle.certificate_laws.proofs.GivenLaws.{state-wide, table-wide}
-use Rattle.certificate_laws.proofs.LimitLaws as limits
+use Rattle.solve_laws.specs.Certificates.Coming.{normal_state}
+use Rattle.solve_laws.specs.Certificates.Limits.{analysable}
+use Rattle.solve_laws.proofs.CertificatesLemmas.GivenLaws.{state-wide, table-wide}
+use Rattle.solve_laws.proofs.CertificatesLemmas.LimitLaws as limits
 use Rattle.certificate_steps.specs.InTask.{task_in}
-use Rattle.candidate_laws.proofs.GivenCases.{executed-given}
+use Rattle.solve_laws.proofs.CandidatesLemmas.GivenCases.{executed-given}
 use Rattle.pre_gen.proofs.turning.cases_of_pair.Goals as goal
 
 pub search_cases-requires-clause-state : goal.search_cases-requires-clause-state

@@ -1,7 +1,7 @@
 use Rattle.std.proofs.Common.{◌≡◌, ◌<◌, ◌∙◌, [], ap, length, arith}
 use Rattle.std.proofs.lemmas.List.{length-map}
 use Rattle.shape_data.specs.declared.program.Node.{Node}
-use Rattle.candidate_laws.specs.Searching.{Search}
+use Rattle.solve_laws.specs.Candidates.Searching.{Search}
 use Rattle.pre_gen.proofs.turning.started.Goals as goal
 
 pub pair_comes-requires : goal.pair_comes-requires

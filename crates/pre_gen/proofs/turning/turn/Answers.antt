@@ -1,12 +1,12 @@
 use Rattle.std.proofs.Common.{◌≡◌, ◌∙◌, ap}
 use Rattle.std.proofs.lemmas.List.Elements.{All-same}
 use Rattle.std.proofs.lemmas.Result.{on_ok_weaker}
-use Rattle.certificate_laws.specs.Gaps.{line_at}
+use Rattle.solve_laws.specs.Certificates.Gaps.{line_at}
 use Rattle.certificate_steps.specs.InTask.{task_in}
-use Rattle.candidate_laws.specs.Candidates.{cases_come, cases_of_pair}
-use Rattle.candidate_laws.specs.Conditions.{IsGivenCase}
+use Rattle.solve_laws.specs.Candidates.Candidates.{cases_come, cases_of_pair}
+use Rattle.solve_laws.specs.Candidates.Conditions.{IsGivenCase}
 use Rattle.pre_gen.specs.InSearch.{search_in}
-use Rattle.candidate_laws.proofs.GivenCases.{cases-given}
+use Rattle.solve_laws.proofs.CandidatesLemmas.GivenCases.{cases-given}
 use Rattle.pre_gen.proofs.turning.turn.Goals as goal
 
 pub cases_come-requires-clause-cases : goal.cases_come-requires-clause-cases

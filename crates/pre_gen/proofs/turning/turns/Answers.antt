@@ -1,10 +1,10 @@
 -- Each turn is the definition's.
 use Rattle.std.proofs.Common.{◌∙◌, sym, subst}
 use Rattle.certificate_steps.specs.InTask.{task_in}
-use Rattle.candidate_laws.specs.Candidates.{turns}
-use Rattle.candidate_laws.specs.Conditions.{IsSearch}
+use Rattle.solve_laws.specs.Candidates.Candidates.{turns}
+use Rattle.solve_laws.specs.Candidates.Conditions.{IsSearch}
 use Rattle.pre_gen.specs.InSearch.{search_in}
-use Rattle.candidate_laws.proofs.SearchFormed.{first-fine, turn-keeps}
+use Rattle.solve_laws.proofs.CandidatesLemmas.SearchFormed.{first-fine, turn-keeps}
 use Rattle.pre_gen.proofs.TurnSteps.{no-turn, popped-fine, turn-more, turn-none}
 use Rattle.pre_gen.proofs.turning.turns.Goals as goal
 

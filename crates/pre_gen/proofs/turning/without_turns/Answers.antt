@@ -1,7 +1,7 @@
 use Rattle.std.proofs.Common.{◌∙◌, ap}
 use Rattle.shape_data.specs.declared.answer.Fault.TheVariants as fault
 use Rattle.certificate_steps.specs.InTask.{task_in}
-use Rattle.candidate_laws.specs.Searching.{drops}
+use Rattle.solve_laws.specs.Candidates.Searching.{drops}
 use Rattle.pre_gen.specs.InSearch.{search_in}
 use Rattle.pre_gen.proofs.TurnSteps.{first-waits, none-waits}
 use Rattle.pre_gen.proofs.turning.without_turns.Goals as goal

@@ -1,7 +1,7 @@
 -- The specs of one summary more.
 use Rattle.std.proofs.Common.{◌≡◌, ◌+◌, ◌<◌, [], ◌∷◌, ◌++◌, length, map, take, get_or, sym, ap, ap₂, ◌∙◌, subst, arith, rules}
 use Rattle.std.proofs.lemmas.List.{map_more}
-use Rattle.shape_types.specs.declared.answer.ProcSummary.{ProcSummary}
+use Rattle.shape_data.specs.declared.answer.ProcSummary.{ProcSummary}
 use Rattle.shape_data.specs.WellFormed.{IsCountable}
 use Rattle.report_text.specs.Report.{spec_count}
 use Rattle.report_text.proofs.Having.{its_holds, spec_more}

@@ -7,7 +7,7 @@ use Rattle.shape_data.specs.declared.answer.Kept.{Kept}
 use Rattle.loaded_answers.specs.Lookup.{Agrees, lookup}
 use Rattle.claim_core.specs.Views.{solution_of, solutions_of}
 use Rattle.settled_laws.specs.Laws.{aimed_known}
-use Rattle.plain_answers.specs.Solving.{Solves, solve}
+use Rattle.session_replies.specs.PlainAnswers.Solving.{Solves, solve}
 use Rattle.session_replies.specs.Work.{count_reached}
 use Rattle.session_replies.proofs.Reached.{entries_known, entries_many}
 use Rattle.session_replies.proofs.known.answers_for.Goals as goal

@@ -6,7 +6,7 @@ use Rattle.report_text.specs.Parts.{AreReportable}
 use Rattle.shape_data.specs.declared.answer.ProcSummary.{ProcSummary}
 use Rattle.shape_data.specs.declared.program.Program.{Program}
 use Rattle.loaded_answers.specs.Lookup.{lookup}
-use Rattle.plain_answers.specs.Solving.{solve}
+use Rattle.session_replies.specs.PlainAnswers.Solving.{solve}
 use Rattle.bottom_up.specs.BottomUp.{answers_in, known_by, program_summaries}
 use Rattle.bottom_up.specs.declared.places.Place.{Place}
 use Rattle.bottom_up.specs.Placed.{answers_kept, summary_in}

@@ -3,7 +3,7 @@ use Rattle.std.proofs.Common.{◌≡◌, ◌∙◌, Some, None, ap, sym}
 use Rattle.bottom_up.specs.Placed.{answers_kept, summary_among}
 use Rattle.settled_laws.specs.Laws.{aimed_answers}
 use Rattle.loaded_answers.specs.Lookup.{lookup}
-use Rattle.plain_answers.specs.Solving.{solve}
+use Rattle.session_replies.specs.PlainAnswers.Solving.{solve}
 use Rattle.summary_book.specs.declared.aims.Aim.TheVariants.{One}
 use Rattle.session_replies.proofs.Reached.{answers_aimed}
 use Rattle.session_replies.proofs.Reporting.{named_is_printable}

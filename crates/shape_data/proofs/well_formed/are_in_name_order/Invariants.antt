@@ -3,7 +3,7 @@ use Rattle.std.specs.List.{AllAdjacentBelow}
 use Rattle.std.specs.Ordering.{nat_cmp}
 use Rattle.std.specs.Cmp.Lexicographic.{slice_cmp}
 use Rattle.std.specs.declared.cmp.Ordering.TheVariants.{Less}
-use Rattle.shape_types.specs.declared.program.Flow.{Flow}
+use Rattle.shape_data.specs.declared.program.Flow.{Flow}
 use Rattle.shape_data.proofs.well_formed.are_in_name_order.Given as goal
 
 -- the flows before the place stand in order

@@ -1,7 +1,7 @@
 use Rattle.std.proofs.Common.{◌≡◌, ◌∙◌, ◌<◌, length, get_or, below_more, refl, subst}
 use Rattle.std.proofs.lemmas.List.{get_or_default}
-use Rattle.shape_types.specs.declared.answer.ProcSummary.{ProcSummary}
-use Rattle.shape_types.specs.declared.program.Flow.{Flow}
+use Rattle.shape_data.specs.declared.answer.ProcSummary.{ProcSummary}
+use Rattle.shape_data.specs.declared.program.Flow.{Flow}
 use Rattle.shape_data.specs.WellFormed.{storable, IsSummary}
 use Rattle.shape_data.proofs.well_formed.are_summaries.Goals as goal
 

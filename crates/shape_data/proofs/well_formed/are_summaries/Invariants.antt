@@ -1,6 +1,6 @@
 use Rattle.std.proofs.Common.{ℕ, ◌<◌, slice_index_or}
-use Rattle.shape_types.specs.declared.answer.ProcSummary.{ProcSummary}
-use Rattle.shape_types.specs.declared.program.Flow.{Flow}
+use Rattle.shape_data.specs.declared.answer.ProcSummary.{ProcSummary}
+use Rattle.shape_data.specs.declared.program.Flow.{Flow}
 use Rattle.shape_data.specs.WellFormed.{storable, IsSummary}
 use Rattle.shape_data.proofs.well_formed.are_summaries.Given as goal
 

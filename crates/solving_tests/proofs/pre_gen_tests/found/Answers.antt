@@ -1,7 +1,7 @@
 use Rattle.std.proofs.Common.{refl}
 use Rattle.shape_data.specs.WellFormed.{storable}
-use Rattle.certificate_laws.specs.Limits.{analysable}
-use Rattle.certificate_laws.proofs.LimitLaws.{answer_widens, key_widens, storable_is_analysable}
+use Rattle.solve_laws.specs.Certificates.Limits.{analysable}
+use Rattle.solve_laws.proofs.CertificatesLemmas.LimitLaws.{answer_widens, key_widens, storable_is_analysable}
 use Rattle.triple_check.proofs.AnswerLaws.{task-is-good}
 use Rattle.solving_tests.proofs.pre_gen_tests.found.Goals as goal
 

@@ -1,6 +1,6 @@
 use Rattle.shape_data.specs.WellFormed.{storable}
-use Rattle.certificate_laws.specs.Limits.{analysable}
-use Rattle.certificate_laws.proofs.LimitLaws.{answer_widens, key_widens, storable_is_analysable}
+use Rattle.solve_laws.specs.Certificates.Limits.{analysable}
+use Rattle.solve_laws.proofs.CertificatesLemmas.LimitLaws.{answer_widens, key_widens, storable_is_analysable}
 use Rattle.solving_tests.proofs.triple_check_tests.verdict_of.Goals as goal
 
 pub check_answer-requires-clause-key : goal.check_answer-requires-clause-key

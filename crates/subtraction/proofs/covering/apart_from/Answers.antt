@@ -2,7 +2,7 @@
 use Rattle.std.proofs.Common.{◌≡◌, ◌∙◌, ap}
 use Rattle.std.proofs.lemmas.Result.{IfOk-weaker}
 use Rattle.sym_matching.specs.Covers.{apart_from}
-use Rattle.sym_renaming.specs.Coverings.{state_apart}
+use Rattle.sym_matching.specs.Renaming.Coverings.{state_apart}
 use Rattle.subtraction.proofs.StateConditions.{variables-few}
 use Rattle.subtraction.proofs.covering.apart_from.Goals as goal
 

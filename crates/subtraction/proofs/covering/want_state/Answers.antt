@@ -2,7 +2,7 @@
 use Rattle.std.proofs.Common.{◌∙◌, sym}
 use Rattle.sym_matching.specs.Rooms.{fields_of_all}
 use Rattle.sym_matching.specs.Answers.{names_of_all}
-use Rattle.matching_steps.specs.InSetting.{rules_in}
+use Rattle.sym_matching.specs.RuleSteps.InSetting.{rules_in}
 use Rattle.subtraction.proofs.OwedSteps.{owed_names, owed_room}
 use Rattle.subtraction.proofs.covering.want_state.Goals as goal
 

@@ -1,5 +1,5 @@
 use Rattle.shape_data.specs.WellFormed.{storable}
-use Rattle.certificate_laws.specs.Limits.{analysable}
+use Rattle.solve_laws.specs.Certificates.Limits.{analysable}
 use Rattle.summary_store.proofs.loading.is_inductive.Goals as goal
 
 pub check_answer-requires-clause-answer : goal.check_answer-requires-clause-answer

@@ -1,6 +1,6 @@
 -- What came into sight is different, and no parameter.
 use Rattle.std.proofs.Common.{◌≡◌, [], true, ◌≤◌, sym, subst, All, List, ℕ}
-use Rattle.sym_laws.specs.Fresh.{are_different}
+use Rattle.sym_parts.specs.Laws.Fresh.{are_different}
 use Rattle.sym_canon.specs.declared.parts.Variables.TheVariants.{Further}
 use Rattle.sym_canon.specs.Canonical.{sight_state, sight_pair}
 use Rattle.sym_canon.proofs.NumberLaws.{seen-from}

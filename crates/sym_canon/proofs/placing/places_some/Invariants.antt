@@ -1,7 +1,7 @@
 use Rattle.std.proofs.Common.{◌≡◌, drop}
 use Rattle.std.specs.List.{list_any}
-use Rattle.sym_laws.specs.Addresses.{addresses}
-use Rattle.sym_laws.specs.Expressions.{is_among}
+use Rattle.sym_parts.specs.Laws.Addresses.{addresses}
+use Rattle.sym_parts.specs.Laws.Expressions.{is_among}
 use Rattle.sym_canon.specs.Placing.{is_placed_by}
 use Rattle.sym_canon.proofs.placing.places_some.Given as goal
 

@@ -1,5 +1,5 @@
 use Rattle.std.proofs.Common.{◌≡◌, filter}
-use Rattle.sym_laws.specs.Junks.{is_junk, is_other}
+use Rattle.sym_parts.specs.Laws.Junks.{is_junk, is_other}
 use Rattle.sym_canon.proofs.placing.without_junk.Given as goal
 
 abbrev pub invariant-loop-atom : goal.invariant-loop-atom

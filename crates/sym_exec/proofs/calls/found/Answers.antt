@@ -3,7 +3,7 @@ use Rattle.std.proofs.Common.{◌∙◌, ap, sym, length, subst}
 use Rattle.exec_cells.specs.InSetting.{setting_in}
 use Rattle.sym_matching.specs.Matches.{biabduce_avoiding}
 use Rattle.sym_matching.specs.Steps.{contradicts}
-use Rattle.sym_renaming.specs.Sizes.{AreSmall, IsSmallBinding}
+use Rattle.sym_matching.specs.Renaming.Sizes.{AreSmall, IsSmallBinding}
 use Rattle.sym_exec.proofs.CalledSpecs.{called_within, found_clashes, found_roomy, found_some, heap_within, pre_within}
 use Rattle.sym_exec.proofs.calls.found.Goals as goal
 

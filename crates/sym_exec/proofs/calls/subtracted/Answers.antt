@@ -2,7 +2,7 @@
 use Rattle.std.proofs.Common.{◌∙◌, ap, sym, length, subst}
 use Rattle.exec_cells.specs.InSetting.{setting_in}
 use Rattle.sym_matching.specs.Matches.{subtract_avoiding}
-use Rattle.sym_renaming.specs.Sizes.{AreSmall, IsSmallBinding}
+use Rattle.sym_matching.specs.Renaming.Sizes.{AreSmall, IsSmallBinding}
 use Rattle.sym_exec.proofs.CalledSpecs.{called_within, heap_within, pre_within, subtracted_roomy, subtracted_some}
 use Rattle.sym_exec.proofs.calls.subtracted.Goals as goal
 

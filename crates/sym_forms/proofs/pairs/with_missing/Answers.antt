@@ -1,6 +1,6 @@
 use Rattle.std.proofs.Common.{◌≡◌, ◌∙◌, ap, sym}
 use Rattle.std.specs.declared.option.Option.TheVariants.{Some}
-use Rattle.sym_laws.specs.Mapped.{on_state}
+use Rattle.sym_parts.specs.Laws.Mapped.{on_state}
 use Rattle.sym_pure.specs.declared.parts.Normal.TheVariants.{Is}
 use Rattle.sym_pure.specs.Equations.{read_through}
 use Rattle.sym_pure.specs.Normal.{normal}

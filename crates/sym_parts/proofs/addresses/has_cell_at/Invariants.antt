@@ -1,6 +1,6 @@
 use Rattle.std.proofs.Common.{◌≡◌, drop}
-use Rattle.sym_laws.specs.Addresses.{addresses}
-use Rattle.sym_laws.specs.Expressions.{is_among}
+use Rattle.sym_parts.specs.Laws.Addresses.{addresses}
+use Rattle.sym_parts.specs.Laws.Expressions.{is_among}
 use Rattle.sym_parts.proofs.addresses.has_cell_at.Given as goal
 
 abbrev pub invariant-loop-atom : goal.invariant-loop-atom

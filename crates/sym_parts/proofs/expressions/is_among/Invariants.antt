@@ -1,5 +1,5 @@
 use Rattle.std.proofs.Common.{◌≡◌, drop}
-use Rattle.sym_laws.specs.Expressions.{is_among}
+use Rattle.sym_parts.specs.Laws.Expressions.{is_among}
 use Rattle.sym_parts.proofs.expressions.is_among.Given as goal
 
 abbrev pub invariant-loop-f : goal.invariant-loop-f

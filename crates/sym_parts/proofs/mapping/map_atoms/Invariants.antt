@@ -1,5 +1,5 @@
 use Rattle.std.proofs.Common.{◌≡◌, ◌++◌, map, drop}
-use Rattle.sym_laws.specs.Mapped.{on_atom}
+use Rattle.sym_parts.specs.Laws.Mapped.{on_atom}
 use Rattle.sym_parts.proofs.mapping.map_atoms.Given as goal
 
 abbrev pub invariant-loop-atom : goal.invariant-loop-atom

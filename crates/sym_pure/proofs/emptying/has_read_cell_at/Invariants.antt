@@ -1,7 +1,7 @@
 use Rattle.std.proofs.Common.{◌≡◌, drop, map}
-use Rattle.sym_laws.specs.Addresses.{addresses}
-use Rattle.sym_laws.specs.Expressions.{is_among}
-use Rattle.sym_laws.specs.Mapped.{on_atom}
+use Rattle.sym_parts.specs.Laws.Addresses.{addresses}
+use Rattle.sym_parts.specs.Laws.Expressions.{is_among}
+use Rattle.sym_parts.specs.Laws.Mapped.{on_atom}
 use Rattle.sym_pure.specs.Solving.{read}
 use Rattle.sym_pure.proofs.emptying.has_read_cell_at.Given as goal
 

@@ -1,5 +1,5 @@
 use Rattle.std.proofs.Common.{◌≡◌, drop}
-use Rattle.sym_laws.specs.Addresses.{addresses}
+use Rattle.sym_parts.specs.Laws.Addresses.{addresses}
 use Rattle.sym_pure.specs.Redundancy.{needed}
 use Rattle.sym_pure.proofs.redundancy.needed.Given as goal
 

@@ -1,6 +1,6 @@
 use Rattle.std.proofs.Common.{◌≡◌}
 use Rattle.std.specs.List.{list_any}
-use Rattle.sym_laws.specs.Junks.{is_junk}
+use Rattle.sym_parts.specs.Laws.Junks.{is_junk}
 use Rattle.sym_pure.specs.Redundancy.{one_junk}
 use Rattle.sym_pure.proofs.redundancy.one_junk.Given as goal
 

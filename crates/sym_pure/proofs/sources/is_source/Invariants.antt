@@ -1,5 +1,5 @@
 use Rattle.std.proofs.Common.{◌≡◌, drop}
-use Rattle.sym_laws.specs.Expressions.{is_among}
+use Rattle.sym_parts.specs.Laws.Expressions.{is_among}
 use Rattle.sym_pure.specs.Sources.{sources}
 use Rattle.sym_pure.proofs.sources.is_source.Given as goal
 

@@ -2,7 +2,7 @@
 use Rattle.std.proofs.Common.{◌≤◌, length, arith}
 use Rattle.shape_data.specs.declared.symbolic.Exp.TheVariants.{Var}
 use Rattle.shape_data.specs.declared.symbolic.Fact.TheVariants.{Eq}
-use Rattle.sym_laws.specs.Each.{EachInFact}
+use Rattle.sym_parts.specs.Laws.Each.{EachInFact}
 use Rattle.sym_samples.specs.Laws.{IsLow}
 use Rattle.sym_samples.proofs.NumberTurns.{all_done, all_more}
 use Rattle.sym_samples.proofs.numbers.facts_have_bits.Goals as goal

@@ -1,6 +1,6 @@
 use Rattle.std.proofs.Common.{take}
 use Rattle.std.specs.Prelude.{All}
-use Rattle.sym_laws.specs.Each.{EachInFact}
+use Rattle.sym_parts.specs.Laws.Each.{EachInFact}
 use Rattle.sym_samples.specs.Laws.{IsLow}
 use Rattle.sym_samples.proofs.numbers.facts_have_bits.Given as goal
 

@@ -2,8 +2,8 @@ use Rattle.std.specs.Prelude.{◌≡◌}
 use Rattle.std.specs.declared.option.Option.{Option}
 use Rattle.std.specs.declared.option.Option.TheVariants.{None, Some}
 use Rattle.std.proofs.Common.{rules}
-use Rattle.certificate_laws.specs.declared.parts.Gap.{Gap}
-use Rattle.certificate_laws.specs.Gaps.{first_gap}
+use Rattle.solve_laws.specs.declared.certificates.parts.Gap.{Gap}
+use Rattle.solve_laws.specs.Certificates.Gaps.{first_gap}
 use Rattle.triple_check.proofs.AnswerLaws.{none-exact, none-sound, some-exact}
 use Rattle.triple_check.proofs.answers.check_answer.Goals as goal
 

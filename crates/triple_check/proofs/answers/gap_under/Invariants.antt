@@ -2,8 +2,8 @@ use Rattle.std.proofs.Common.{◌≡◌, drop}
 use Rattle.std.specs.Prelude.{zip}
 use Rattle.shape_data.specs.declared.answer.ProcSummary.{ProcSummary}
 use Rattle.shape_data.specs.declared.program.Flow.{Flow}
-use Rattle.certificate_laws.specs.Gaps.{first_found, first_gap, summary_gap}
-use Rattle.certificate_laws.specs.Inductive.{task_of}
+use Rattle.solve_laws.specs.Certificates.Gaps.{first_found, first_gap, summary_gap}
+use Rattle.solve_laws.specs.Certificates.Inductive.{task_of}
 use Rattle.triple_check.proofs.answers.gap_under.Given as goal
 
 abbrev pub invariant-loop-place : goal.invariant-loop-place

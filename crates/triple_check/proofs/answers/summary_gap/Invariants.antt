@@ -2,7 +2,7 @@ use Rattle.std.proofs.Common.{◌≡◌, drop}
 use Rattle.std.specs.Prelude.{option_map, zip}
 use Rattle.shape_data.specs.declared.symbolic.Cert.{Cert}
 use Rattle.shape_data.specs.declared.symbolic.Spec.{Spec}
-use Rattle.certificate_laws.specs.Gaps.{first_found, placed, spec_gap, summary_gap}
+use Rattle.solve_laws.specs.Certificates.Gaps.{first_found, placed, spec_gap, summary_gap}
 use Rattle.certificate_steps.specs.InTask.{task_in}
 use Rattle.triple_check.proofs.answers.summary_gap.Given as goal
 

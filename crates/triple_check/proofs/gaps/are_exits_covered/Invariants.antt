@@ -1,6 +1,6 @@
 use Rattle.std.proofs.Common.{◌≡◌, drop}
 use Rattle.std.specs.List.{list_all}
-use Rattle.certificate_laws.specs.Gaps.{is_exit_covered}
+use Rattle.solve_laws.specs.Certificates.Gaps.{is_exit_covered}
 use Rattle.certificate_steps.specs.InTask.{task_in}
 use Rattle.triple_check.proofs.gaps.are_exits_covered.Given as goal
 

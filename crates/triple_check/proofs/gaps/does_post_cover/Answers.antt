@@ -5,9 +5,9 @@ use Rattle.std.proofs.Common.{rules}
 use Rattle.std.proofs.lemmas.List.Elements.{All-same}
 use Rattle.shape_data.specs.declared.symbolic.Post.{Post}
 use Rattle.subtraction.specs.Conditions.{IsPostWithinSizes}
-use Rattle.certificate_laws.specs.Coming.{normal_post}
+use Rattle.solve_laws.specs.Certificates.Coming.{normal_post}
 use Rattle.certificate_steps.specs.InTask.{task_in}
-use Rattle.certificate_laws.proofs.GivenLaws.{normal-post-given}
+use Rattle.solve_laws.proofs.CertificatesLemmas.GivenLaws.{normal-post-given}
 use Rattle.certificate_steps.proofs.SizeLaws.{post-sizes, posts-sizes}
 use Rattle.triple_check.proofs.gaps.does_post_cover.Goals as goal
 

@@ -1,7 +1,7 @@
 use Rattle.std.proofs.Common.{rules}
 use Rattle.std.proofs.lemmas.List.Elements.{All-same}
 use Rattle.subtraction.specs.Conditions.{IsPostWithinSizes}
-use Rattle.certificate_laws.specs.Conditions.{IsTaskPost}
+use Rattle.solve_laws.specs.Certificates.Conditions.{IsTaskPost}
 use Rattle.certificate_steps.specs.InTask.{task_in}
 use Rattle.certificate_steps.proofs.SizeLaws.{exits-sizes, post-sizes}
 use Rattle.triple_check.proofs.gaps.is_exit_covered.Goals as goal

@@ -1,5 +1,5 @@
 use Rattle.std.proofs.Common.{◌≡◌, drop}
-use Rattle.certificate_laws.specs.Gaps.{first_found, node_gap, state_gap}
+use Rattle.solve_laws.specs.Certificates.Gaps.{first_found, node_gap, state_gap}
 use Rattle.certificate_steps.specs.InTask.{task_in}
 use Rattle.triple_check.proofs.gaps.node_gap.Given as goal
 

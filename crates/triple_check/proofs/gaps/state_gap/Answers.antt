@@ -3,10 +3,10 @@ use Rattle.std.specs.declared.option.Option.{Option}
 use Rattle.std.specs.declared.option.Option.TheVariants.{Some}
 use Rattle.std.proofs.Common.{rules}
 use Rattle.shape_data.specs.declared.symbolic.SymState.{SymState}
-use Rattle.certificate_laws.specs.Coming.{normal_state}
-use Rattle.certificate_laws.specs.Inductive.{execution}
+use Rattle.solve_laws.specs.Certificates.Coming.{normal_state}
+use Rattle.solve_laws.specs.Certificates.Inductive.{execution}
 use Rattle.certificate_steps.specs.InTask.{task_in}
-use Rattle.certificate_laws.proofs.GivenLaws.{normal-given, state-wide, step-given}
+use Rattle.solve_laws.proofs.CertificatesLemmas.GivenLaws.{normal-given, state-wide, step-given}
 use Rattle.triple_check.proofs.gaps.state_gap.Goals as goal
 
 pub exec-requires-clause-state : goal.exec-requires-clause-state

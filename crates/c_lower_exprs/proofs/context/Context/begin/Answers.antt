@@ -1,5 +1,5 @@
 use Rattle.std.proofs.Common.{[], ap, ◌∙◌}
-use Rattle.c_tokens.specs.declared.places.Place.{Place}
+use Rattle.c_grammar.specs.declared.tokens.places.Place.{Place}
 use Rattle.c_types_rules.specs.Tables.{Tables, kind_of_result}
 use Rattle.c_types_rules.specs.Programs.{known}
 use Rattle.c_types_names.specs.Seen.{type_seen}

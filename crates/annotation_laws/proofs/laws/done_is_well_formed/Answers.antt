@@ -1,8 +1,0 @@
-use Rattle.annotation_laws.proofs.AnnotationLaws.{done_is_small, done_is_well_formed}
-use Rattle.annotation_laws.proofs.laws.done_is_well_formed.Goals as goal
-
-pub returns-clause-formed : goal.returns-clause-formed
-returns-clause-formed c = done_is_well_formed
-
-pub returns-clause-small : goal.returns-clause-small
-returns-clause-small c = done_is_small

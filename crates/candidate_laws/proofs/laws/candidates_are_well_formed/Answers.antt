@@ -1,9 +1,0 @@
-use Rattle.candidate_laws.proofs.PresLaws.{candidates_are_few}
-use Rattle.candidate_laws.proofs.SearchFormed.{candidates_are_well_formed}
-use Rattle.candidate_laws.proofs.laws.candidates_are_well_formed.Goals as goal
-
-pub returns-clause-formed : goal.returns-clause-formed
-returns-clause-formed c = candidates_are_well_formed
-
-pub returns-clause-few : goal.returns-clause-few
-returns-clause-few c = candidates_are_few

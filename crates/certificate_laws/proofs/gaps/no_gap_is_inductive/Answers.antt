@@ -1,8 +1,0 @@
-use Rattle.certificate_laws.proofs.GapLaws.{no_gap, no_spec_gap}
-use Rattle.certificate_laws.proofs.gaps.no_gap_is_inductive.Goals as goal
-
-pub returns-clause-spec : goal.returns-clause-spec
-returns-clause-spec c = no_spec_gap
-
-pub returns-clause-answer : goal.returns-clause-answer
-returns-clause-answer c = no_gap

@@ -1,4 +1,0 @@
-mod ComponentsByName
-mod Storing
-mod Tabled
-mod Called

@@ -1,9 +1,0 @@
-use Rattle.std.proofs.Common.{◌≡◌, map, take, filter_map}
-use Rattle.component_keys.specs.Keys.{flows_of}
-use Rattle.composed_keys.specs.Rows.{outer_value}
-use Rattle.plain_answers.specs.Table.{answer_at, callee_over}
-use Rattle.plain_answers.proofs.keys.callees_of.Given as goal
-
-abbrev pub invariant-loop-outer : goal.invariant-loop-outer
-invariant-loop-outer l = l.callees
-    ≡ map (callee_over (answer_at l.table)) (filter_map (outer_value (flows_of l.program)) (take l.outer-index l.outers))

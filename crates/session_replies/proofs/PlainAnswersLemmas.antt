@@ -1,0 +1,4 @@
+pub mod Called
+pub mod ComponentsByName
+pub mod Storing
+pub mod Tabled

@@ -1,9 +1,0 @@
--- The union, and heaps with the same cells being the same.
-use Rattle.shape_laws.proofs.Sums.{IsSum-union, IsSum-is_union}
-use Rattle.shape_laws.proofs.heaps.sum_is_union.Goals as goal
-
-pub returns-clause-exists : goal.returns-clause-exists
-returns-clause-exists c = IsSum-union
-
-pub returns-clause-only : goal.returns-clause-only
-returns-clause-only c = λ structs whole left right sum. IsSum-is_union sum

@@ -1,9 +1,0 @@
--- One assignment serves both: that of the first for the variables that occur there.
-use Rattle.shape_laws.proofs.Meets.{Meets-beside, Meets-split}
-use Rattle.shape_laws.proofs.meaning.meets_beside.Goals as goal
-
-pub returns-clause-joined : goal.returns-clause-joined
-returns-clause-joined c = Meets-beside
-
-pub returns-clause-parted : goal.returns-clause-parted
-returns-clause-parted c = Meets-split

@@ -1,0 +1,6 @@
+-- The law, as it is proved of the machine's commands.
+use Rattle.sym_parts.proofs.ShapesLemmas.StepsKept.{run_is_never_stuck}
+use Rattle.sym_parts.proofs.shapes.steps.run_is_never_stuck.Goals as goal
+
+pub returns : goal.returns
+returns c = run_is_never_stuck
