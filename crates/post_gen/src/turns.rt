@@ -8,7 +8,15 @@ ghost use Rattle.solve_laws.specs.Annotation.Annotation.{
   turns as turns_of,
 };
 ghost use Rattle.solve_laws.specs.Annotation.Listing.{all_come};
-ghost use Rattle.solve_laws.specs.Certificates.Conditions.{AreNexts, GoesOnWithin, IsGivenState, IsGivenStep, IsTask, IsTaskPost, IsTaskState};
+ghost use Rattle.solve_laws.specs.Certificates.Conditions.{
+  AreNexts,
+  GoesOnWithin,
+  IsGivenState,
+  IsGivenStep,
+  IsTask,
+  IsTaskPost,
+  IsTaskState,
+};
 ghost use Rattle.post_gen.specs.Conditions.{AreWithin, IsListing};
 ghost use Rattle.post_gen.specs.InListing.{annotated_of, course_of, listing_in};
 ghost use Rattle.certificate_steps.specs.InTask.{task_in};

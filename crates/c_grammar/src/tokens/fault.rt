@@ -2,8 +2,8 @@
 use crate::tokens::places::Refusal;
 use std::alloc::{AllocError, AllocFailed};
 
-/// Why a text is not read: where it is refused first, by tokens (codes 101 to 105, as [`TokenFault`](crate::tokens::TokenFault) has them) or else
-/// by syntax (111 and 112); or want of memory.
+/// Why a text is not read: where it is refused first, by tokens (codes 101 to 105, as [`TokenFault`](crate::tokens::TokenFault) has
+/// them) or else by syntax (111 and 112); or want of memory.
 #[derive(Clone, Copy, Debug)]
 pub enum ReadFault {
     Refused(Refusal),

@@ -1,5 +1,12 @@
 //! Laws of the tests and of the gaps.
-ghost use Rattle.solve_laws.specs.Certificates.Laws.{NoGap, NoSpecGap, PostTestIsExact, PostsTestIsExact, StateTestIsExact, StatesTestIsExact};
+ghost use Rattle.solve_laws.specs.Certificates.Laws.{
+  NoGap,
+  NoSpecGap,
+  PostTestIsExact,
+  PostsTestIsExact,
+  StateTestIsExact,
+  StatesTestIsExact,
+};
 
 /// The tests of coverings answer whether there is one.
 pub fn tests_are_exact()

@@ -1,5 +1,11 @@
 //! Instances of symbolic heaps: expressions in place of existential variables.
-ghost use Rattle.sym_parts.specs.Laws.Instances.{ForgottenPostMeets, ForgottenStateMeets, InstanceMeets, InstancePostMeets, InstanceStateMeets};
+ghost use Rattle.sym_parts.specs.Laws.Instances.{
+  ForgottenPostMeets,
+  ForgottenStateMeets,
+  InstanceMeets,
+  InstancePostMeets,
+  InstanceStateMeets,
+};
 
 /// What meets an instance meets the heap, the state or the post that it is an instance of.
 pub fn instance_meets()
