@@ -11,8 +11,8 @@ use Rattle.c_types_rules.specs.Programs.{in_unit, first_of}
 use Rattle.c_types_rules.proofs.KnownPrograms.{nothing_mapped}
 use Rattle.c_types_rules.proofs.KnownTables.{nil_left, nil_right}
 use Rattle.c_types_names.specs.declared.first_refusal.FirstRefusal.{FirstRefusal}
-use Rattle.c_types.specs.FirstRefusals.{first_with}
-use Rattle.c_types.proofs.FirstRefusals.{first_with-append, first_with-nil, first_with-is, with_refusals-found}
+use Rattle.c_types_names.specs.FirstRefusal.{first_with}
+use Rattle.c_types_names.proofs.FirstWith.{first_with-append, first_with-nil, first_with-is, with_refusals-found}
 use Rattle.c_lower_rules.specs.Programs.{items_refusals, items_procs, files_refusals, files_procs}
 use Rattle.c_lower.specs.declared.building.Building.{Building}
 use Rattle.c_lower.specs.Building.{items_part, Adds, IsBuiltUpTo}

@@ -9,7 +9,7 @@ use Rattle.c_types_rules.specs.Programs.{stands_before, is_no_later, first_by, i
 use Rattle.c_types_names.specs.declared.first_refusal.FirstRefusal.{FirstRefusal}
 use Rattle.c_types_names.specs.FirstRefusal.{least, with_refusal, with_refusals}
 use Rattle.c_types_names.proofs.FirstRefusals.{with_refusals-append}
-use Rattle.c_types.proofs.FirstRefusals.{first_of_three}
+use Rattle.c_types_names.proofs.FirstWith.{first_of_three}
 use Rattle.c_lower_rules.specs.Programs.{NODES, SLOTS, PARAMETERS}
 
 level : (n : ℕ) (p : Bool) → p ≡ true → stands_before n n p ≡ true

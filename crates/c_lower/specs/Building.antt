@@ -5,8 +5,7 @@ use Rattle.c_grammar.specs.declared.tokens.places.Refusal.{Refusal}
 use Rattle.c_grammar.specs.Trees.{Item, File}
 use Rattle.c_types_rules.specs.Tables.{Tables}
 use Rattle.c_lower_rules.specs.Programs.{item_refusals, items_refusals, item_procs, items_procs, files_refusals, files_procs}
-use Rattle.c_types_names.specs.FirstRefusal.{with_refusals}
-use Rattle.c_types.specs.FirstRefusals.{first_with}
+use Rattle.c_types_names.specs.FirstRefusal.{with_refusals, first_with}
 use Rattle.c_lower.specs.declared.building.Building.{Building}
 
 -- what is too large in a part of a program, and its procedures

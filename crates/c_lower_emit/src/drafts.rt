@@ -1,4 +1,5 @@
-//! Nodes whose ways on may still be exits of the piece that they belong to.
+//! Nodes whose ways on may still be exits of the piece that they belong to: their places are filled in once they are known, which is called
+//! backpatching (Aho, Lam, Sethi, Ullman, Compilers, 6.7).
 ghost use Rattle.std.specs.Prelude.{◌≡◌, ◌<◌, IfOk, map};
 ghost use Rattle.c_lower_emit.specs.Drafts.{redirect, next_at, redirected, put_to, aimed, laid, at_start, resolve};
 ghost use Rattle.c_lower_emit.specs.OpenPlaces.{is_exit, is_open};

@@ -113,7 +113,16 @@ pub fn read_struct_body(alloc: Global, words: &mut Words<'_>) -> Result<Vec<Fiel
     words.take(Class::OpenBrace)?;
     let lines = read_lines(alloc, words)?;
     words.take(Class::CloseBrace)?;
-    Ok(lines)
+    Ok(without_room(lines))
+}
+
+/// The declarations, with no room for more, since most structures are short.
+fn without_room(lines: Vec<FieldDecl>) -> Vec<FieldDecl>
+    ensures { result.items ≡ lines.items }
+{
+    let mut lines = lines;
+    lines.shrink_to_fit();
+    lines
 }
 
 /// Whether a type specifier begins with a word of the class.

@@ -13,8 +13,8 @@ use Rattle.c_types_exprs.specs.Listing.{with_kinds}
 use Rattle.c_types_exprs.proofs.ListedKinds.{with_two}
 use Rattle.c_types_stmts.specs.declared.finding.Finding.{Finding}
 use Rattle.c_types_stmts.specs.Adding.{Adds}
-use Rattle.c_types.specs.FirstRefusals.{first_with}
-use Rattle.c_types.proofs.FirstRefusals.{first_with-append, with_refusals-found}
+use Rattle.c_types_names.specs.FirstRefusal.{first_with}
+use Rattle.c_types_names.proofs.FirstWith.{first_with-append, with_refusals-found}
 use Rattle.c_types.proofs.JoinedTables.{joined-assoc, declared-append, items-append}
 
 abbrev begun : ℕ → Option At → FirstRefusal

@@ -2,7 +2,6 @@ pub mod Checked
 pub mod Defining
 pub mod FieldLines
 pub mod Files
-pub mod FirstRefusals
 pub mod FoundSome
 pub mod JoinedTables
 pub mod KnownKinds

@@ -7,5 +7,6 @@ pub mod Stars
 pub mod Fields
 pub mod FieldPlaces
 pub mod FirstRefusals
+pub mod FirstWith
 pub mod Digests
 pub mod ParamsInTurn

@@ -18,3 +18,8 @@ with_refusal first one = record first { found = least first.found (in_unit first
 unfoldable pub with_refusals : FirstRefusal → List Refusal → FirstRefusal
 with_refusals first [] = first
 with_refusals first (one ∷ others) = with_refusals (with_refusal first one) others
+
+-- the first of what was found before and of more
+unfoldable pub first_with : Option At → List At → Option At
+first_with found [] = found
+first_with found (one ∷ others) = first_with (least found one) others

@@ -10,7 +10,7 @@ use Rattle.c_types_names.specs.declared.name_map.NameMap.{NameMap}
 -- a digest, led on by bytes
 abbrev pub digest_from : ℕ → List ℕ → ℕ
 digest_from number [] = number
-digest_from number (x ∷ xs) = digest_from (((number * 11400714819323198485) % 18446744073709551616 + x) % 18446744073709551616) xs
+digest_from number (x ∷ xs) = digest_from (((number * 131) % 18446744073709551616 + x) % 18446744073709551616) xs
 
 -- a number of 64 bits that is made of a name
 abbrev pub digest : List ℕ → ℕ

@@ -1,6 +1,9 @@
 //! Things by their names. Each map by name of the checker and of lowering is one of these: a tree in the order of numbers that are made of
 //! the names, their digests, so that long names which are alike but for their ends are told apart at once. Whoever writes the C file can
 //! choose names that have one digest: all but the first of those are in a second tree, in the order of their bytes.
+//!
+//! Names that are alike but for their last bytes, as those of a file mostly are, have digests near to one another and mostly in the order
+//! of the names, so that those which stand near to one another in the file are neighbours in the tree.
 ghost use Rattle.std.specs.Prelude.{◌≡◌, ℕ, List, None, IfOk, OnOk, OnErr};
 ghost use Rattle.std.specs.BTreeMap.{get_by};
 ghost use Rattle.std.specs.Cmp.Lexicographic.{slice_cmp};
@@ -13,16 +16,15 @@ use c_tree::Name;
 use std::alloc::{AllocError, Global};
 use std::collections::BTreeMap;
 
-/// The digest of a name: a polynomial of its bytes, in 64 bits, whose factor is 2^64 over the golden ratio, made odd (Knuth, The Art of
-/// Computer Programming, volume 3, 6.4).
+/// The digest of a name: a polynomial of its bytes, in 64 bits (Knuth, The Art of Computer Programming, volume 3, 6.4). Its factor is small
+/// and odd, so that the last bytes change little of it, and above all byte values of names, so that names of ASCII letters, digits and
+/// underscores which are alike but for their last nine bytes have different digests.
 fn digest(bytes: &[u8]) -> u64
     ensures { result ≡ digest bytes.now }
 {
     let mut number: u64 = 0;
     for byte in bytes {
-        number = number
-            .wrapping_mul(11400714819323198485)
-            .wrapping_add(u64::from(*byte));
+        number = number.wrapping_mul(131).wrapping_add(u64::from(*byte));
     }
     number
 }

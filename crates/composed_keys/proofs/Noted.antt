@@ -19,7 +19,7 @@ use Rattle.component_keys.proofs.Basics.{not_none, mapped_some, at_map}
 use Rattle.component_keys.proofs.Ordered.{held_at}
 use Rattle.call_components.specs.Reaching.{AreReached, marked}
 use Rattle.composed_keys.proofs.Calls.{nothing_at, position_within}
-use Rattle.composed_keys.specs.Named.{AreInOrder}
+use Rattle.composed_keys.specs.StructureOrder.{AreInOrder}
 use Rattle.composed_keys.specs.Used.{noted}
 
 filter_map_append : {X Y : Type 0} (f : X → Option Y) (xs ys : List X) → filter_map f (xs ++ ys) ≡ filter_map f xs ++ filter_map f ys

@@ -2,6 +2,6 @@ pub mod Programs
 pub mod Rows
 pub mod Outside
 pub mod Used
-pub mod Named
+pub mod StructureOrder
 pub mod Calling
 pub mod Callees

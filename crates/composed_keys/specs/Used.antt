@@ -5,7 +5,7 @@ use Rattle.std.specs.declared.option.Option.{Option}
 use Rattle.shape_data.specs.declared.program.StructDef.{StructDef}
 use Rattle.call_components.specs.Reaching.{rows}
 use Rattle.component_keys.specs.Structures.{pointed_rows, struct_numbers}
-use Rattle.composed_keys.specs.Named.{AreInOrder}
+use Rattle.composed_keys.specs.StructureOrder.{AreInOrder}
 use Rattle.composed_keys.specs.declared.rows.Structures.{Structures}
 
 -- whom the fields of each structure point to, and the structures' names with their order

@@ -1,7 +1,7 @@
 //! The structures of a program, which are looked up by name in time in proportion to a logarithm of their number.
 ghost use Rattle.std.specs.Prelude.{◌≡◌};
 ghost use Rattle.component_keys.specs.Structures.{struct_number};
-ghost use Rattle.composed_keys.specs.Named.{AreInOrder};
+ghost use Rattle.composed_keys.specs.StructureOrder.{AreInOrder};
 
 use call_components::order::first_named;
 use shape_data::Name;
@@ -19,7 +19,7 @@ pub struct StructureIndex<'a> {
 impl<'a> Model for StructureIndex<'a> {
     ghost use Rattle.std.specs.Prelude.{List};
     ghost use Rattle.shape_data.specs.declared.program.StructDef.{StructDef};
-    ghost use Rattle.composed_keys.specs.Named.{AreInOrder};
+    ghost use Rattle.composed_keys.specs.StructureOrder.{AreInOrder};
 
     ghost Value = { List StructDef };
 

@@ -7,7 +7,17 @@ use Rattle.sym_canon.specs.declared.parts.Pair.{Pair}
 use Rattle.exec_laws.specs.declared.parts.Case.{Case}
 use Rattle.solve_laws.specs.Certificates.Coming.{Task}
 use Rattle.solve_laws.specs.Certificates.Gaps.{line_at}
-use Rattle.solve_laws.specs.Candidates.Candidates.{candidates, case_comes, cases_come, found_by, started, turn_of, turns, with_turn, without_turns}
+use Rattle.solve_laws.specs.Candidates.Candidates.{
+  candidates,
+  case_comes,
+  cases_come,
+  found_by,
+  started,
+  turn_of,
+  turns,
+  with_turn,
+  without_turns,
+}
 use Rattle.solve_laws.specs.Candidates.Candidates.{MOST_TURNS}
 use Rattle.solve_laws.specs.Candidates.Conditions.{IsSearch, IsWaiting}
 use Rattle.solve_laws.specs.Candidates.Searching.{Search, drops}

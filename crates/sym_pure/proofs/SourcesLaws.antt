@@ -18,7 +18,14 @@ use Rattle.shape_data.specs.Heap.{cell_at}
 use Rattle.shape_data.specs.Meaning.{value, AreTrueFacts, HoldsAtom, HoldsAtoms, Holds}
 use Rattle.sym_parts.proofs.ShapesLemmas.Atoms.{HoldsAtoms-is_heap}
 use Rattle.sym_parts.specs.Laws.Expressions.{same_exp, is_among, are_two, has_double}
-use Rattle.sym_parts.proofs.LawsLemmas.AddressLemmas.{IsHeap-not_zero, Seg-cases, Points-found, found_of_named, apart_of_named, no_double_named}
+use Rattle.sym_parts.proofs.LawsLemmas.AddressLemmas.{
+  IsHeap-not_zero,
+  Seg-cases,
+  Points-found,
+  found_of_named,
+  apart_of_named,
+  no_double_named,
+}
 use Rattle.sym_parts.proofs.LawsLemmas.ExpressionLemmas.{same_exp-equal}
 use Rattle.sym_pure.specs.Contradictions.{has_same_sides, do_sources_clash, has_clash}
 use Rattle.sym_pure.specs.Laws.{DiffersIsSound}

@@ -68,7 +68,7 @@ pub record IsRefused (IsText : List ℕ → Type 0) (text : List ℕ) (offset : 
   pub no_more : offset < length text → Begins IsText (take (offset + 1) text) → ⊥
   pub no_text : IsText text → ⊥
 
--- a right refusal of a text; want of memory is free
+-- a right refusal of a text; of want of memory nothing is asked
 abbrev pub IsRefusal : (List ℕ → Type 0) → List ℕ → BadSpec → Type 0
 IsRefusal IsText text (At offset) = IsRefused IsText text offset
 IsRefusal IsText text OutOfMemory = Unit {0}

@@ -16,14 +16,40 @@ use Rattle.c_grammar.specs.declared.tokens.pieces.Piece.TheVariants.{Passed, Ref
 use Rattle.c_grammar.specs.Tokens.Places.{place_after, refusal}
 use Rattle.c_grammar.specs.Tokens.Gaps.{is_blank, IsLineComment, IsGap, IsLineEnd}
 use Rattle.c_grammar.specs.Tokens.Headers.{is_header_byte, IsHeader}
-use Rattle.c_grammar.specs.Tokens.Grammar.{Stage, AtHash, AtInclude, AtHeader, IsDirective, IsInclude, BeginsInclude, BreaksInclude, BeginsComment}
+use Rattle.c_grammar.specs.Tokens.Grammar.{
+  Stage,
+  AtHash,
+  AtInclude,
+  AtHeader,
+  IsDirective,
+  IsInclude,
+  BeginsInclude,
+  BreaksInclude,
+  BeginsComment,
+}
 use Rattle.c_grammar.specs.Tokens.Pieces.{header_len, begins_with_header}
 use Rattle.c_grammar.proofs.TokensLemmas.Booleans.{both_true, true_both, cond_true, cond_false}
 use Rattle.c_grammar.proofs.TokensLemmas.Fronts.{differ}
 use Rattle.c_grammar.proofs.TokensLemmas.LexemeLemmas.{Stops, run_of}
 use Rattle.c_grammar.proofs.TokensLemmas.PieceLemmas.{first_bare, Begin, begin}
-use Rattle.c_grammar.proofs.TokensLemmas.Directives.{place_after-append, Outcome, Complete, Broken, directive_from, directive-passed, directive-broken}
-use Rattle.c_grammar.proofs.TokensLemmas.Directives.{gap_passed, line_passed, goes_behind, header_passed, include_passed, part_at, comment_ends}
+use Rattle.c_grammar.proofs.TokensLemmas.Directives.{
+  place_after-append,
+  Outcome,
+  Complete,
+  Broken,
+  directive_from,
+  directive-passed,
+  directive-broken,
+}
+use Rattle.c_grammar.proofs.TokensLemmas.Directives.{
+  gap_passed,
+  line_passed,
+  goes_behind,
+  header_passed,
+  include_passed,
+  part_at,
+  comment_ends,
+}
 use Rattle.c_grammar.proofs.TokensLemmas.Directives.{open_read, include_read, breaks_read}
 
 -- what the outcome tells of the whole line

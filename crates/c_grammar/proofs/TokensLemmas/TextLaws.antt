@@ -16,7 +16,16 @@ use Rattle.c_grammar.specs.Tokens.Lexemes.{IsToken}
 use Rattle.c_grammar.specs.Tokens.Grammar.{token_at, Position, start, behind_piece, IsPiece, Reads, HasTokens, Refuses, IsTokenFault}
 use Rattle.c_grammar.specs.Tokens.TokenLists.{StandsBefore, IsTokenList}
 use Rattle.c_grammar.specs.Tokens.Reading.{Reading, Tokens, Refused, reading, IsFault}
-use Rattle.c_grammar.specs.Tokens.Laws.{HaveOneReading, HaveOneRefusal, HaveNotBoth, HaveEither, AreListed, RestsAreListed, Spelling, spelling}
+use Rattle.c_grammar.specs.Tokens.Laws.{
+  HaveOneReading,
+  HaveOneRefusal,
+  HaveNotBoth,
+  HaveEither,
+  AreListed,
+  RestsAreListed,
+  Spelling,
+  spelling,
+}
 use Rattle.c_grammar.specs.Tokens.Laws.{end_spelling, spaced, WordsReadBack}
 use Rattle.c_grammar.proofs.TokensLemmas.LexemeLemmas.{next_longest, gap_never, long_second}
 use Rattle.c_grammar.proofs.TokensLemmas.TokenLemmas.{token_lexeme}

@@ -18,7 +18,18 @@ use Rattle.c_grammar.specs.declared.tokens.token.TokenKind.TheVariants.{End}
 use Rattle.c_grammar.specs.Tokens.Places.{after, place_after, refusal}
 use Rattle.c_grammar.specs.Tokens.Gaps.{is_blank, IsGap, OpensComment}
 use Rattle.c_grammar.specs.Tokens.Lexemes.{IsLexeme, IsLongest, IsToken}
-use Rattle.c_grammar.specs.Tokens.Grammar.{token_at, Position, start, behind_piece, Stage, AtHash, AtInclude, AtHeader, IsDirective, IsInclude}
+use Rattle.c_grammar.specs.Tokens.Grammar.{
+  token_at,
+  Position,
+  start,
+  behind_piece,
+  Stage,
+  AtHash,
+  AtInclude,
+  AtHeader,
+  IsDirective,
+  IsInclude,
+}
 use Rattle.c_grammar.specs.Tokens.Grammar.{BreaksInclude, BeginsComment, BeginsWith, IsPiece, Reads, HasTokens, Fails, Refuses}
 use Rattle.c_grammar.specs.Tokens.Pieces.{first_piece, token_piece}
 use Rattle.c_grammar.specs.Tokens.Reading.{Reading, Tokens, Refused, with_token, reading_from, reading}
@@ -26,10 +37,28 @@ use Rattle.c_grammar.specs.Tokens.Steps.{with_tokens}
 use Rattle.c_grammar.proofs.TokensLemmas.Booleans.{cond_false}
 use Rattle.c_grammar.proofs.TokensLemmas.Fronts.{heads, differ}
 use Rattle.c_grammar.proofs.TokensLemmas.LexemeLemmas.{Shape, shape, short_start}
-use Rattle.c_grammar.proofs.TokensLemmas.TokenLemmas.{TokenCut, NoTokenAt, token_cut, token_found, token_lexeme, no_token_found, bad_number_found}
+use Rattle.c_grammar.proofs.TokensLemmas.TokenLemmas.{
+  TokenCut,
+  NoTokenAt,
+  token_cut,
+  token_found,
+  token_lexeme,
+  no_token_found,
+  bad_number_found,
+}
 use Rattle.c_grammar.proofs.TokensLemmas.TokenLemmas.{long_found}
 use Rattle.c_grammar.proofs.TokensLemmas.PieceLemmas.{first_open, first_bare, Begin, begin}
-use Rattle.c_grammar.proofs.TokensLemmas.Directives.{Outcome, Complete, Broken, directive_from, resumed, resumes, IsPassed, gap_passed, line_passed}
+use Rattle.c_grammar.proofs.TokensLemmas.Directives.{
+  Outcome,
+  Complete,
+  Broken,
+  directive_from,
+  resumed,
+  resumes,
+  IsPassed,
+  gap_passed,
+  line_passed,
+}
 use Rattle.c_grammar.proofs.TokensLemmas.Directives.{include_read, breaks_read}
 use Rattle.c_grammar.proofs.TokensLemmas.DirectiveCuts.{NoInclude, DirectiveCut, directive_cut}
 use Rattle.c_grammar.proofs.TokensLemmas.Readings.{reads-passed, reads-lexed, reads-refused, with_tokens-all, with_tokens-refused}

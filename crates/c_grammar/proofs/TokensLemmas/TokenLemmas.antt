@@ -25,7 +25,16 @@ use Rattle.c_grammar.specs.Tokens.Grammar.{BeginsWith}
 use Rattle.c_grammar.specs.Tokens.Pieces.{name_piece, number_piece, sign_piece, token_piece}
 use Rattle.c_grammar.proofs.TokensLemmas.Booleans.{both_true, true_both, cond_true, cond_false}
 use Rattle.c_grammar.proofs.TokensLemmas.Digits.{own, all_digits}
-use Rattle.c_grammar.proofs.TokensLemmas.LexemeLemmas.{Stops, run_of, run_len, run_is_longest, longest_stops, name_goes_on, numeral_goes_on, found_in}
+use Rattle.c_grammar.proofs.TokensLemmas.LexemeLemmas.{
+  Stops,
+  run_of,
+  run_len,
+  run_is_longest,
+  longest_stops,
+  name_goes_on,
+  numeral_goes_on,
+  found_in,
+}
 use Rattle.c_grammar.proofs.TokensLemmas.LexemeLemmas.{SignCut, sign_cut, sign_scanned, no_sign_scanned, short_start, long_two}
 
 -- ---- numbers

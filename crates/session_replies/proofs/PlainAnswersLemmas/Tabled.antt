@@ -25,7 +25,16 @@ use Rattle.settled_laws.proofs.Whole.{given_mapped}
 use Rattle.settled_laws.specs.Laws.{aimed_known}
 use Rattle.summary_book.specs.declared.aims.Aim.{Aim}
 use Rattle.summary_book.specs.Aims.{aimed}
-use Rattle.session_replies.specs.PlainAnswers.Table.{IsClosed, IsTable, answer_at, callee_over, entry_answer, key_by, known_where, where_reached}
+use Rattle.session_replies.specs.PlainAnswers.Table.{
+  IsClosed,
+  IsTable,
+  answer_at,
+  callee_over,
+  entry_answer,
+  key_by,
+  known_where,
+  where_reached,
+}
 
 -- ---- the row of a component
 

@@ -25,7 +25,16 @@ use Rattle.solve_laws.proofs.AnnotationLemmas.Growing.{cert_of}
 use Rattle.solve_laws.proofs.AnnotationLemmas.KeptLaws.{kept-cover, kept-each, kept-fewer}
 use Rattle.solve_laws.proofs.AnnotationLemmas.ListedLaws.{listed-each}
 use Rattle.solve_laws.proofs.AnnotationLemmas.NormalLaws.{normal-post-itself, normal-state-itself}
-use Rattle.solve_laws.proofs.AnnotationLemmas.Turns.{Annotates, IsFinished, IsGood, IsTurnPost, IsTurnState, annotates, is-finished, started-small}
+use Rattle.solve_laws.proofs.AnnotationLemmas.Turns.{
+  Annotates,
+  IsFinished,
+  IsGood,
+  IsTurnPost,
+  IsTurnState,
+  annotates,
+  is-finished,
+  started-small,
+}
 
 -- ---- small
 

@@ -17,7 +17,18 @@ use Rattle.solve_laws.proofs.CertificatesLemmas.CoveringLaws.{is_covered-Decides
 use Rattle.solve_laws.specs.declared.annotation.parts.Annotated.{Annotated}
 use Rattle.solve_laws.specs.declared.annotation.parts.Annotated.TheVariants.{Done, Fail, Spent}
 use Rattle.solve_laws.specs.Annotation.Annotation.{after_step, empty_listing, post_comes, result_comes, started}
-use Rattle.solve_laws.specs.Annotation.Listing.{Course, Ends, Goes, Listing, MOST_PARTS, MOST_STATES, all_come, exit_comes, listed_at, parts_of}
+use Rattle.solve_laws.specs.Annotation.Listing.{
+  Course,
+  Ends,
+  Goes,
+  Listing,
+  MOST_PARTS,
+  MOST_STATES,
+  all_come,
+  exit_comes,
+  listed_at,
+  parts_of,
+}
 use Rattle.solve_laws.specs.Annotation.Listing.{state_comes, then_on, unless_none, with_exit, with_state}
 use Rattle.solve_laws.proofs.AnnotationLemmas.Growing.{Grows, Leads, covered-grows, exit-covered-grows, exit-leads, leads-refl, leads-trans}
 use Rattle.solve_laws.proofs.AnnotationLemmas.Growing.{state-is-there, state-leads}

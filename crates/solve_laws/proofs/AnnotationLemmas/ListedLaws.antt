@@ -19,9 +19,26 @@ use Rattle.solve_laws.specs.Certificates.Inductive.{OfExits, OfNexts}
 use Rattle.solve_laws.proofs.CertificatesLemmas.GivenLaws.{post-wide, state-wide}
 use Rattle.solve_laws.proofs.CertificatesLemmas.ResultLaws.{at_exit_is_well_formed, at_node_is_well_formed, start_at_node_is_well_formed}
 use Rattle.solve_laws.specs.Annotation.Annotation.{after_step, empty_listing, kept, post_comes, result_comes, started}
-use Rattle.solve_laws.specs.Annotation.Listing.{Goes, Listing, MOST_PARTS, all_come, exit_comes, listed_at, parts_of, state_comes, with_exit}
+use Rattle.solve_laws.specs.Annotation.Listing.{
+  Goes,
+  Listing,
+  MOST_PARTS,
+  all_come,
+  exit_comes,
+  listed_at,
+  parts_of,
+  state_comes,
+  with_exit,
+}
 use Rattle.solve_laws.specs.Annotation.Listing.{with_state}
-use Rattle.solve_laws.proofs.AnnotationLemmas.Coming.{after-step-leads, all-come-keep, exit-came, exit-comes-leads, started-leads, state-came}
+use Rattle.solve_laws.proofs.AnnotationLemmas.Coming.{
+  after-step-leads,
+  all-come-keep,
+  exit-came,
+  exit-comes-leads,
+  started-leads,
+  state-came,
+}
 use Rattle.solve_laws.proofs.AnnotationLemmas.Coming.{state-comes-leads, then-went, unless-none-keeps}
 use Rattle.solve_laws.proofs.AnnotationLemmas.KeptLaws.{kept-each}
 

@@ -22,7 +22,17 @@ use Rattle.exec_laws.specs.declared.parts.Step.{Step}
 use Rattle.exec_laws.specs.declared.parts.Step.TheVariants as step
 use Rattle.exec_laws.specs.Laws.{IsForm}
 use Rattle.exec_laws.proofs.FormedLemmas.{answers_are_forms}
-use Rattle.solve_laws.specs.Certificates.Coming.{Task, at_exit, at_mark, at_node, mark_at, normal_post, normal_state, start_at_node, start_form}
+use Rattle.solve_laws.specs.Certificates.Coming.{
+  Task,
+  at_exit,
+  at_mark,
+  at_node,
+  mark_at,
+  normal_post,
+  normal_state,
+  start_at_node,
+  start_form,
+}
 use Rattle.solve_laws.specs.Certificates.Inductive.{OfNexts, execution}
 
 -- ---- a normal state, or post, is its own form

@@ -23,16 +23,50 @@ use Rattle.solve_laws.proofs.CertificatesLemmas.GivenLaws.{step-given}
 use Rattle.solve_laws.proofs.CertificatesLemmas.ResultLaws.{at_exit_is_well_formed, at_node_is_well_formed, start_at_node_is_well_formed}
 use Rattle.solve_laws.specs.declared.annotation.parts.Annotated.{Annotated}
 use Rattle.solve_laws.specs.declared.annotation.parts.Annotated.TheVariants.{Done}
-use Rattle.solve_laws.specs.Annotation.Annotation.{after_step, all_done, annotate, empty_listing, end_of, kept, post_comes, result_comes, started}
+use Rattle.solve_laws.specs.Annotation.Annotation.{
+  after_step,
+  all_done,
+  annotate,
+  empty_listing,
+  end_of,
+  kept,
+  post_comes,
+  result_comes,
+  started,
+}
 use Rattle.solve_laws.specs.Annotation.Annotation.{turn_of, turns, with_turn, without_turns, MOST_TURNS}
 use Rattle.solve_laws.specs.Annotation.Laws.{IsSmallCert}
 use Rattle.solve_laws.specs.Annotation.Listing.{Course, Ends, Goes, Listing, MOST_STATES, all_come, listed_at}
-use Rattle.solve_laws.proofs.AnnotationLemmas.Coming.{Arrived, HasLeft, IsNotDone, IsOpen, after-step-leads, after-step-open, all-come-arrive}
-use Rattle.solve_laws.proofs.AnnotationLemmas.Coming.{all-come-leads, arrived-stays, left-stays, post-comes-leads, post-leaves, result-arrives}
+use Rattle.solve_laws.proofs.AnnotationLemmas.Coming.{
+  Arrived,
+  HasLeft,
+  IsNotDone,
+  IsOpen,
+  after-step-leads,
+  after-step-open,
+  all-come-arrive,
+}
+use Rattle.solve_laws.proofs.AnnotationLemmas.Coming.{
+  all-come-leads,
+  arrived-stays,
+  left-stays,
+  post-comes-leads,
+  post-leaves,
+  result-arrives,
+}
 use Rattle.solve_laws.proofs.AnnotationLemmas.Coming.{result-comes-leads, start-arrives, started-leads, started-open, then-went}
 use Rattle.solve_laws.proofs.AnnotationLemmas.Growing.{Grows, Leads, cert_of, covered-grows, grows-refl, grows-trans}
 use Rattle.solve_laws.proofs.AnnotationLemmas.KeptLaws.{Contains-cons_cases}
-use Rattle.solve_laws.proofs.AnnotationLemmas.ListedLaws.{AreListed, IfFew, IfPostFew, MayCome, MayLeave, after-step-listed, few-given, few-post-given}
+use Rattle.solve_laws.proofs.AnnotationLemmas.ListedLaws.{
+  AreListed,
+  IfFew,
+  IfPostFew,
+  MayCome,
+  MayLeave,
+  after-step-listed,
+  few-given,
+  few-post-given,
+}
 use Rattle.solve_laws.proofs.AnnotationLemmas.ListedLaws.{popped-listed, started-listed}
 use Rattle.solve_laws.proofs.AnnotationLemmas.NormalLaws.{at-exit-normal, at-node-normal, nexts-normal, start-normal}
 

@@ -20,7 +20,16 @@ use Rattle.exec_laws.specs.declared.parts.Case.TheVariants.{On, Leaves, Drops}
 use Rattle.solve_laws.specs.Certificates.Coming.{Task}
 use Rattle.solve_laws.specs.Certificates.Gaps.{line_at}
 use Rattle.solve_laws.specs.Certificates.Sameness.{same_heap}
-use Rattle.solve_laws.specs.Candidates.Candidates.{MOST_TURNS, candidates, case_comes, cases_come, cases_of_pair, empty_search, started, turns}
+use Rattle.solve_laws.specs.Candidates.Candidates.{
+  MOST_TURNS,
+  candidates,
+  case_comes,
+  cases_come,
+  cases_of_pair,
+  empty_search,
+  started,
+  turns,
+}
 use Rattle.solve_laws.specs.Candidates.Candidates.{turn_of, with_turn, without_turns}
 use Rattle.solve_laws.specs.Candidates.Coming.{candidate_by, candidate_of, has_many_parts, pair_at_node, same_pair, start_pair_at_node}
 use Rattle.solve_laws.specs.Candidates.Laws.{CandidatesAreFew, CandidatesHaveSamples}

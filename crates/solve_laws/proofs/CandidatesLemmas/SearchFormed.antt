@@ -27,7 +27,16 @@ use Rattle.solve_laws.specs.Certificates.Conditions.{IsTask}
 use Rattle.solve_laws.specs.Certificates.Gaps.{line_at}
 use Rattle.solve_laws.specs.Certificates.Limits.{analysable}
 use Rattle.solve_laws.specs.Certificates.Sameness.{same_heap}
-use Rattle.solve_laws.specs.Candidates.Candidates.{MOST_TURNS, candidates, case_comes, cases_come, cases_of_pair, empty_search, started, turn_of}
+use Rattle.solve_laws.specs.Candidates.Candidates.{
+  MOST_TURNS,
+  candidates,
+  case_comes,
+  cases_come,
+  cases_of_pair,
+  empty_search,
+  started,
+  turn_of,
+}
 use Rattle.solve_laws.specs.Candidates.Candidates.{turns, with_turn, without_turns}
 use Rattle.solve_laws.specs.Candidates.Coming.{candidate_by, candidate_of, has_many_parts, pair_at_node, parts_of, same_pair, start_pair}
 use Rattle.solve_laws.specs.Candidates.Coming.{start_pair_at_node}

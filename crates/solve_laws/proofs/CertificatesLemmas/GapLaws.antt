@@ -29,7 +29,16 @@ use Rattle.solve_laws.specs.Certificates.Coverings.{IsCovered, IsPostCovered, is
 use Rattle.solve_laws.specs.Certificates.Gaps.{first_found, first_gap, is_exit_covered, is_next_covered, node_gap, passes, placed, post_gap}
 use Rattle.solve_laws.specs.Certificates.Gaps.{spec_gap, start_gap, state_gap, step_gap, summary_gap, uncovered_unless}
 use Rattle.solve_laws.specs.Certificates.Inductive.{DoesNotFail, ExitsAreCovered, IsInductiveCert, IsInductiveSummary, NextsAreCovered}
-use Rattle.solve_laws.specs.Certificates.Inductive.{NoStateFails, OfExecutions, OfExits, OfNexts, PostsCover, StartIsCovered, execution, task_of}
+use Rattle.solve_laws.specs.Certificates.Inductive.{
+  NoStateFails,
+  OfExecutions,
+  OfExits,
+  OfNexts,
+  PostsCover,
+  StartIsCovered,
+  execution,
+  task_of,
+}
 use Rattle.solve_laws.specs.Certificates.Laws.{NoGap, NoSpecGap}
 use Rattle.solve_laws.proofs.CertificatesLemmas.CoveringLaws.{is_covered-Decides, is_post_covered-Decides}
 

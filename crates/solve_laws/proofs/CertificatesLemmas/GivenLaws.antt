@@ -28,8 +28,21 @@ use Rattle.solve_laws.specs.Certificates.Coming.{Task, at_exit, normal_post, nor
 use Rattle.solve_laws.specs.Certificates.Inductive.{execution}
 use Rattle.solve_laws.specs.Certificates.Limits.{IsWider, analysable}
 use Rattle.solve_laws.proofs.CertificatesLemmas.LimitLaws as limits
-use Rattle.solve_laws.proofs.CertificatesLemmas.ResultLaws.{normal_post_is_well_formed, normal_state_is_well_formed, start_form_is_well_formed}
-use Rattle.solve_laws.specs.Certificates.Conditions.{AreNexts, GoesOnWithin, IsGivenState, IsGivenStep, IsTask, IsTaskCert, IsTaskPost, IsTaskSpec}
+use Rattle.solve_laws.proofs.CertificatesLemmas.ResultLaws.{
+  normal_post_is_well_formed,
+  normal_state_is_well_formed,
+  start_form_is_well_formed,
+}
+use Rattle.solve_laws.specs.Certificates.Conditions.{
+  AreNexts,
+  GoesOnWithin,
+  IsGivenState,
+  IsGivenStep,
+  IsTask,
+  IsTaskCert,
+  IsTaskPost,
+  IsTaskSpec,
+}
 use Rattle.solve_laws.specs.Certificates.Conditions.{IsTaskState}
 
 -- what is within the limits of the analysis is well formed; and so is what has twice as many parts

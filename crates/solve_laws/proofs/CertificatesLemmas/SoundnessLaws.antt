@@ -44,7 +44,13 @@ use Rattle.solve_laws.specs.Certificates.Coming.{Task, at_exit, at_node, normal_
 use Rattle.solve_laws.specs.Certificates.Coverings.{IsCovered, IsPostCovered}
 use Rattle.solve_laws.specs.Certificates.Inductive.{DoesNotFail, Inductive, IsInductiveCert, OfExits, OfNexts, execution, table_of, task_of}
 use Rattle.solve_laws.specs.Certificates.Laws.{AllAreValid, InductiveIsValid, IsInductiveAt}
-use Rattle.solve_laws.proofs.CertificatesLemmas.LeadingLaws.{at_exit-weakens, at_node-weakens, covered-leads, covered-post-leads, normal_post-weakens}
+use Rattle.solve_laws.proofs.CertificatesLemmas.LeadingLaws.{
+  at_exit-weakens,
+  at_node-weakens,
+  covered-leads,
+  covered-post-leads,
+  normal_post-weakens,
+}
 use Rattle.solve_laws.proofs.CertificatesLemmas.LeadingLaws.{start-weakens, PostsFit, StatesFit}
 
 -- ---- calls

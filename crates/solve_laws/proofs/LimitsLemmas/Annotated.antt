@@ -38,13 +38,29 @@ use Rattle.solve_laws.proofs.AnnotationLemmas.AnnotationLaws.{done_is_small, don
 use Rattle.solve_laws.proofs.AnnotationLemmas.Coming.{after-step-open, started-open}
 use Rattle.solve_laws.proofs.AnnotationLemmas.Growing.{cert_of}
 use Rattle.solve_laws.proofs.AnnotationLemmas.KeptLaws.{kept-each}
-use Rattle.solve_laws.proofs.AnnotationLemmas.ListedLaws.{AreListed, IfFew, IfPostFew, MayCome, MayLeave, after-step-listed, few-given, few-post-given}
+use Rattle.solve_laws.proofs.AnnotationLemmas.ListedLaws.{
+  AreListed,
+  IfFew,
+  IfPostFew,
+  MayCome,
+  MayLeave,
+  after-step-listed,
+  few-given,
+  few-post-given,
+}
 use Rattle.solve_laws.proofs.AnnotationLemmas.ListedLaws.{popped-listed, started-listed}
 use Rattle.solve_laws.proofs.AnnotationLemmas.Turns.{end-went}
 use Rattle.solve_laws.specs.Limits.Laws.{DoneIsStorable, PostHasStorableLogical, HasStorableLogical}
 use Rattle.solve_laws.specs.Limits.Numbers.{IsLowExistential}
 use Rattle.solve_laws.specs.Limits.Sizes.{HasTaskSizes}
-use Rattle.solve_laws.proofs.LimitsLemmas.Counted.{IsLogicalStorable, constant-fits, logical-fits, existential-fits, post-storable, state-storable}
+use Rattle.solve_laws.proofs.LimitsLemmas.Counted.{
+  IsLogicalStorable,
+  constant-fits,
+  logical-fits,
+  existential-fits,
+  post-storable,
+  state-storable,
+}
 use Rattle.solve_laws.proofs.LimitsLemmas.Counted.{storable-fits, to-atoms, to-facts, heap-both}
 use Rattle.solve_laws.proofs.LimitsLemmas.Executed.{execution_keeps_logical, exits_keep_logical, nodes_keep_logical}
 use Rattle.solve_laws.proofs.LimitsLemmas.Numbered.{canon-kept, forms_have_low_existentials}

@@ -64,7 +64,15 @@ use Rattle.exec_laws.specs.Values.{operand}
 use Rattle.exec_laws.proofs.CallRows.{callee-found, first-found}
 use Rattle.solve_laws.specs.Limits.Numbers.{storable_logical}
 use Rattle.shape_data.specs.Sizes.{IsNarrow}
-use Rattle.solve_laws.proofs.LimitsLemmas.Counted.{IsLogicalStorable, atoms-of, facts-of, few-names, constant-fits, logical-fits, existential-fits}
+use Rattle.solve_laws.proofs.LimitsLemmas.Counted.{
+  IsLogicalStorable,
+  atoms-of,
+  facts-of,
+  few-names,
+  constant-fits,
+  logical-fits,
+  existential-fits,
+}
 use Rattle.solve_laws.proofs.LimitsLemmas.Counted.{to-atoms, to-facts}
 use Rattle.solve_laws.proofs.LimitsLemmas.Rows.{CaseGood, fresh-high, operand-good, strict}
 

@@ -34,13 +34,29 @@ use Rattle.exec_laws.specs.Execution.{nothing_missing, post_of, setting_of}
 use Rattle.exec_laws.specs.Laws.{IsTableWithin}
 use Rattle.exec_laws.specs.Pairs.{canonical}
 use Rattle.solve_laws.specs.Certificates.Coming.{Task, at_mark, mark_at}
-use Rattle.solve_laws.specs.Limits.Laws.{ExecutionKeepsLogical, ExitsKeepLogical, PostHasStorableLogical, HasStorableLogical, NodesKeepLogical}
+use Rattle.solve_laws.specs.Limits.Laws.{
+  ExecutionKeepsLogical,
+  ExitsKeepLogical,
+  PostHasStorableLogical,
+  HasStorableLogical,
+  NodesKeepLogical,
+}
 use Rattle.shape_data.specs.Sizes.{IsNarrow}
 use Rattle.solve_laws.proofs.LimitsLemmas.Abstracted.{abstract_exit-kept, abstract_head-kept}
 use Rattle.solve_laws.proofs.LimitsLemmas.Calls.{call-good}
 use Rattle.solve_laws.proofs.LimitsLemmas.Counted.{IsLogicalStorable, constant-fits, existential-fits}
 use Rattle.solve_laws.proofs.LimitsLemmas.Numbered.{canon-kept}
-use Rattle.solve_laws.proofs.LimitsLemmas.Rows.{CaseGood, any-good, arith-good, branch-good, copy-good, free-good, load-good, new-good, return-good}
+use Rattle.solve_laws.proofs.LimitsLemmas.Rows.{
+  CaseGood,
+  any-good,
+  arith-good,
+  branch-good,
+  copy-good,
+  free-good,
+  load-good,
+  new-good,
+  return-good,
+}
 use Rattle.solve_laws.proofs.LimitsLemmas.Rows.{store-good, strict}
 
 -- ---- the forms of cases, and the answer

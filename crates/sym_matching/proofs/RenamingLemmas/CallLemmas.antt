@@ -28,7 +28,15 @@ use Rattle.sym_matching.proofs.ReadingLaws.{value-through}
 use Rattle.sym_matching.proofs.VariableLaws.{binding-within, heap-kept, heap-within}
 use Rattle.sym_matching.specs.declared.renaming.parts.Numbers.{Numbers}
 use Rattle.sym_matching.specs.Renaming.Apart.{number_of, numbers_apart}
-use Rattle.sym_matching.specs.Renaming.Calls.{bound_in, bound_or_new, in_caller, new_in_post, parameters_bound, post_in_caller, post_variables}
+use Rattle.sym_matching.specs.Renaming.Calls.{
+  bound_in,
+  bound_or_new,
+  in_caller,
+  new_in_post,
+  parameters_bound,
+  post_in_caller,
+  post_variables,
+}
 use Rattle.sym_matching.specs.Renaming.Calls.{pre_apart, pre_numbers, variables_from}
 use Rattle.sym_matching.specs.Renaming.Laws.{ArgumentsStand, MatchIsCall, PostBesideFrame, PostHolds, PostInCaller, PreInCaller, standing}
 use Rattle.sym_matching.proofs.RenamingLemmas.CoveringLemmas.{filtered}

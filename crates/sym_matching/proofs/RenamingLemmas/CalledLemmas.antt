@@ -16,10 +16,24 @@ use Rattle.sym_matching.specs.Variables.{with_binding, with_heap}
 use Rattle.sym_matching.proofs.SizeLaws.{small, well_formed_is_within_sizes}
 use Rattle.sym_matching.specs.declared.renaming.parts.Numbers.{Numbers}
 use Rattle.sym_matching.specs.Renaming.Apart.{number_of, numbers_apart}
-use Rattle.sym_matching.specs.Renaming.Calls.{called_with, in_caller, new_in_post, others_flexible, parameters_bound, post_numbers, variables_from}
+use Rattle.sym_matching.specs.Renaming.Calls.{
+  called_with,
+  in_caller,
+  new_in_post,
+  others_flexible,
+  parameters_bound,
+  post_numbers,
+  variables_from,
+}
 use Rattle.sym_matching.specs.Renaming.Sizes.{CalledIsWellFormed, IsSmallBinding, PostIsWellFormed}
 use Rattle.sym_matching.proofs.RenamingLemmas.NumberLemmas.{few_distinct}
-use Rattle.sym_matching.proofs.RenamingLemmas.SizeLemmas.{called_is_within_sizes, few_from, few_heap_variables, few_passing, mapped_heap_is_well_formed}
+use Rattle.sym_matching.proofs.RenamingLemmas.SizeLemmas.{
+  called_is_within_sizes,
+  few_from,
+  few_heap_variables,
+  few_passing,
+  mapped_heap_is_well_formed,
+}
 use Rattle.sym_matching.proofs.RenamingLemmas.SizeLemmas.{mapped_post_is_well_formed, post_room, pre_room, small_in_caller, small_renamed}
 
 -- ---- variables below 2^31 may occur, and no others

@@ -33,7 +33,15 @@ use Rattle.sym_matching.proofs.NewNumberLaws.{distinct-has}
 use Rattle.sym_matching.proofs.RoomLaws.{room_of_few}
 use Rattle.sym_matching.specs.declared.renaming.parts.Numbers.{Numbers}
 use Rattle.sym_matching.specs.Renaming.Apart.{number_of, numbers_apart}
-use Rattle.sym_matching.specs.Renaming.Calls.{bound_in, bound_or_new, in_caller, new_in_post, parameters_bound, post_numbers, post_variables}
+use Rattle.sym_matching.specs.Renaming.Calls.{
+  bound_in,
+  bound_or_new,
+  in_caller,
+  new_in_post,
+  parameters_bound,
+  post_numbers,
+  post_variables,
+}
 use Rattle.sym_matching.specs.Renaming.Calls.{variables_from}
 use Rattle.sym_matching.specs.Renaming.Sizes.{AreSmall, CalledIsWithinSizes, FewBindingVariables, FewHeapVariables, FewStateVariables}
 use Rattle.sym_matching.specs.Renaming.Sizes.{IsSmallBinding, MappedHeapIsWellFormed, MappedIsWithinSizes, MappedPostIsWellFormed}

@@ -7,7 +7,14 @@ use Rattle.shape_data.specs.declared.symbolic.Exp.TheVariants.{Var, Const}
 use Rattle.shape_data.specs.declared.symbolic.Post.{Post}
 use Rattle.shape_data.specs.declared.symbolic.SymState.{SymState}
 use Rattle.shape_data.specs.Meaning.{value, AgreesOnLogical, MeetsPost, MeetsState}
-use Rattle.sym_parts.specs.Laws.Instances.{in_place_of, with_images, ForgottenPostMeets, ForgottenStateMeets, InstanceMeets, InstancePostMeets}
+use Rattle.sym_parts.specs.Laws.Instances.{
+  in_place_of,
+  with_images,
+  ForgottenPostMeets,
+  ForgottenStateMeets,
+  InstanceMeets,
+  InstancePostMeets,
+}
 use Rattle.sym_parts.specs.Laws.Instances.{InstanceStateMeets, KeepsLogical}
 use Rattle.sym_parts.proofs.LawsLemmas.MappedLemmas.{Holds-mapped, values-mapped}
 

@@ -8,7 +8,13 @@ use Rattle.shape_data.specs.declared.machine.Cell.{Cell}
 use Rattle.shape_data.specs.declared.program.StructDef.{StructDef}
 use Rattle.shape_data.specs.Heap.{cell_at, put, without, with_field, first_of_two, HasShape, IsHeap, IsSum}
 use Rattle.sym_parts.proofs.ShapesLemmas.Cells.{cell_at-put_same, cell_at-put_other, cell_at-without_same, cell_at-without_other}
-use Rattle.sym_parts.proofs.ShapesLemmas.Cells.{cell_at-with_field_same, cell_at-with_field_other, with_number, first_right_none, IsHeap-put}
+use Rattle.sym_parts.proofs.ShapesLemmas.Cells.{
+  cell_at-with_field_same,
+  cell_at-with_field_other,
+  with_number,
+  first_right_none,
+  IsHeap-put,
+}
 use Rattle.sym_parts.proofs.ShapesLemmas.Cells.{IsHeap-without, IsHeap-with_field}
 
 -- where the frame has no cell, the whole has that of the part

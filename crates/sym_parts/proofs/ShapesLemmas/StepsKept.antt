@@ -30,7 +30,16 @@ use Rattle.shape_data.specs.WellFormed.{IsConfig}
 use Rattle.sym_parts.specs.Shapes.Steps.{TakesChoice, MayBeBad, IsStepOf, StepIsNeverStuck, IsRunOf, RunIsNeverStuck, StartIsConfig}
 use Rattle.sym_parts.proofs.ShapesLemmas.FrameSteps.{new_cell_fits}
 use Rattle.sym_parts.proofs.ShapesLemmas.Cells.{IsHeap-put, IsHeap-without, IsHeap-with_field}
-use Rattle.sym_parts.proofs.ShapesLemmas.StepsStacks.{All-at, within-some, some_pushed, some_pushed_two, stack_is, no_top, last_of, AreFrames-append}
+use Rattle.sym_parts.proofs.ShapesLemmas.StepsStacks.{
+  All-at,
+  within-some,
+  some_pushed,
+  some_pushed_two,
+  stack_is,
+  no_top,
+  last_of,
+  AreFrames-append,
+}
 use Rattle.sym_parts.proofs.ShapesLemmas.StepsStacks.{AreFrames-split, IsFrame-of, proc_found, new_frame_locals}
 
 -- `IsStepOf`, where what a bad choice tells is left open

@@ -8,8 +8,8 @@ use Rattle.c_tree.specs.Syntax.{item_tree, unit_tree}
 use Rattle.c_types_exprs.specs.Listing.{with_kinds}
 use Rattle.c_types_exprs.proofs.ListedKinds.{with_none}
 use Rattle.c_types_stmts.proofs.Adding.{same}
-use Rattle.c_types.specs.FirstRefusals.{first_with}
-use Rattle.c_types.proofs.FirstRefusals.{first_with-nil, first_with-is}
+use Rattle.c_types_names.specs.FirstRefusal.{first_with}
+use Rattle.c_types_names.proofs.FirstWith.{first_with-nil, first_with-is}
 use Rattle.c_types.proofs.Files.{refusal_next, kinds_next}
 use Rattle.c_types.proofs.checker.find.Goals as goal
 

@@ -3,7 +3,7 @@ use Rattle.c_tree.specs.Syntax.{unit_tree}
 use Rattle.c_types_rules.specs.Tables.{no_tables, items_of}
 use Rattle.c_types_rules.specs.Programs.{files_refusals, items}
 use Rattle.c_types_exprs.specs.Listing.{with_kinds}
-use Rattle.c_types.specs.FirstRefusals.{first_with}
+use Rattle.c_types_names.specs.FirstRefusal.{first_with}
 use Rattle.c_types.proofs.checker.find.Given as goal
 
 abbrev pub invariant-loop-place : goal.invariant-loop-place

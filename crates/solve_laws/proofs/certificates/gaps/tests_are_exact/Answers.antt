@@ -1,4 +1,9 @@
-use Rattle.solve_laws.proofs.CertificatesLemmas.CoveringLaws.{post_test_is_exact, posts_test_is_exact, state_test_is_exact, states_test_is_exact}
+use Rattle.solve_laws.proofs.CertificatesLemmas.CoveringLaws.{
+  post_test_is_exact,
+  posts_test_is_exact,
+  state_test_is_exact,
+  states_test_is_exact,
+}
 use Rattle.solve_laws.proofs.certificates.gaps.tests_are_exact.Goals as goal
 
 pub returns-clause-state : goal.returns-clause-state

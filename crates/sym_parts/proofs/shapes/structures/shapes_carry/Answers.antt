@@ -1,4 +1,11 @@
-use Rattle.sym_parts.proofs.ShapesLemmas.ContainingShapes.{atom-carries, callee-carries, callees-carry, cert-carries, post-carries, spec-carries}
+use Rattle.sym_parts.proofs.ShapesLemmas.ContainingShapes.{
+  atom-carries,
+  callee-carries,
+  callees-carry,
+  cert-carries,
+  post-carries,
+  spec-carries,
+}
 use Rattle.sym_parts.proofs.ShapesLemmas.ContainingShapes.{state-carries, states-carry, summary-carries, sym_heap-carries}
 use Rattle.sym_parts.proofs.shapes.structures.shapes_carry.Goals as goal
 

@@ -5,8 +5,7 @@ use Rattle.c_types_rules.specs.declared.at.At.{At}
 use Rattle.c_types_rules.specs.Programs.{is_no_later, first_by, earlier, first_of, in_unit}
 use Rattle.c_types_rules.proofs.First.{either, no_later}
 use Rattle.c_types_names.specs.declared.first_refusal.FirstRefusal.{FirstRefusal}
-use Rattle.c_types_names.specs.FirstRefusal.{least, with_refusal, with_refusals}
-use Rattle.c_types.specs.FirstRefusals.{first_with}
+use Rattle.c_types_names.specs.FirstRefusal.{least, with_refusal, with_refusals, first_with}
 
 pub first_with-append : (found : Option At) (one other : List At)
     → first_with found (one ++ other) ≡ first_with (first_with found one) other
