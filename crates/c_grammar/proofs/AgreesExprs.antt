@@ -56,7 +56,7 @@ unfolding read_malloc
 malloc_agrees first others e proper =
     at_last (expr_at 8) (first ∷ others)
     (proper_first class.Malloc first others e proper) size_of read_size_of size_of_form size_of_agrees others (one_behind first others)
-    (λ target. Expr.Malloc first.place None target) (λ target to k. (others, (e, refl, refl), k))
+    (λ allocated. Expr.Malloc first.place None allocated) (λ allocated to k. (others, (e, refl, refl), k))
 
 cast_agrees : (first : Word) (others : List Word) → first.class ≡ Classes.CAST → AreProper others
     → AgreesAs (expr_at 8) (first ∷ others) (read_cast (first ∷ others))
@@ -70,8 +70,8 @@ cast_agrees first others e proper =
     over (expr_at 8) (first ∷ others) p class.Close refl a ab _ _ (λ b bh bb.
     over (expr_at 8) (first ∷ others) p class.Malloc refl b bb _ _ (λ c ch cb.
     at_last (expr_at 8) (first ∷ others) p size_of read_size_of size_of_form size_of_agrees c cb
-    (λ target. Expr.Malloc first.place (Some s.0) target)
-    (λ target to k. (b, (others, (e, refl, refl), (s.1, sh, (a, ah, bh))), (c, ch, k)))))))
+    (λ allocated. Expr.Malloc first.place (Some s.0) allocated)
+    (λ allocated to k. (b, (others, (e, refl, refl), (s.1, sh, (a, ah, bh))), (c, ch, k)))))))
 
 -- what is one level deeper is read
 abbrev pub BelowReads : ℕ → Type 0
@@ -303,7 +303,7 @@ members_spell base [] from mid to h k = subst (λ w. expr_at 7 base from w) k (l
     looser (Expr.Null place) x y h = h
     looser (Expr.Paren place inner) x y h = h
     looser (Expr.Call callee args) x y h = h
-    looser (Expr.Malloc place as_type target) x y h = h
+    looser (Expr.Malloc place as_type allocated) x y h = h
 members_spell base (field ∷ fields) from mid to h (b, (a, arrow, named), others) = (omega arith, (mid, h, (a, arrow, (b, named, others))))
 
 pub postfix_agrees : (n : ℕ) → BelowReads n → ReadsExpr 7 (read_postfix (read_below n)) (Forms.postfix_form n (Forms.expr_below n))
@@ -339,7 +339,7 @@ tight (Expr.Number place value) from to h = h
 tight (Expr.Null place) from to h = h
 tight (Expr.Paren place inner) from to h = h
 tight (Expr.Call callee args) from to h = h
-tight (Expr.Malloc place as_type target) from to h = h
+tight (Expr.Malloc place as_type allocated) from to h = h
 
 -- an operand without a prefix
 plain : (n : ℕ) → BelowReads n → (words : List Word) → AreProper words

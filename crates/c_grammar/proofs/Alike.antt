@@ -210,37 +210,37 @@ again_head x from to from' (m, h, (n, k, (o, l, (q, r, s)))) alike =
     )
 
 again_size_of : Repeats size_of placeless_specifier
-again_size_of target from to from' (m, h, (n, k, (o, l, (p, q, (r, s, t))))) alike =
+again_size_of allocated from to from' (m, h, (n, k, (o, l, (p, q, (r, s, t))))) alike =
     let (m', h', b) = again_open from m from' h alike in
     let (n', k', c) = again_word Classes.SIZEOF m n m' k b in
     let (o', l', d) = again_open n o n' l c in
-    let (target', p', q', e, f) = again_specifier target o p o' q d in
+    let (allocated', p', q', e, f) = again_specifier allocated o p o' q d in
     let (r', s', g) = again_word Classes.CLOSE p r p' s e in
     let (to', t', u) = again_word Classes.CLOSE r to r' t g in
-    (target', to', (m', h', (n', k', (o', l', (p', q', (r', s', t'))))), u, f)
+    (allocated', to', (m', h', (n', k', (o', l', (p', q', (r', s', t'))))), u, f)
 
-again_cast : (place : Place) (target : Specifier) (from to from' : List Word) → cast place target from to → AreAlike from from'
-    → (place' : Place) × (target' : Specifier) × (to' : List Word) × cast place' target' from' to' × AreAlike to to'
-    × (placeless_specifier target' ≡ placeless_specifier target)
-again_cast place target from to from' (m, h, (n, k, (o, l, q))) alike =
+again_cast : (place : Place) (as_type : Specifier) (from to from' : List Word) → cast place as_type from to → AreAlike from from'
+    → (place' : Place) × (as_type' : Specifier) × (to' : List Word) × cast place' as_type' from' to' × AreAlike to to'
+    × (placeless_specifier as_type' ≡ placeless_specifier as_type)
+again_cast place as_type from to from' (m, h, (n, k, (o, l, q))) alike =
     let (p, m', h', b) = again_word_at place Classes.CAST from m from' h alike in
-    let (target', n', k', c, e) = again_specifier target m n m' k b in
+    let (as_type', n', k', c, e) = again_specifier as_type m n m' k b in
     let (o', l', d) = again_word Classes.STAR n o n' l c in
     let (to', q', t) = again_word Classes.CLOSE o to o' q d in
-    (p, target', to', (m', h', (n', k', (o', l', q'))), t, e)
+    (p, as_type', to', (m', h', (n', k', (o', l', q'))), t, e)
 
-again_malloc : (level : ℕ) (place : Place) (as_type : Option Specifier) (target : Specifier) (from to from' : List Word)
-    → malloc place as_type target from to → AreAlike from from'
-    → Again (expr_at level) placeless_expr (Expr.Malloc place as_type target) to from'
-again_malloc level place None target from to from' (m, h, k) alike =
+again_malloc : (level : ℕ) (place : Place) (as_type : Option Specifier) (allocated : Specifier) (from to from' : List Word)
+    → malloc place as_type allocated from to → AreAlike from from'
+    → Again (expr_at level) placeless_expr (Expr.Malloc place as_type allocated) to from'
+again_malloc level place None allocated from to from' (m, h, k) alike =
     let (p, m', h', b) = again_word_at place Classes.MALLOC from m from' h alike in
-    let (target', to', k', c, e) = again_size_of target m to m' k b in
-    (Expr.Malloc p None target', to', (m', h', k'), c, λ i. Expr.Malloc nowhere None (e i))
-again_malloc level place (Some as_type) target from to from' (m, h, (n, k, l)) alike =
+    let (allocated', to', k', c, e) = again_size_of allocated m to m' k b in
+    (Expr.Malloc p None allocated', to', (m', h', k'), c, λ i. Expr.Malloc nowhere None (e i))
+again_malloc level place (Some as_type) allocated from to from' (m, h, (n, k, l)) alike =
     let (p, as_type', m', h', b, e) = again_cast place as_type from m from' h alike in
     let (n', k', c) = again_word Classes.MALLOC m n m' k b in
-    let (target', to', l', d, f) = again_size_of target n to n' l c in
-    (Expr.Malloc p (Some as_type') target', to', (m', h', (n', k', l')), d, λ i. Expr.Malloc nowhere (Some (e i)) (f i))
+    let (allocated', to', l', d, f) = again_size_of allocated n to n' l c in
+    (Expr.Malloc p (Some as_type') allocated', to', (m', h', (n', k', l')), d, λ i. Expr.Malloc nowhere (Some (e i)) (f i))
 
 mutual
   again_expr : (level : ℕ) → Repeats (expr_at level) placeless_expr
@@ -285,7 +285,7 @@ mutual
       let (args', o', l', d, f) = again_args args n o n' l c in
       let (to', q', t) = again_word Classes.CLOSE o to o' q d in
       (Expr.Call callee' args', to', (m', h', (n', k', (o', l', q'))), t, λ i. Expr.Call (e i) (f i))
-  again_expr level (Expr.Malloc place as_type target) from to from' h alike = again_malloc level place as_type target from to from' h alike
+  again_expr level (Expr.Malloc place as_type allocated) from to from' h alike = again_malloc level place as_type allocated from to from' h alike
 
   again_links : (level : ℕ) → Repeats (links_at level) placeless_links
   again_links level Links.NoLinks from to from' h alike = (Links.NoLinks, from', refl, subst (λ w. AreAlike w from') h alike, refl)
@@ -533,7 +533,7 @@ mutual
   nesting_placeless (Expr.Null place) = refl
   nesting_placeless (Expr.Paren place inner) = λ i. suc (nesting_placeless inner i)
   nesting_placeless (Expr.Call callee args) = λ i. suc (args_placeless args i)
-  nesting_placeless (Expr.Malloc place as_type target) = refl
+  nesting_placeless (Expr.Malloc place as_type allocated) = refl
 
   links_placeless : (all : Links) → links_nesting (placeless_links all) ≡ links_nesting all
   links_placeless Links.NoLinks = refl

@@ -203,7 +203,7 @@ tighter (Expr.Number place value) level less fits from to h = h
 tighter (Expr.Null place) level less fits from to h = h
 tighter (Expr.Paren place inner) level less fits from to h = h
 tighter (Expr.Call callee args) level less fits from to h = h
-tighter (Expr.Malloc place as_type target) level less fits from to h = h
+tighter (Expr.Malloc place as_type allocated) level less fits from to h = h
 
 tighter_found : (level less n : ℕ) → less ≤ level → (from to : List Word) → FoundExpr level n from to → FoundExpr less n from to
 tighter_found level less n fits from to (e, h, deep) = (e, tighter e level less fits from to h, deep)
@@ -333,15 +333,15 @@ size_of_found : (from to : List Word)
     → IsForm (Both Forms.open_form
     (Both (AWord Classes.SIZEOF)
     (Both Forms.open_form (Both Forms.specifier_form (Both (AWord Classes.CLOSE) (AWord Classes.CLOSE)))))) from to
-    → (target : Specifier) × size_of target from to
+    → (allocated : Specifier) × size_of allocated from to
 size_of_found from to f =
     let (a, p, f1) = both_parts f in
     let (b, q, f2) = both_parts f1 in
     let (c, r, f3) = both_parts f2 in
     let (d, s, f4) = both_parts f3 in
     let (e, t, u) = both_parts f4 in
-    let (target, th) = specifier_found c d s in (
-      target,
+    let (allocated, th) = specifier_found c d s in (
+      allocated,
       (
         a,
         open_rule from a p,
@@ -357,8 +357,8 @@ malloc_found : (n : ℕ) (from to : List Word) → IsForm Forms.malloc_form from
 malloc_found n from to f =
     let (a, p, g) = both_parts f in
     let (place, ph) = word_at_rule Classes.MALLOC from a p in
-    let (target, th) = size_of_found a to g in
-    (Expr.Malloc place None target, (a, ph, th), omega arith)
+    let (allocated, th) = size_of_found a to g in
+    (Expr.Malloc place None allocated, (a, ph, th), omega arith)
 
 cast_found : (n : ℕ) (from to : List Word) → IsForm Forms.cast_form from to → FoundExpr 8 n from to
 cast_found n from to f =
@@ -369,8 +369,8 @@ cast_found n from to f =
     let (e, t, u) = both_parts f4 in
     let (place, ph) = word_at_rule Classes.CAST from a p in
     let (as_type, ah) = specifier_found a b q in
-    let (target, th) = size_of_found e to u in (
-      Expr.Malloc place (Some as_type) target,
+    let (allocated, th) = size_of_found e to u in (
+      Expr.Malloc place (Some as_type) allocated,
       (d, (a, ph, (b, ah, (c, word_rule Classes.STAR b c r, word_rule Classes.CLOSE c d s))), (e, word_rule Classes.MALLOC d e t, th)),
       omega arith,
     )

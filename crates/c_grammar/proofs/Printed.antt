@@ -242,24 +242,24 @@ a_prefix : (place : Place) (op : PrefixOp) (from to : List Word) (behind : Texts
 a_prefix place PrefixOp.Negate from to behind h = a_word_at place Classes.MINUS from to (λ t. refl) h
 a_prefix place PrefixOp.Not from to behind h = a_word_at place Classes.NOT from to (λ t. refl) h
 
-a_size_of : (target : Specifier) → Shows size_of print_size_of target
-a_size_of target from to behind (a, h, (b, i, (c, j, (d, k, (e, l, m))))) =
+a_size_of : (allocated : Specifier) → Shows size_of print_size_of allocated
+a_size_of allocated from to behind (a, h, (b, i, (c, j, (d, k, (e, l, m))))) =
     joined (an_open from a h)
     (joined (a_word Classes.SIZEOF a b (λ t. refl) i)
     (joined (an_open b c j)
-    (joined (a_specifier target c d _ k)
+    (joined (a_specifier allocated c d _ k)
     (joined (a_word Classes.CLOSE d e (λ t. refl) l) (a_word Classes.CLOSE e to (λ t. refl) m)))))
 
-a_malloc : (place : Place) (as_type : Option Specifier) (target : Specifier) (from to : List Word) (behind : Texts)
-    → malloc place as_type target from to → Prints from to (print_malloc as_type target behind) behind
-a_malloc place None target from to behind (a, h, k) =
-    joined (a_word_at place Classes.MALLOC from a (λ t. refl) h) (a_size_of target a to behind k)
-a_malloc place (Some as_type) target from to behind (a, (b, h, (c, i, (d, j, k))), (e, l, m)) =
+a_malloc : (place : Place) (as_type : Option Specifier) (allocated : Specifier) (from to : List Word) (behind : Texts)
+    → malloc place as_type allocated from to → Prints from to (print_malloc as_type allocated behind) behind
+a_malloc place None allocated from to behind (a, h, k) =
+    joined (a_word_at place Classes.MALLOC from a (λ t. refl) h) (a_size_of allocated a to behind k)
+a_malloc place (Some as_type) allocated from to behind (a, (b, h, (c, i, (d, j, k))), (e, l, m)) =
     joined (a_word_at place Classes.CAST from b (λ t. refl) h)
     (joined (a_specifier as_type b c _ i)
     (joined (a_word Classes.STAR c d (λ t. refl) j)
     (joined (a_word Classes.CLOSE d a (λ t. refl) k)
-    (joined (a_word Classes.MALLOC a e (λ t. refl) l) (a_size_of target e to behind m)))))
+    (joined (a_word Classes.MALLOC a e (λ t. refl) l) (a_size_of allocated e to behind m)))))
 
 mutual
   an_expr : (e : Expr) (level : ℕ) (from to : List Word) (behind : Texts) → expr_at level e from to
@@ -285,7 +285,7 @@ mutual
       (joined (an_expr inner 0 a b _ i) (a_word Classes.CLOSE b to (λ t. refl) k))
   an_expr (Expr.Call callee args) level from to behind (a, h, (b, i, (c, j, k))) =
       joined (a_name callee from a _ h) (joined (an_open a b i) (joined (some_args args b c _ j) (a_word Classes.CLOSE c to (λ t. refl) k)))
-  an_expr (Expr.Malloc place as_type target) level from to behind h = a_malloc place as_type target from to behind h
+  an_expr (Expr.Malloc place as_type allocated) level from to behind h = a_malloc place as_type allocated from to behind h
 
   some_links : (links : Links) (level : ℕ) (from to : List Word) (behind : Texts) → links_at level links from to
       → Prints from to (print_links links behind) behind

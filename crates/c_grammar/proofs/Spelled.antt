@@ -147,23 +147,23 @@ levels_left BinaryOp.Add = (1, refl)
 levels_left BinaryOp.Subtract = (1, refl)
 levels_left BinaryOp.Multiply = (0, refl)
 
-pub is_size_of : (target : Specifier) (from to : List Word) → size_of target from to
+pub is_size_of : (allocated : Specifier) (from to : List Word) → size_of allocated from to
     → IsForm (Both Forms.open_form
     (Both (AWord Classes.SIZEOF)
     (Both Forms.open_form (Both Forms.specifier_form (Both (AWord Classes.CLOSE) (AWord Classes.CLOSE)))))) from to
-is_size_of target from to (a, h, (b, i, (c, j, (d, k, (e, l, m))))) =
+is_size_of allocated from to (a, h, (b, i, (c, j, (d, k, (e, l, m))))) =
     is_both (is_open from a h)
-    (is_both (is_word a b i) (is_both (is_open b c j) (is_both (is_specifier target c d k) (is_both (is_word d e l) (is_word e to m)))))
+    (is_both (is_word a b i) (is_both (is_open b c j) (is_both (is_specifier allocated c d k) (is_both (is_word d e l) (is_word e to m)))))
 
-pub is_malloc : (place : Place) (as_type : Option Specifier) (target : Specifier) (n : ℕ) (inner : Form) (from to : List Word)
-    → malloc place as_type target from to → IsForm (Forms.closed_form n inner) from to
-is_malloc place None target n inner from to (a, h, k) =
-    is_second (is_second (is_second (is_second (is_both (is_word_at place from a h) (is_size_of target a to k)))))
-is_malloc place (Some as_type) target n inner from to (a, (b, h, (c, i, (d, j, k))), (e, l, m)) =
+pub is_malloc : (place : Place) (as_type : Option Specifier) (allocated : Specifier) (n : ℕ) (inner : Form) (from to : List Word)
+    → malloc place as_type allocated from to → IsForm (Forms.closed_form n inner) from to
+is_malloc place None allocated n inner from to (a, h, k) =
+    is_second (is_second (is_second (is_second (is_both (is_word_at place from a h) (is_size_of allocated a to k)))))
+is_malloc place (Some as_type) allocated n inner from to (a, (b, h, (c, i, (d, j, k))), (e, l, m)) =
     is_second (is_second (is_second (is_first
     (is_both (is_word_at place from b h)
     (is_both (is_specifier as_type b c i)
-    (is_both (is_word c d j) (is_both (is_word d a k) (is_both (is_word a e l) (is_size_of target e to m)))))))))
+    (is_both (is_word c d j) (is_both (is_word d a k) (is_both (is_word a e l) (is_size_of allocated e to m)))))))))
 
 -- the name and the arguments of a call, one level deeper
 pub is_call : (callee : Name) (n : ℕ) (from a b c to : List Word) → name callee from a → open_paren a b
@@ -215,8 +215,8 @@ mutual
   is_expr (Expr.Call callee args) level levels zero from to sum fits h = absurd (omega arith)
   is_expr (Expr.Call callee args) level levels (suc n) from to sum fits (a, h, (b, i, (c, j, k))) =
       loosest 0 levels (suc n) from to (omega arith) (is_call callee n from a b c to h i (is_args args n b c (omega arith) j) k)
-  is_expr (Expr.Malloc place as_type target) level levels n from to sum fits h =
-      loosest 0 levels n from to (omega arith) (is_second (is_malloc place as_type target n (Forms.expr_below n) from to h))
+  is_expr (Expr.Malloc place as_type allocated) level levels n from to sum fits h =
+      loosest 0 levels n from to (omega arith) (is_second (is_malloc place as_type allocated n (Forms.expr_below n) from to h))
 
   pub is_links : (all : Links) (level left n : ℕ) (from to : List Word) → level + left ≡ 5 → links_nesting all ≤ n
       → links_at level all from to

@@ -236,7 +236,7 @@ shape_of (Expr.Call callee args) = Named
 shape_of (Expr.Number place value) = Numbered
 shape_of (Expr.Null place) = Nulled
 shape_of (Expr.Paren place inner) = Parenthesised
-shape_of (Expr.Malloc place as_type target) = Allocated
+shape_of (Expr.Malloc place as_type allocated) = Allocated
 shape_of (Expr.Chain first others) = Chained
 shape_of (Expr.Prefix place op inner) = Prefixed
 shape_of (Expr.Members base first others) = Selected
@@ -250,8 +250,8 @@ begins_primary (Expr.Call callee args) w ws to (a, h, k) = ap shape_at h.0
 begins_primary (Expr.Number place value) w ws to h = ap shape_at h.0
 begins_primary (Expr.Null place) w ws to h = ap shape_at h.0
 begins_primary (Expr.Paren place inner) w ws to (a, h, k) = ap shape_at h.0
-begins_primary (Expr.Malloc place None target) w ws to (a, h, k) = ap shape_at h.0
-begins_primary (Expr.Malloc place (Some as_type) target) w ws to (a, (b, h, k), l) = ap shape_at h.0
+begins_primary (Expr.Malloc place None allocated) w ws to (a, h, k) = ap shape_at h.0
+begins_primary (Expr.Malloc place (Some as_type) allocated) w ws to (a, (b, h, k), l) = ap shape_at h.0
 begins_primary (Expr.Chain first Links.NoLinks) w ws to h = absurd h
 begins_primary (Expr.Chain first (Links.Link op second others)) w ws to h = let l = low op in absurd (omega arith)
 begins_primary (Expr.Prefix place op inner) w ws to h = absurd (omega arith)
@@ -263,8 +263,8 @@ some_primary (Expr.Call callee args) to (a, h, k) = h
 some_primary (Expr.Number place value) to h = h
 some_primary (Expr.Null place) to h = h
 some_primary (Expr.Paren place inner) to (a, h, k) = h
-some_primary (Expr.Malloc place None target) to (a, h, k) = h
-some_primary (Expr.Malloc place (Some as_type) target) to (a, (b, h, k), l) = h
+some_primary (Expr.Malloc place None allocated) to (a, h, k) = h
+some_primary (Expr.Malloc place (Some as_type) allocated) to (a, (b, h, k), l) = h
 some_primary (Expr.Chain first Links.NoLinks) to h = h
 some_primary (Expr.Chain first (Links.Link op second others)) to h = let l = low op in absurd (omega arith)
 some_primary (Expr.Prefix place op inner) to h = absurd (omega arith)
@@ -334,8 +334,8 @@ unique_cast p q s t u v from to (d, (a, h1, (b, h2, (c, h3, h4))), (e, h5, h6)) 
     let k5' : word Classes.MALLOC d e' = subst (λ w. word Classes.MALLOC w e') (sym ed) k5 in
     let ee : e ≡ e' = (one_word Classes.MALLOC Classes.MALLOC d e e' h5 k5').0 in
     let k6' : size_of v e to = subst (λ w. size_of v w to) (sym ee) k6 in
-    let target = (one_size u v e to to h6 k6').1 in
-    ap (λ r. Expr.Malloc r (Some s) u) place ∙ ap (λ r. Expr.Malloc q (Some r) u) cast_same ∙ ap (Expr.Malloc q (Some t)) target
+    let allocated = (one_size u v e to to h6 k6').1 in
+    ap (λ r. Expr.Malloc r (Some s) u) place ∙ ap (λ r. Expr.Malloc q (Some r) u) cast_same ∙ ap (Expr.Malloc q (Some t)) allocated
 
 unique_malloc : (p q : Place) (u v : Specifier) (from to : List Word) → expr_at 8 (Expr.Malloc p None u) from to
     → expr_at 8 (Expr.Malloc q None v) from to → Expr.Malloc p None u ≡ Expr.Malloc q None v

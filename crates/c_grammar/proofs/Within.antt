@@ -119,7 +119,7 @@ paren_fits (suc n) (Some read) fits words =
 
 malloc_fits : (n : ℕ) → FitsAll nesting n read_malloc
 unfolding read_malloc
-malloc_fits n words = over nesting n (read_size_of (behind words)) _ (λ target. omega arith)
+malloc_fits n words = over nesting n (read_size_of (behind words)) _ (λ allocated. omega arith)
 
 cast_fits : (n : ℕ) → FitsAll nesting n read_cast
 unfolding read_cast
@@ -128,7 +128,7 @@ cast_fits n words =
     over nesting n (take class.Star as_type.1) _ (λ a.
     over nesting n (take class.Close a) _ (λ b.
     over nesting n (take class.Malloc b) _ (λ c.
-    over nesting n (read_size_of c) _ (λ target. omega arith)))))
+    over nesting n (read_size_of c) _ (λ allocated. omega arith)))))
 
 closed_fits : (n : ℕ) (below : Below) → BelowFits n below → (c : Class) → FitsAll nesting n (closed_by c below)
 closed_fits n below fits class.Number words = omega arith

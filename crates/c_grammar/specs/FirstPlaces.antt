@@ -12,7 +12,7 @@ place_of_expr (Expr.Number place value) = place
 place_of_expr (Expr.Null place) = place
 place_of_expr (Expr.Paren place inner) = place
 place_of_expr (Expr.Call callee args) = callee.place
-place_of_expr (Expr.Malloc place as_type target) = place
+place_of_expr (Expr.Malloc place as_type allocated) = place
 
 abbrev pub place_of_local : Local → Place
 place_of_local l = place_of_specifier l.specifier

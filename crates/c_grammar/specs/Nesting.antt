@@ -14,7 +14,7 @@ abbrev mutual
   nesting (Expr.Null place) = 0
   nesting (Expr.Paren place inner) = suc (nesting inner)
   nesting (Expr.Call callee args) = suc (args_nesting args)
-  nesting (Expr.Malloc place as_type target) = 0
+  nesting (Expr.Malloc place as_type allocated) = 0
 
   pub links_nesting : Links → ℕ
   links_nesting Links.NoLinks = 0

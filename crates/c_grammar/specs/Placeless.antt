@@ -55,8 +55,8 @@ abbrev mutual
   placeless_expr (Expr.Null place) = Expr.Null nowhere
   placeless_expr (Expr.Paren place inner) = Expr.Paren nowhere (placeless_expr inner)
   placeless_expr (Expr.Call callee args) = Expr.Call (placeless_name callee) (placeless_args args)
-  placeless_expr (Expr.Malloc place as_type target) =
-      Expr.Malloc nowhere (placeless_maybe placeless_specifier as_type) (placeless_specifier target)
+  placeless_expr (Expr.Malloc place as_type allocated) =
+      Expr.Malloc nowhere (placeless_maybe placeless_specifier as_type) (placeless_specifier allocated)
 
   pub placeless_links : Links → Links
   placeless_links Links.NoLinks = Links.NoLinks

@@ -73,12 +73,12 @@ text_of_prefix PrefixOp.Not = codes "!"
 
 -- `( sizeof ( TYPE ) )`
 abbrev pub print_size_of : Specifier → Texts → Texts
-print_size_of target behind = codes "(" ∷ codes "sizeof" ∷ codes "(" ∷ print_specifier target (codes ")" ∷ codes ")" ∷ behind)
+print_size_of allocated behind = codes "(" ∷ codes "sizeof" ∷ codes "(" ∷ print_specifier allocated (codes ")" ∷ codes ")" ∷ behind)
 
 abbrev pub print_malloc : Option Specifier → Specifier → Texts → Texts
-print_malloc None target behind = codes "malloc" ∷ print_size_of target behind
-print_malloc (Some as_type) target behind =
-    codes "(" ∷ print_specifier as_type (codes "*" ∷ codes ")" ∷ codes "malloc" ∷ print_size_of target behind)
+print_malloc None allocated behind = codes "malloc" ∷ print_size_of allocated behind
+print_malloc (Some as_type) allocated behind =
+    codes "(" ∷ print_specifier as_type (codes "*" ∷ codes ")" ∷ codes "malloc" ∷ print_size_of allocated behind)
 
 abbrev mutual
   pub print_expr : Expr → Texts → Texts
@@ -91,7 +91,7 @@ abbrev mutual
   print_expr (Expr.Null place) behind = codes "NULL" ∷ behind
   print_expr (Expr.Paren place inner) behind = codes "(" ∷ print_expr inner (codes ")" ∷ behind)
   print_expr (Expr.Call callee args) behind = print_name callee (codes "(" ∷ print_args args (codes ")" ∷ behind))
-  print_expr (Expr.Malloc place as_type target) behind = print_malloc as_type target behind
+  print_expr (Expr.Malloc place as_type allocated) behind = print_malloc as_type allocated behind
 
   pub print_links : Links → Texts → Texts
   print_links Links.NoLinks behind = behind

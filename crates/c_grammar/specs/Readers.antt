@@ -208,18 +208,18 @@ with_members base (first ∷ others) = Expr.Members base first others
 
 unfoldable pub read_size_of : List Word → Got Specifier
 read_size_of words =
-    take_open words >>= (λ a. take class.Sizeof a >>= (λ b. take_open b >>= (λ c. read_specifier c >>= (λ target.
-    take class.Close target.1 >>= (λ d. take class.Close d >>= (λ rest. Ok (target.0, rest)))))))
+    take_open words >>= (λ a. take class.Sizeof a >>= (λ b. take_open b >>= (λ c. read_specifier c >>= (λ allocated.
+    take class.Close allocated.1 >>= (λ d. take class.Close d >>= (λ rest. Ok (allocated.0, rest)))))))
 
 -- `malloc(sizeof(TYPE))` without a cast
 unfoldable pub read_malloc : List Word → Got Expr
-read_malloc words = read_size_of (behind words) >>= (λ target. Ok (Expr.Malloc (place_at words) None target.0, target.1))
+read_malloc words = read_size_of (behind words) >>= (λ allocated. Ok (Expr.Malloc (place_at words) None allocated.0, allocated.1))
 
 unfoldable pub read_cast : List Word → Got Expr
 read_cast words =
     read_specifier (behind words)
     >>= (λ as_type. take class.Star as_type.1 >>= (λ a. take class.Close a >>= (λ b. take class.Malloc b >>= (λ c.
-    read_size_of c >>= (λ target. Ok (Expr.Malloc (place_at words) (Some as_type.0) target.0, target.1))))))
+    read_size_of c >>= (λ allocated. Ok (Expr.Malloc (place_at words) (Some as_type.0) allocated.0, allocated.1))))))
 
 abbrev pub read_paren : Below → List Word → Got Expr
 read_paren None words = too_deep words

@@ -143,14 +143,14 @@ class_of_prefix PrefixOp.Not = Classes.NOT
 
 -- `( TYPE * )`
 abbrev pub cast : Place → Specifier → Rule
-cast place target = word_at place Classes.CAST ⨾ specifier target ⨾ word Classes.STAR ⨾ word Classes.CLOSE
+cast place as_type = word_at place Classes.CAST ⨾ specifier as_type ⨾ word Classes.STAR ⨾ word Classes.CLOSE
 
 abbrev pub size_of : Specifier → Rule
-size_of target = open_paren ⨾ word Classes.SIZEOF ⨾ open_paren ⨾ specifier target ⨾ word Classes.CLOSE ⨾ word Classes.CLOSE
+size_of allocated = open_paren ⨾ word Classes.SIZEOF ⨾ open_paren ⨾ specifier allocated ⨾ word Classes.CLOSE ⨾ word Classes.CLOSE
 
 abbrev pub malloc : Place → Option Specifier → Specifier → Rule
-malloc place None target = word_at place Classes.MALLOC ⨾ size_of target
-malloc place (Some as_type) target = cast place as_type ⨾ word Classes.MALLOC ⨾ size_of target
+malloc place None allocated = word_at place Classes.MALLOC ⨾ size_of allocated
+malloc place (Some as_type) allocated = cast place as_type ⨾ word Classes.MALLOC ⨾ size_of allocated
 
 -- the rule, where the level is at least as tight as what is wanted
 abbrev pub at_least : ℕ → ℕ → Rule → Rule
@@ -173,7 +173,7 @@ abbrev mutual
   expr_at level (Expr.Null place) = word_at place Classes.NULL
   expr_at level (Expr.Paren place inner) = word_at place Classes.OPEN ⨾ expr_at 0 inner ⨾ word Classes.CLOSE
   expr_at level (Expr.Call callee args) = name callee ⨾ open_paren ⨾ call_args args ⨾ word Classes.CLOSE
-  expr_at level (Expr.Malloc place as_type target) = malloc place as_type target
+  expr_at level (Expr.Malloc place as_type allocated) = malloc place as_type allocated
 
   -- the other operators of one level, with their operands
   pub links_at : ℕ → Links → Rule

@@ -12,7 +12,7 @@ abbrev mutual
   weight (Expr.Null place) = 1
   weight (Expr.Paren place inner) = weight inner + 1
   weight (Expr.Call callee args) = args_weight args + 2
-  weight (Expr.Malloc place as_type target) = 1
+  weight (Expr.Malloc place as_type allocated) = 1
 
   pub links_weight : Links → ℕ
   links_weight Links.NoLinks = 0

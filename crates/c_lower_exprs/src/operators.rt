@@ -193,14 +193,14 @@ pub fn called<'a>(
 pub fn new<'a>(
     site: &Site<'_, 'a>,
     wanted: CType<'a>,
-    target: &'a TypeSpecifier,
+    allocated: &'a TypeSpecifier,
     used: Use,
     out: &mut Output<'a>,
 ) -> Result<Found<'a>, AllocError>
-    ensures { IfOk result (λ found. IsLowered used (new site.now (type_seen wanted.entry) (specifier_tree target.now))
+    ensures { IfOk result (λ found. IsLowered used (new site.now (type_seen wanted.entry) (specifier_tree allocated.now))
         site.now.first_temp out.old out.new found) }
 {
-    let pointer = known(pointer_of(site.tables(), target));
+    let pointer = known(pointer_of(site.tables(), allocated));
     let cmd = Cmd::New {
         to: 0,
         kind: tag_of(site.alloc(), pointer)?,

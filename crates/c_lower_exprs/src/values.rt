@@ -88,8 +88,8 @@ pub fn lower<'a>(
             called(site, callee, operands, used, out)
         }
         Expr::Malloc(_, types) => {
-            let pointer = known(pointer_of(site.tables(), &types.target));
-            new(site, pointer, &types.target, used, out)
+            let pointer = known(pointer_of(site.tables(), &types.allocated));
+            new(site, pointer, &types.allocated, used, out)
         }
     }
 }

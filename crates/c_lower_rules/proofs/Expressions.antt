@@ -13,25 +13,25 @@ use Rattle.c_lower_rules.proofs.GoodWords.{AreGood}
 use Rattle.c_lower_rules.proofs.Steps.{Has, nothing_else, then, ends, a_word, a_word_at, an_open, a_name, a_number, Shows, all_shown}
 use Rattle.c_lower_rules.proofs.Parts.{a_specifier}
 
-a_size_of : Shows size_of (λ target. Unit {0})
-a_size_of target from to good (a, h, (b, i, (c, j, (d, k, (e, l, m))))) =
+a_size_of : Shows size_of (λ allocated. Unit {0})
+a_size_of allocated from to good (a, h, (b, i, (c, j, (d, k, (e, l, m))))) =
     then (an_open from a good h) (λ p.
     then (a_word Classes.SIZEOF a b p.good i) (λ q.
     then (an_open b c q.good j) (λ r.
-    then (a_specifier target c d r.good k) (λ s.
+    then (a_specifier allocated c d r.good k) (λ s.
     then (a_word Classes.CLOSE d e s.good l) (λ t. ends (a_word Classes.CLOSE e to t.good m) (λ u. tt))))))
 
-a_malloc : (place : Place) (as_type : Option Specifier) (target : Specifier) (from to : List Word) → AreGood from
-    → malloc place as_type target from to
+a_malloc : (place : Place) (as_type : Option Specifier) (allocated : Specifier) (from to : List Word) → AreGood from
+    → malloc place as_type allocated from to
     → Has from to (IsLine place)
-a_malloc place None target from to good (a, h, k) =
-    then (a_word_at place Classes.MALLOC from a good h) (λ w. ends (a_size_of target a to w.good k) (λ s. w.is.0))
-a_malloc place (Some as_type) target from to good (a, (b, h, (c, i, (d, j, k))), (e, l, m)) =
+a_malloc place None allocated from to good (a, h, k) =
+    then (a_word_at place Classes.MALLOC from a good h) (λ w. ends (a_size_of allocated a to w.good k) (λ s. w.is.0))
+a_malloc place (Some as_type) allocated from to good (a, (b, h, (c, i, (d, j, k))), (e, l, m)) =
     then (a_word_at place Classes.CAST from b good h) (λ w.
     then (a_specifier as_type b c w.good i) (λ s.
     then (a_word Classes.STAR c d s.good j) (λ t.
     then (a_word Classes.CLOSE d a t.good k) (λ u.
-    then (a_word Classes.MALLOC a e u.good l) (λ v. ends (a_size_of target e to v.good m) (λ x. w.is.0))))))
+    then (a_word Classes.MALLOC a e u.good l) (λ v. ends (a_size_of allocated e to v.good m) (λ x. w.is.0))))))
 
 a_member : Shows (λ field. word Classes.ARROW ⨾ name field) (λ field. Unit {0})
 a_member field from to good (mid, h, k) = then (a_word Classes.ARROW from mid good h) (λ w. ends (a_name field mid to w.good k) (λ n. tt))
@@ -73,8 +73,8 @@ mutual
       then (an_open a b n.good i) (λ o.
       then (some_args args b c o.good j) (λ x.
       ends (a_word Classes.CLOSE c to x.good k) (λ w. record { line = n.is.0.line; numbers = x.is }))))
-  an_expr (Expr.Malloc place as_type target) level from to good h =
-      ends (a_malloc place as_type target from to good h) (λ line. record { line = line; numbers = tt })
+  an_expr (Expr.Malloc place as_type allocated) level from to good h =
+      ends (a_malloc place as_type allocated from to good h) (λ line. record { line = line; numbers = tt })
 
   some_links : (links : Links) (level : ℕ) (from to : List Word) → AreGood from → links_at level links from to
       → Has from to (HaveIntNumbers links)

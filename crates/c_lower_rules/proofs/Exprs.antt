@@ -227,7 +227,7 @@ mutual
   }
   lowering_good structs c here (Expr.Paren place inner) e = lowering_good structs c here inner e
   lowering_good structs c here (Expr.Call callee args) e = absurd (cc)
-  lowering_good structs c here (Expr.Malloc place as_type target) e = absurd (cc)
+  lowering_good structs c here (Expr.Malloc place as_type allocated) e = absurd (cc)
 
   chain_good : (structs : List StructDef) (c : Context) → IsHere structs c
       → (place : Place) (null : Bool) (kind : Kind) (before : Lowering) (others : Links)

@@ -164,7 +164,7 @@ new_by tag temps = record { code = no_nodes; make = λ to next. cmd.New to tag n
 
 -- a new structure, to which a pointer of the type is wanted
 abbrev pub new : Context → Ty → Specifier → Lowering
-new c wanted target = made c wanted (new_by (tag_of (known (pointer_of c.env.tables target))))
+new c wanted allocated = made c wanted (new_by (tag_of (known (pointer_of c.env.tables allocated))))
 
 abbrev mutual
   -- an expression (C11 6.5)
@@ -177,7 +177,7 @@ abbrev mutual
   lowering c (Expr.Null place) = at_hand c Int (Num (pos 0))
   lowering c (Expr.Paren place inner) = lowering c inner
   lowering c (Expr.Call callee args) = called c callee (lowerings c args)
-  lowering c (Expr.Malloc place as_type target) = new c (known (pointer_of c.env.tables target)) target
+  lowering c (Expr.Malloc place as_type allocated) = new c (known (pointer_of c.env.tables allocated)) allocated
 
   -- operands of one level, grouped from the left, behind what stands before them
   pub chain : Context → Lowering → Links → Lowering
@@ -192,5 +192,5 @@ abbrev mutual
 -- an expression that is stored or returned, where this type is wanted: `malloc` gives a pointer of that type
 abbrev pub wanted : Context → Ty → Expr → Lowering
 wanted c kind (Expr.Paren place inner) = wanted c kind inner
-wanted c kind (Expr.Malloc place as_type target) = new c kind target
+wanted c kind (Expr.Malloc place as_type allocated) = new c kind allocated
 wanted c kind other = lowering c other

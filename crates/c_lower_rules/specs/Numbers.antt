@@ -18,7 +18,7 @@ abbrev mutual
   HasIntNumbers (Expr.Null place) = Unit {0}
   HasIntNumbers (Expr.Paren place inner) = HasIntNumbers inner
   HasIntNumbers (Expr.Call callee args) = AllHaveIntNumbers args
-  HasIntNumbers (Expr.Malloc place as_type target) = Unit {0}
+  HasIntNumbers (Expr.Malloc place as_type allocated) = Unit {0}
 
   -- those of the operands of a chain
   pub HaveIntNumbers : Links → Type 0

@@ -84,7 +84,7 @@ expr_puts (Expr.Number place value) = omega arith
 expr_puts (Expr.Null place) = omega arith
 expr_puts (Expr.Paren place inner) = expr_puts inner
 expr_puts (Expr.Call callee args) = omega arith
-expr_puts (Expr.Malloc place as_type target) = omega arith
+expr_puts (Expr.Malloc place as_type allocated) = omega arith
 
 initial_puts : (value : Option Expr) → 1 ≤ initial_size value
 initial_puts None = omega arith

@@ -154,8 +154,8 @@ pub given_sized : (args : Args) (all : List Lowering) → AreSized args all → 
 given_sized args all k temps =
     straight_is (0 + args_size args) (args_size args) (omega arith) _ (arguments_sized 0 (no_arguments temps) args all straight_none k)
 
-new_sized : (c : Context) (kind : Ty) (target : Specifier) → IsSized (made_uses 0) (new c kind target)
-new_sized c kind target = made_sized 0 c kind _ (λ temps. straight_none)
+new_sized : (c : Context) (kind : Ty) (allocated : Specifier) → IsSized (made_uses 0) (new c kind allocated)
+new_sized c kind allocated = made_sized 0 c kind _ (λ temps. straight_none)
 
 -- EXPRESSIONS
 
@@ -172,7 +172,7 @@ mutual
   lowering_sized c (Expr.Paren place inner) = lowering_sized c inner
   lowering_sized c (Expr.Call callee args) =
       made_sized (args_size args) c _ _ (λ temps. given_sized args (lowerings c args) (args_sized c args) temps)
-  lowering_sized c (Expr.Malloc place as_type target) = new_sized c _ target
+  lowering_sized c (Expr.Malloc place as_type allocated) = new_sized c _ allocated
 
   chain_sized : (c : Context) (uses : Uses) (before : Lowering) (others : Links) → IsSized uses before
       → IsSized (chain_uses uses others) (chain c before others)
@@ -187,5 +187,5 @@ mutual
 
 pub wanted_sized : (c : Context) (kind : Ty) (e : Expr) → IsSized (expr_uses e) (wanted c kind e)
 wanted_sized c kind (Expr.Paren place inner) = wanted_sized c kind inner
-wanted_sized c kind (Expr.Malloc place as_type target) = new_sized c kind target
+wanted_sized c kind (Expr.Malloc place as_type allocated) = new_sized c kind allocated
 wanted_sized c kind other = lowering_sized c other

@@ -64,7 +64,7 @@ abbrev mutual
   expr_uses (Expr.Null place) = at_hand_uses
   expr_uses (Expr.Paren place inner) = expr_uses inner
   expr_uses (Expr.Call callee args) = made_uses (args_size args)
-  expr_uses (Expr.Malloc place as_type target) = made_uses 0
+  expr_uses (Expr.Malloc place as_type allocated) = made_uses 0
 
   -- operands of one level, grouped from the left, behind what stands before them
   pub chain_uses : Uses → Links → Uses

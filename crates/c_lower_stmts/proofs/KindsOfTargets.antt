@@ -67,7 +67,7 @@ mutual
   kind_is c (Expr.Null place) = refl
   kind_is c (Expr.Paren place inner) = kind_is c inner
   kind_is c (Expr.Call callee args) = refl
-  kind_is c (Expr.Malloc place as_type target) = refl
+  kind_is c (Expr.Malloc place as_type allocated) = refl
 
   chain_kind : (c : Context) (l : Lowering) (kind : Kind) (links : Links) → l.kind ≡ known kind
       → (chain c l links).kind ≡ known (kind_of_chain c.env kind links)
@@ -91,7 +91,7 @@ target_kind c (Expr.Number place value) = tt
 target_kind c (Expr.Null place) = tt
 target_kind c (Expr.Paren place inner) = target_kind c inner
 target_kind c (Expr.Call callee args) = tt
-target_kind c (Expr.Malloc place as_type target) = tt
+target_kind c (Expr.Malloc place as_type allocated) = tt
 
 pub known_target_kind : (c : Context) (e : Expr) → IsFieldKind (target c e) (known (kind_of c.env e))
 known_target_kind c e = subst (IsFieldKind (target c e)) (kind_is c e) (target_kind c e)

@@ -66,7 +66,7 @@ expr_node c (Expr.Number place value) = λ to temps. omega arith
 expr_node c (Expr.Null place) = λ to temps. omega arith
 expr_node c (Expr.Paren place inner) = expr_node c inner
 expr_node c (Expr.Call callee args) = λ to temps. omega arith
-expr_node c (Expr.Malloc place as_type target) = λ to temps. omega arith
+expr_node c (Expr.Malloc place as_type allocated) = λ to temps. omega arith
 
 initial_node : (c : Context) (to : ℕ) (kind : Ty) (value : Option Expr) (temps : List Temp) → 1 ≤ (initial c to kind value temps).code.size
 initial_node c to kind None temps = omega arith

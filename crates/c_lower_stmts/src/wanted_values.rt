@@ -60,7 +60,7 @@ pub fn wanted<'a>(
         Expr::Call(_, _) => lower(site, expr, used, out),
         Expr::Malloc(_, types) => {
             let kind = wanted_kind(site, as_type);
-            new(site, kind, &types.target, used, out)
+            new(site, kind, &types.allocated, used, out)
         }
     }
 }

@@ -118,10 +118,10 @@ fn read_size_of(alloc: Global, words: &mut Words<'_>) -> Result<TypeSpecifier, S
     words.take_open()?;
     words.take(Class::Sizeof)?;
     words.take_open()?;
-    let target = read_specifier(alloc, words)?;
+    let allocated = read_specifier(alloc, words)?;
     words.take(Class::Close)?;
     words.take(Class::Close)?;
-    Ok(target)
+    Ok(allocated)
 }
 
 /// A `malloc` of these types.
@@ -129,11 +129,11 @@ fn malloc_of(
     alloc: Global,
     place: Place,
     cast: Option<TypeSpecifier>,
-    target: TypeSpecifier,
+    allocated: TypeSpecifier,
 ) -> Result<Expr, AllocError>
-    ensures { IfOk result (λ made. expr_tree made ≡ ExprTree.Malloc place (option_map specifier_tree cast) (specifier_tree target)) }
+    ensures { IfOk result (λ made. expr_tree made ≡ ExprTree.Malloc place (option_map specifier_tree cast) (specifier_tree allocated)) }
 {
-    let types = Box::new(alloc, MallocTypes { cast, target })?;
+    let types = Box::new(alloc, MallocTypes { cast, allocated })?;
     Ok(Expr::Malloc(place, types))
 }
 
@@ -145,8 +145,8 @@ pub(crate) fn read_malloc(alloc: Global, words: &mut Words<'_>) -> Result<Expr, 
 {
     let place = words.place();
     words.step();
-    let target = read_size_of(alloc, words)?;
-    Ok(malloc_of(alloc, place, None, target)?)
+    let allocated = read_size_of(alloc, words)?;
+    Ok(malloc_of(alloc, place, None, allocated)?)
 }
 
 /// `malloc(sizeof(TYPE))` behind a cast, from the cast on (C11 6.5.4).
@@ -161,6 +161,6 @@ pub(crate) fn read_cast(alloc: Global, words: &mut Words<'_>) -> Result<Expr, Sy
     words.take(Class::Star)?;
     words.take(Class::Close)?;
     words.take(Class::Malloc)?;
-    let target = read_size_of(alloc, words)?;
-    Ok(malloc_of(alloc, place, Some(as_type), target)?)
+    let allocated = read_size_of(alloc, words)?;
+    Ok(malloc_of(alloc, place, Some(as_type), allocated)?)
 }

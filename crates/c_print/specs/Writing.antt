@@ -20,7 +20,7 @@ print_comma (suc place) behind = codes "," ∷ behind
 
 -- `( TYPE * )` before a `malloc`, if there is a cast
 abbrev pub print_cast : Option Specifier → Texts → Texts
-print_cast as_type behind = print_maybe (λ target rest. codes "(" ∷ print_specifier target (codes "*" ∷ codes ")" ∷ rest)) as_type behind
+print_cast as_type behind = print_maybe (λ cast rest. codes "(" ∷ print_specifier cast (codes "*" ∷ codes ")" ∷ rest)) as_type behind
 
 -- a call of a function by its name
 abbrev pub print_call : Name → Args → Texts → Texts

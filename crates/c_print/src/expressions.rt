@@ -70,13 +70,13 @@ fn write_members(text: &mut Vec<u8>, fields: &NonEmpty<Ident>) -> Result<(), All
 }
 
 /// Writes `( sizeof ( TYPE ) )`.
-fn write_size_of(text: &mut Vec<u8>, target: &TypeSpecifier) -> Result<(), AllocError>
-    ensures { OnOk result (Prints (print_size_of (specifier_tree target.now)) text.old.items text.new.items) }
+fn write_size_of(text: &mut Vec<u8>, allocated: &TypeSpecifier) -> Result<(), AllocError>
+    ensures { OnOk result (Prints (print_size_of (specifier_tree allocated.now)) text.old.items text.new.items) }
 {
     write_word(text, b"(")?;
     write_word(text, b"sizeof")?;
     write_word(text, b"(")?;
-    write_specifier(text, target)?;
+    write_specifier(text, allocated)?;
     write_word(text, b")")?;
     write_word(text, b")")
 }
@@ -100,14 +100,14 @@ fn write_cast(text: &mut Vec<u8>, as_type: &Option<TypeSpecifier>) -> Result<(),
 fn write_malloc(
     text: &mut Vec<u8>,
     as_type: &Option<TypeSpecifier>,
-    target: &TypeSpecifier,
+    allocated: &TypeSpecifier,
 ) -> Result<(), AllocError>
-    ensures { OnOk result (Prints (print_malloc (option_map specifier_tree as_type.now) (specifier_tree target.now))
+    ensures { OnOk result (Prints (print_malloc (option_map specifier_tree as_type.now) (specifier_tree allocated.now))
         text.old.items text.new.items) }
 {
     write_cast(text, as_type)?;
     write_word(text, b"malloc")?;
-    write_size_of(text, target)
+    write_size_of(text, allocated)
 }
 
 /// Writes the expression.
@@ -137,7 +137,7 @@ pub fn write_expr(text: &mut Vec<u8>, expr: &Expr) -> Result<(), AllocError>
             write_word(text, b")")
         }
         Expr::Call(callee, args) => write_call(text, callee, args),
-        Expr::Malloc(_, types) => write_malloc(text, &types.cast, &types.target),
+        Expr::Malloc(_, types) => write_malloc(text, &types.cast, &types.allocated),
     }
 }
 

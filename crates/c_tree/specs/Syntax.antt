@@ -113,7 +113,7 @@ expr_level (Expr-F.Null place) = tree.Expr.Null place
 expr_level (Expr-F.Paren place inner) = tree.Expr.Paren place inner.value
 expr_level (Expr-F.Call callee args) = tree.Expr.Call (ident_tree callee) (args_of args.items)
 expr_level (Expr-F.Malloc place types) =
-    tree.Expr.Malloc place (option_map specifier_tree types.value.cast) (specifier_tree types.value.target)
+    tree.Expr.Malloc place (option_map specifier_tree types.value.cast) (specifier_tree types.value.allocated)
 
 abbrev pub link_level : Link-F tree.Expr LinkTree → LinkTree
 link_level link = record { op = binary_tree link.op; operand = link.operand }

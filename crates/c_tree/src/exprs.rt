@@ -45,7 +45,7 @@ pub struct MallocTypes {
     /// The type of the cast before it, if there is one (C11 6.5.4).
     pub cast: Option<TypeSpecifier>,
     /// The type in its `sizeof`.
-    pub target: TypeSpecifier,
+    pub allocated: TypeSpecifier,
 }
 
 /// An expression (C11 6.5).

@@ -127,7 +127,7 @@ pub fn kind_of<'a>(env: &Env<'a>, expr: &'a Expr) -> Kind<'a>
         Expr::Null(_) => Some(CType::Int),
         Expr::Paren(_, inner) => kind_of(env, inner),
         Expr::Call(callee, _) => kind_of_call(env.tables(), &callee.text),
-        Expr::Malloc(_, types) => pointer_of(env.tables(), &types.target),
+        Expr::Malloc(_, types) => pointer_of(env.tables(), &types.allocated),
     }
 }
 

@@ -110,15 +110,15 @@ fn malloc_refusals(
     env: &Env,
     place: Place,
     as_type: &Option<TypeSpecifier>,
-    target: &TypeSpecifier,
+    allocated: &TypeSpecifier,
     first: &mut FirstRefusal,
 )
     ensures { first.new ≡ with_refusals first.old
-        (malloc_refusals env.now place (option_map specifier_tree as_type.now) (specifier_tree target.now)) }
+        (malloc_refusals env.now place (option_map specifier_tree as_type.now) (specifier_tree allocated.now)) }
 {
     cast_refusals(env, place, as_type, first);
-    specifier_refusals_in(env, target, first);
-    first.unless(names_structure(target), place, LEFT_OUT);
+    specifier_refusals_in(env, allocated, first);
+    first.unless(names_structure(allocated), place, LEFT_OUT);
 }
 
 /// Whether there are as many arguments as parameters.
@@ -234,7 +234,7 @@ pub fn expr_refusals<'a>(env: &Env<'a>, expr: &'a Expr, first: &mut FirstRefusal
         }
         Expr::Malloc(place, types) => {
             first.unless(false, *place, LEFT_OUT);
-            malloc_refusals(env, *place, &types.cast, &types.target, first);
+            malloc_refusals(env, *place, &types.cast, &types.allocated, first);
             kind_of(env, expr)
         }
     }
@@ -325,7 +325,7 @@ pub fn whole_refusals<'a>(env: &Env<'a>, expr: &'a Expr, first: &mut FirstRefusa
         Expr::Paren(_, inner) => whole_refusals(env, inner, first),
         Expr::Call(callee, args) => call_refusals(env, callee, args, first),
         Expr::Malloc(place, types) => {
-            malloc_refusals(env, *place, &types.cast, &types.target, first);
+            malloc_refusals(env, *place, &types.cast, &types.allocated, first);
             kind_of(env, expr)
         }
     }

@@ -89,7 +89,7 @@ members_known tables known place kind (first ∷ others) h e =
 -- where nothing is refused in an expression, it is no `malloc`
 pub gives_kind : (env : Env) (e : Expr) → expr_refusals env e ≡ [] → given_by env e ≡ Given.OfKind (kind_of env e)
 gives_kind env (Expr.Paren place inner) h = gives_kind env inner h
-gives_kind env (Expr.Malloc place as_type target) h = absurd (cc)
+gives_kind env (Expr.Malloc place as_type allocated) h = absurd (cc)
 gives_kind env other h = refl
 
 ints_sound : (tables : Tables) (left right : Kind) → IsSound tables left → IsSound tables right
@@ -164,7 +164,7 @@ mutual
   plain_known env known (Expr.Null place) e = record { firsts = (tt, tt); laters = tt; own = tt }
   plain_known env known (Expr.Paren place inner) e = paren_known env place inner (plain_known env known inner e)
   plain_known env known (Expr.Call callee args) e = absurd (cc)
-  plain_known env known (Expr.Malloc place as_type target) e = absurd (cc)
+  plain_known env known (Expr.Malloc place as_type allocated) e = absurd (cc)
 
   links_known : (env : Env) → SoundEnv env → (place : Place) (kind : Kind) (null : Bool) (others : Links) → IsSound env.tables kind
       → links_refusals env place kind (Given.OfKind kind) null others ≡ [] → KnownLinks env kind others
@@ -204,8 +204,8 @@ whole_known env known (Expr.Call callee args) e =
       laters = args_known env known args (nil_left _ _ e);
       own = one;
     }
-whole_known env known (Expr.Malloc place as_type target) e =
+whole_known env known (Expr.Malloc place as_type allocated) e =
     let one =
-    named_sound env.tables known.tables.aliases target (nil_left _ _ (nil_right _ _ (nil_left _ _ e))) (holds _ _ _ (nil_right _ _ e)) in
-    record { firsts = alone_known env (pointer_of env.tables target) one; laters = tt; own = one }
+    named_sound env.tables known.tables.aliases allocated (nil_left _ _ (nil_right _ _ (nil_left _ _ e))) (holds _ _ _ (nil_right _ _ e)) in
+    record { firsts = alone_known env (pointer_of env.tables allocated) one; laters = tt; own = one }
 whole_known env known other e = plain_known env known other e

@@ -27,10 +27,10 @@ at_specifier (Specifier.Void place) from to h = at_word place _ from to h
 at_specifier (Specifier.Struct place tag) from to h = at_word place _ from _ h.1
 at_specifier (Specifier.Alias n) from to h = at_name n from to h
 
-at_malloc : (place : Place) (as_type : Option Specifier) (target : Specifier) (from to : List Word) → malloc place as_type target from to
+at_malloc : (place : Place) (as_type : Option Specifier) (allocated : Specifier) (from to : List Word) → malloc place as_type allocated from to
     → place_at from ≡ place
-at_malloc place None target from to h = at_word place _ from _ h.1
-at_malloc place (Some as_type) target from to h = at_word place _ from _ h.1.1
+at_malloc place None allocated from to h = at_word place _ from _ h.1
+at_malloc place (Some as_type) allocated from to h = at_word place _ from _ h.1.1
 
 at_expr : (e : Expr) (level : ℕ) (from to : List Word) → expr_at level e from to → place_at from ≡ place_of_expr e
 at_expr (Expr.Chain first (Links.Link op second others)) level from to h = at_expr first _ from _ h.1.1
@@ -42,7 +42,7 @@ at_expr (Expr.Number place value) level from to h = at_number place value from t
 at_expr (Expr.Null place) level from to h = at_word place _ from to h
 at_expr (Expr.Paren place inner) level from to h = at_word place _ from _ h.1
 at_expr (Expr.Call callee args) level from to h = at_name callee from _ h.1
-at_expr (Expr.Malloc place as_type target) level from to h = at_malloc place as_type target from to h
+at_expr (Expr.Malloc place as_type allocated) level from to h = at_malloc place as_type allocated from to h
 
 pub have_first_places : HaveFirstPlaces
 have_first_places = record {

@@ -62,7 +62,7 @@ abbrev mutual
   kind_of env (Expr.Null place) = Some Int
   kind_of env (Expr.Paren place inner) = kind_of env inner
   kind_of env (Expr.Call callee args) = kind_of_call env.tables (procedure_in env.tables.procedures callee.text)
-  kind_of env (Expr.Malloc place as_type target) = pointer_of env.tables target
+  kind_of env (Expr.Malloc place as_type allocated) = pointer_of env.tables allocated
 
   -- the type of operands with more operators and operands behind them
   pub kind_of_chain : Env → Kind → Links → Kind
@@ -92,7 +92,7 @@ given_by_malloc env (Some as_type) = OfKind (pointer_in env as_type)
 
 abbrev pub given_by : Env → Expr → Given
 given_by env (Expr.Paren place inner) = given_by env inner
-given_by env (Expr.Malloc place as_type target) = given_by_malloc env as_type
+given_by env (Expr.Malloc place as_type allocated) = given_by_malloc env as_type
 given_by env other = OfKind (kind_of env other)
 
 abbrev pub may_be_pointer : Kind → Bool
@@ -164,8 +164,8 @@ cast_refusals env place None = []
 cast_refusals env place (Some as_type) = specifier_refusals_in env as_type ++ unless (names_structure as_type) place LEFT_OUT
 
 abbrev pub malloc_refusals : Env → Place → Option Specifier → Specifier → List Refusal
-malloc_refusals env place as_type target =
-    cast_refusals env place as_type ++ specifier_refusals_in env target ++ unless (names_structure target) place LEFT_OUT
+malloc_refusals env place as_type allocated =
+    cast_refusals env place as_type ++ specifier_refusals_in env allocated ++ unless (names_structure allocated) place LEFT_OUT
 
 -- as many arguments as parameters
 abbrev pub same_number : List Kind → Args → Bool
@@ -201,7 +201,7 @@ abbrev mutual
   expr_refusals env (Expr.Call callee args) =
       refusal callee.place LEFT_OUT ∷ args_refusals env args
       ++ callee_refusals env (procedure_in env.tables.procedures callee.text) callee args
-  expr_refusals env (Expr.Malloc place as_type target) = refusal place LEFT_OUT ∷ malloc_refusals env place as_type target
+  expr_refusals env (Expr.Malloc place as_type allocated) = refusal place LEFT_OUT ∷ malloc_refusals env place as_type allocated
 
   -- the other operands of a chain, behind operands of this type that give this; all of the chain's expressions begin at the
   -- place
@@ -225,5 +225,5 @@ call_refusals env callee args = args_refusals env args ++ callee_refusals env (p
 abbrev pub whole_refusals : Env → Expr → List Refusal
 whole_refusals env (Expr.Paren place inner) = whole_refusals env inner
 whole_refusals env (Expr.Call callee args) = call_refusals env callee args
-whole_refusals env (Expr.Malloc place as_type target) = malloc_refusals env place as_type target
+whole_refusals env (Expr.Malloc place as_type allocated) = malloc_refusals env place as_type allocated
 whole_refusals env other = expr_refusals env other

@@ -35,7 +35,7 @@ abbrev mutual
   later_kinds env (Expr.Null place) = []
   later_kinds env (Expr.Paren place inner) = first_kinds env inner ++ later_kinds env inner
   later_kinds env (Expr.Call callee args) = arg_kinds env args
-  later_kinds env (Expr.Malloc place as_type target) = []
+  later_kinds env (Expr.Malloc place as_type allocated) = []
 
   pub operand_kinds : Env → Links → List Kind
   operand_kinds env Links.NoLinks = []

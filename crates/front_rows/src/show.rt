@@ -192,16 +192,20 @@ impl<'a> Left<'a> {
                 Task::Args(args.as_slice()),
                 Task::Text(b"}"),
             ]),
-            Expr::Malloc(_, types) => self.malloc(&types.cast, &types.target),
+            Expr::Malloc(_, types) => self.malloc(&types.cast, &types.allocated),
         }
     }
 
     fn malloc(
         &mut self,
         as_type: &'a Option<TypeSpecifier>,
-        target: &'a TypeSpecifier,
+        allocated: &'a TypeSpecifier,
     ) -> Result<(), AllocError> {
-        self.put(&[Task::Text(b"malloc<"), Task::Type(target), Task::Text(b">")])?;
+        self.put(&[
+            Task::Text(b"malloc<"),
+            Task::Type(allocated),
+            Task::Text(b">"),
+        ])?;
         if let Some(as_type) = as_type {
             self.put(&[Task::Text(b"cast<"), Task::Type(as_type), Task::Text(b">")])?;
         }

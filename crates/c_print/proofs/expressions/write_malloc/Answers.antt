@@ -5,10 +5,10 @@ use Rattle.c_print.specs.Writing.{print_cast}
 use Rattle.c_print.proofs.Rows.{then, ends, same}
 use Rattle.c_print.proofs.expressions.write_malloc.Goals as goal
 
-by_cast : (as_type : Option Specifier) (target : Specifier) (behind : Texts)
-    → print_cast as_type (codes "malloc" ∷ print_size_of target behind) ≡ print_malloc as_type target behind
-by_cast None target behind = refl
-by_cast (Some as_type) target behind = refl
+by_cast : (as_type : Option Specifier) (allocated : Specifier) (behind : Texts)
+    → print_cast as_type (codes "malloc" ∷ print_size_of allocated behind) ≡ print_malloc as_type allocated behind
+by_cast None allocated behind = refl
+by_cast (Some as_type) allocated behind = refl
 
 pub returns : goal.returns
 returns c =
