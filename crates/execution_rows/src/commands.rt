@@ -4,12 +4,12 @@ use shape_data::program::{ArithOp, Cmd, Operand, TestOp, Ty};
 use shape_data::{Name, Row};
 use std::alloc::Global;
 use worked_rows::Fault;
-use worked_rows::parts::first_word;
+use worked_rows::parts::{first_word, number_of};
 use worked_scopes::names::name_of;
 
 /// The number of a word of a text.
 fn number(text: &str, place: usize) -> Result<u32, Fault> {
-    word(text, place).parse().ok().ok_or(Fault::Row)
+    number_of(word(text, place))
 }
 
 /// The name of a word of a text.
@@ -20,10 +20,7 @@ fn name(alloc: Global, text: &str, place: usize) -> Result<Name, Fault> {
 /// The operand of a word.
 fn operand_of(word: &str) -> Result<Operand, Fault> {
     match word.strip_prefix('s') {
-        Some(digits) => match digits.parse() {
-            Ok(slot) => Ok(Operand::Slot(slot)),
-            Err(_) => Err(Fault::Row),
-        },
+        Some(digits) => Ok(Operand::Slot(number_of(digits)?)),
         None => match word.parse() {
             Ok(n) => Ok(Operand::Num(n)),
             Err(_) => Err(Fault::Row),

@@ -11,7 +11,7 @@ use std::alloc::{AllocError, Global};
 use sym_canon::Pair;
 use sym_exec::{exec, search_cases};
 use worked_rows::Fault;
-use worked_rows::parts::{first_word, text};
+use worked_rows::parts::{first_word, number_of, text};
 use worked_scopes::Scope;
 
 /// What is asked: the program of the procedure, the pair, and the table.
@@ -169,11 +169,8 @@ fn pair_told(alloc: Global, scope: &Scope, text: &str) -> Result<Pair, Fault> {
 
 /// The case that goes on at the node of the first piece.
 fn case_on(alloc: Global, scope: &Scope, text: &str) -> Result<Case, Fault> {
-    let Ok(node) = piece(text, 0).parse() else {
-        return Err(Fault::Row);
-    };
     Ok(Case::On {
-        node,
+        node: number_of(piece(text, 0))?,
         pair: pair_told(alloc, scope, text)?,
     })
 }

@@ -6,7 +6,7 @@ use c_types::{TypeFault, check, kinds_of};
 use c_types_names::kinds::{CType, Kind};
 use std::alloc::Global;
 use worked_rows::Fault;
-use worked_rows::parts::first_word;
+use worked_rows::parts::{first_word, number_of};
 
 /// The tree of a text that is a file.
 fn unit_of(alloc: Global, text: &[u8]) -> Result<Unit, Fault> {
@@ -69,10 +69,7 @@ pub fn is_refused(rt: &impl Print, alloc: Global, before: &str, row: &str) -> Re
 /// A number of a row, and the text behind it.
 fn number(row: &str) -> Result<(u32, &str), Fault> {
     let (word, behind) = first_word(row);
-    match word.parse::<u32>() {
-        Ok(number) => Ok((number, behind)),
-        Err(_) => Err(Fault::Row),
-    }
+    Ok((number_of(word)?, behind))
 }
 
 /// Whether that is the first refusal of two texts, if any.

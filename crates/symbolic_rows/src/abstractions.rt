@@ -12,7 +12,7 @@ use sym_abstract::{
 };
 use sym_canon::Pair;
 use worked_rows::Fault;
-use worked_rows::parts::{part, text};
+use worked_rows::parts::{number_of, part, text};
 use worked_scopes::Scope;
 use worked_scopes::names::name_of;
 use worked_scopes::structures::type_of;
@@ -21,8 +21,7 @@ use worked_scopes::structures::type_of;
 fn slots(alloc: Global, row: &str, word: &str) -> Result<Row<u32>, Fault> {
     let mut all = Row::new(alloc);
     for digits in part(row, word).unwrap_or("").split_whitespace() {
-        let slot = digits.parse().ok().ok_or(Fault::Row)?;
-        all.push(slot)?;
+        all.push(number_of(digits)?)?;
     }
     Ok(all)
 }

@@ -27,7 +27,7 @@
 use shape_data::symbolic::SymState;
 use std::alloc::Global;
 use worked_rows::Fault;
-use worked_rows::parts::{part, text};
+use worked_rows::parts::{number_of, part, text};
 use worked_scopes::Scope;
 
 /// How many parameters texts are over.
@@ -39,7 +39,7 @@ pub const NAMES: &[&str; PARAMS as usize] = &["a", "b", "c"];
 /// The number behind a word, or another.
 pub fn number(row: &str, word: &str, otherwise: u32) -> Result<u32, Fault> {
     match part(row, word) {
-        Some(digits) => digits.parse().ok().ok_or(Fault::Row),
+        Some(digits) => number_of(digits),
         None => Ok(otherwise),
     }
 }

@@ -1,4 +1,5 @@
-//! The parts of a row, with ` ; ` between them: a word, and the text behind it.
+//! The parts of a row, with ` ; ` between them: a word, and the text behind it; and the number that a word is.
+use crate::fault::Fault;
 
 /// The text behind a word, if the part is of it.
 fn behind<'a>(part: &'a str, word: &str) -> Option<&'a str> {
@@ -43,4 +44,9 @@ pub fn has_only(row: &str, words: &[&str]) -> bool {
         }
     }
     true
+}
+
+/// The number that a word is, in decimal digits.
+pub fn number_of(word: &str) -> Result<u32, Fault> {
+    word.parse().ok().ok_or(Fault::Row)
 }
