@@ -19,7 +19,7 @@ use c_tree::places::place_of_specifier;
 use c_tree::{Block, Head, Item, Name};
 use std::alloc::{AllocError, Global};
 
-/// A procedure whose body has few nodes.
+/// A procedure whose body has few nodes. Behind the last that is kept, it is only measured.
 fn small_definition<'a>(
     alloc: Global,
     context: &mut Context<'a>,
@@ -47,6 +47,9 @@ fn small_definition<'a>(
     };
     sizes.refuse(place_of_specifier(&head.specifier), &mut built.first);
     if !sizes.fit() {
+        return Ok(());
+    }
+    if built.most <= built.procs.len() {
         return Ok(());
     }
     let proc = proc(alloc, context.tables(), file, head, block, body)?;

@@ -1,5 +1,6 @@
 pub mod Counting
 pub mod FirstPassing
+pub mod FirstProcs
 pub mod Putting
 pub mod Readings
 pub mod Units

@@ -1,10 +1,11 @@
 //! The program that files are together: types, lowering, and how many procedures there are.
-ghost use Rattle.std.specs.Prelude.{◌≡◌, ◌<◌, ◌≤◌, length, map, slice_get, All, IfOk, IfErr, OnOk, OnErr, Ok, None};
+ghost use Rattle.std.specs.Prelude.{◌≡◌, suc, ◌<◌, ◌≤◌, length, map, slice_get, All, IfOk, IfErr, OnOk, OnErr, Ok, None};
 ghost use Rattle.std.specs.List.{AllZip};
 ghost use Rattle.std.specs.Option.{option_map};
 ghost use Rattle.c_types.specs.Typing.{files_of};
 ghost use Rattle.c_types_rules.specs.Programs.{first_refusal};
 ghost use Rattle.c_lower_rules.specs.Programs.{first_too_large, program_of as lowered_program};
+ghost use Rattle.c_lower.specs.Lowering.{with_first};
 ghost use Rattle.project_form.specs.Files.{AreFiles};
 ghost use Rattle.project_form.specs.Kept.{AreAllKept, Follows, sources_of, with_parse, without_parse};
 ghost use Rattle.project_form.specs.Parts.{AreUnits, IsFirstFault, IsLowerable, IsProgramFault, IsRefused, IsWhole, KeepsWhatIsRead};
@@ -116,18 +117,19 @@ fn typed_files<'a>(
     }
 }
 
-/// The typed files with these names in flow form.
+/// The typed files with these names in flow form, of whose procedures no more are kept than tell whether there are too many.
 fn lowered_files(alloc: Global, names: &[Name], typed: Typed<'_>) -> Result<Program, ProgramFault>
     requires one_each { length names.now ≡ length typed.units.now }
     requires few { length typed.units.now ≤ 256 }
     requires lowerable { All IsLowerable (files_of typed.units.now) }
-    ensures program { IfOk result (λ program. program ≡ lowered_program names.now (files_of typed.entry.units.now)) }
+    ensures program { IfOk result (λ program.
+        program ≡ with_first (suc most) (lowered_program names.now (files_of typed.entry.units.now))) }
     ensures small { IfOk result (λ _. first_too_large (files_of typed.entry.units.now) ≡ None) }
     ensures fault { IfErr result (λ fault.
         IsFirstFault (option_map (refused_at names.now) (first_too_large (files_of typed.entry.units.now))) fault) }
 {
     laws::first_refusal();
-    match lower(alloc, typed, names) {
+    match lower(alloc, typed, names, MOST_PROCEDURES + 1) {
         Ok(program) => Ok(program),
         Err(LowerFault::Refused(at)) => Err(refused(alloc, names, at)),
         Err(LowerFault::OutOfMemory) => Err(ProgramFault::OutOfMemory),

@@ -1,4 +1,4 @@
-use Rattle.std.proofs.Common.{◌≡◌, ◌<◌, length, ap, sym, ◌∙◌, arith}
+use Rattle.std.proofs.Common.{◌≡◌, ◌<◌, length, refl, ap, sym, ◌∙◌, arith}
 use Rattle.c_lower_rules.specs.Code.{onto}
 use Rattle.c_lower_rules.specs.Programs.{lowered_body}
 use Rattle.c_lower_sizes.specs.Sizes.{stmts_size}
@@ -25,5 +25,6 @@ returns-clause-built c =
     record {
       first = c.unless.ensures
           ∙ alone tables head block.body l many c.args.built.now.first c.place_of_specifier.result c.place_of_specifier.ensures;
-      procs = λ none. absurd (refused_for_nodes tables head block.body l many none);
+      most = refl;
+      procs = λ none met are. absurd (refused_for_nodes tables head block.body l many none);
     }

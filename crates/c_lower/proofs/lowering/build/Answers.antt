@@ -5,7 +5,7 @@ use Rattle.c_tree.specs.declared.items.Item.{Item}
 use Rattle.c_tree.specs.Syntax.{item_tree, unit_tree}
 use Rattle.c_lower.specs.Building.{items_part}
 use Rattle.c_lower.proofs.Adding.{same}
-use Rattle.c_lower.proofs.Files.{at_map, next_file, last_file}
+use Rattle.c_lower.proofs.Files.{at_map, next_file, last_file, last_kept}
 use Rattle.c_lower.proofs.lowering.build.Goals as goal
 
 pub items-requires : goal.items-requires
@@ -27,8 +27,8 @@ loop-place-preserved c =
     record {
       built =
           next_file all
-          (map unit_tree c.args.units.now) c.args.files.now c.args.units.now c.loop-place.place one within c.index-units-place.is
-          name (omega (arith, within, c.requires.names)) c.index-files-place.is c.loop-place.built c.items.new.built
+          (map unit_tree c.args.units.now) c.args.files.now c.args.most c.args.units.now c.loop-place.place one within
+          c.index-units-place.is name (omega (arith, within, c.requires.names)) c.index-files-place.is c.loop-place.built c.items.new.built
           c.loop-place.invariant.built adds;
       tables = c.in_ok-items.ensures.tables ∙ c.loop-place.invariant.tables;
     }
@@ -36,5 +36,11 @@ loop-place-preserved c =
 pub returns-clause-refusal : goal.returns-clause-refusal
 returns-clause-refusal c =
     let past : length c.args.units.now ≤ c.loop-place.place = search rules in
-    last_file c.args.context.now.env.tables (map unit_tree c.args.units.now) c.args.files.now c.args.units.now
+    last_file c.args.context.now.env.tables (map unit_tree c.args.units.now) c.args.files.now c.args.most c.args.units.now
     c.loop-place.place _ c.loop-place.built past c.loop-place.invariant.built
+
+pub returns-clause-procs : goal.returns-clause-procs
+returns-clause-procs c none =
+    let past : length c.args.units.now ≤ c.loop-place.place = search rules in
+    last_kept c.args.context.now.env.tables (map unit_tree c.args.units.now) c.args.files.now c.args.most c.args.units.now
+    c.loop-place.place c.loop-place.built past c.loop-place.invariant.built none
