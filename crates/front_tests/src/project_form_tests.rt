@@ -148,6 +148,16 @@ fn files_are_one_program_or_refused_first_by_stage(rt: HostRuntime) -> Result<()
     Ok(())
 }
 
+/// Changes of ten files, and of how many files the syntax tree is kept: when the change is made, and when the program is read.
+const KEPT: [(&str, Option<&str>, u32, u32); 6] = [
+    ("f3.c", Some("int p3(void) { return 3; }"), 10, 10),
+    ("f3.c", Some("int p3(void) { return 4; }"), 9, 10),
+    ("f3.c", Some("int p3(void) { return 4 }"), 9, 9),
+    ("f4.c", Some("int p4(void) { return y; }"), 8, 9),
+    ("f4.c", None, 8, 8),
+    ("f3.c", None, 8, 8),
+];
+
 #[test]
 fn a_parse_is_kept_until_the_bytes_change(rt: HostRuntime) -> Result<(), Fail> {
     let alloc = rt.alloc();
@@ -157,44 +167,15 @@ fn a_parse_is_kept_until_the_bytes_change(rt: HostRuntime) -> Result<(), Fail> {
         let text = format!(in alloc; "int p{number}(void) {{ return {number}; }}")?;
         change(alloc, &mut project, file.as_str(), Some(text.as_str()))?;
     }
-    let mut kept = Vec::new(alloc);
-    kept.push(project.kept())?;
+    assert_eq!(rt; project.kept(), 0);
     answer(alloc, &mut project)?;
-    kept.push(project.kept())?;
-    change(
-        alloc,
-        &mut project,
-        "f3.c",
-        Some("int p3(void) { return 3; }"),
-    )?;
-    kept.push(project.kept())?;
-    change(
-        alloc,
-        &mut project,
-        "f3.c",
-        Some("int p3(void) { return 4; }"),
-    )?;
-    kept.push(project.kept())?;
-    answer(alloc, &mut project)?;
-    kept.push(project.kept())?;
-    change(
-        alloc,
-        &mut project,
-        "f3.c",
-        Some("int p3(void) { return 4 }"),
-    )?;
-    change(
-        alloc,
-        &mut project,
-        "f4.c",
-        Some("int p4(void) { return y; }"),
-    )?;
-    answer(alloc, &mut project)?;
-    kept.push(project.kept())?;
-    change(alloc, &mut project, "f4.c", None)?;
-    change(alloc, &mut project, "f3.c", None)?;
-    kept.push(project.kept())?;
-    assert_eq!(rt; kept.as_slice(), [0, 10, 10, 9, 10, 9, 8].as_slice());
+    assert_eq!(rt; project.kept(), 10);
+    for (file, text, made, read) in KEPT {
+        assert_eq!(rt; change(alloc, &mut project, file, text)?, 0);
+        assert_eq!(rt; project.kept(), made);
+        answer(alloc, &mut project)?;
+        assert_eq!(rt; project.kept(), read);
+    }
     Ok(())
 }
 
